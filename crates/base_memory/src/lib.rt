@@ -1,9 +1,12 @@
-//! The one answer of a call for which memory ran out.
+//! Want of memory, and why a call stopped where that may be the reason.
 #![tactic(auto)]
+
+mod stopped;
 
 ghost use Rattle.std.specs.Prelude.{◌≡◌};
 
 use std::alloc::{AllocError, AllocFailed};
+pub use stopped::Stopped;
 use thiserror::Error;
 
 /// Memory ran out. Nothing else is answered by it.

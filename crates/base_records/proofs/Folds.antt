@@ -2,7 +2,8 @@
 use Rattle.std.proofs.Common.{◌≡◌, ℕ, ◌+◌, ◌<◌, Bool, List, [], ◌∷◌, length, Result, Ok, Err, refl}
 use Rattle.std.proofs.Common.{sym, ap, subst, ◌∙◌, arith}
 use Rattle.base_records.specs.RecordFile.{RecordFile, after_header, after_records}
-use Rattle.base_records.specs.{Gives.◌>>=◌, Gives.Fails, CheckLaws.fails_first}
+use Rattle.base_memory.specs.declared.stopped.Stopped.{Stopped}
+use Rattle.base_memory.specs.{Gives.◌>>=◌, Gives.Fails, CheckLaws.fails_ends}
 
 module _ {S F : Type 0} (file : RecordFile S F) where
   -- at least one record
@@ -19,14 +20,12 @@ module _ {S F : Type 0} (file : RecordFile S F) where
   module _ (s : S) (n : ℕ) (rows : List (List (List ℕ))) (fields : List (List ℕ))
       (rest : List (List (List ℕ))) (said : Result S F) where
     -- the first record, and then those behind it
-    pub record_fails : (m : F → Bool) (e : F) → rows ≡ fields ∷ rest
-        → Fails m e (file.after s n fields) → after_records file s n rows ≡ said → Fails m e said
+    pub record_fails : (why : Stopped F) → rows ≡ fields ∷ rest
+        → Fails why (file.after s n fields) → after_records file s n rows ≡ said → Fails why said
     unfolding after_records
-    record_fails m e is fails all =
-        subst (λ (r : Result S F). Fails m e r)
-        (sym (ap (λ xs. after_records file s n xs) is) ∙ all)
-        (fails_first m e (file.after s n fields)
-        (λ next. after_records file next (n + 1) rest) fails)
+    record_fails why is fails all =
+        fails_ends why (file.after s n fields) (λ next. after_records file next (n + 1) rest) said
+        fails (sym (ap (λ xs. after_records file s n xs) is) ∙ all)
 
     pub record_passes : (t : S) → rows ≡ fields ∷ rest → file.after s n fields ≡ Ok t
         → after_records file s n rows ≡ said → after_records file t (n + 1) rest ≡ said

@@ -1,8 +1,6 @@
 pub mod Records
-pub mod Gives
 pub mod RecordFile
 pub mod Left
-pub mod CheckLaws
 pub mod ListLaws
 pub mod Fields
 pub mod SoFar

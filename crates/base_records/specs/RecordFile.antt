@@ -1,6 +1,7 @@
 -- What a file of records says: a header, and then what each record makes of those before it.
 use Rattle.std.specs.Prelude.{ℕ, ◌+◌, Bool, List, [], ◌∷◌, Result, Ok, Err, if◌then◌else◌}
-use Rattle.base_records.specs.{Fields.are_fields, Gives.◌>>=◌, Records.records_of}
+use Rattle.base_memory.specs.Gives.{◌>>=◌}
+use Rattle.base_records.specs.{Fields.are_fields, Records.records_of}
 
 -- a kind of file: its header, what its records say, from the start on, and how it is refused
 pub record RecordFile (S F : Type 0) : Type 0 where

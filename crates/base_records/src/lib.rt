@@ -12,7 +12,7 @@ mod reading;
 mod rows;
 mod write;
 
-pub use base_memory::Memory;
+pub use base_memory::{Memory, Stopped};
 pub use fault::print_fault;
 pub use fields::{field, five_fields, has_five, has_three, is, is_nothing, three_fields};
 pub use read::read_file;

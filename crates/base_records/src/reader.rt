@@ -1,9 +1,11 @@
 //! What a reader of a file of records tells.
 
-ghost use Rattle.std.specs.Prelude.{◌≡◌, ℕ, Bool, IsTrue};
+ghost use Rattle.std.specs.Prelude.{◌≡◌, ℕ};
 ghost use Rattle.csv.specs.Records.{fields_of};
-ghost use Rattle.base_records.specs.{Fields.are_fields, Gives.Gives, RecordFile.RecordFile};
+ghost use Rattle.base_memory.specs.Gives.{Gives};
+ghost use Rattle.base_records.specs.{Fields.are_fields, RecordFile.RecordFile};
 
+use base_memory::Stopped;
 use csv::ByteRecord;
 use std::alloc::Global;
 
@@ -24,9 +26,6 @@ pub trait RecordReader {
     /// The file, as a definition.
     ghost file: { Self → RecordFile Said Self.Fault };
 
-    /// The fault that is want of memory.
-    ghost is_memory: { Self.Fault → Bool };
-
     /// What holds before a record of this number.
     ghost Before: { Self → ℕ → Said → Type 0 };
 
@@ -45,9 +44,9 @@ pub trait RecordReader {
         reading: Self::Reading,
         n: u32,
         row: &ByteRecord,
-    ) -> Result<Self::Reading, Self::Fault>
+    ) -> Result<Self::Reading, Stopped<Self::Fault>>
         requires { Before self.now n (said reading) }
-        ensures { Gives is_memory said result
+        ensures { Gives said result
             ((file self.now).after (said reading) n (fields_of row.now)) };
 
     /// The first record isn't the header.
@@ -57,8 +56,4 @@ pub trait RecordReader {
     /// No record follows the header.
     fn no_record(&self) -> Self::Fault
         ensures { result ≡ (file self.now).no_record };
-
-    /// Memory ran out.
-    fn no_memory(&self) -> Self::Fault
-        ensures { IsTrue (is_memory result) };
 }

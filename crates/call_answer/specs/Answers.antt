@@ -2,7 +2,9 @@
 use Rattle.std.specs.Prelude.{◌≡◌, ℕ, Bool, List, IfOk, Result, if◌then◌else◌}
 use Rattle.call_answer.specs.{Sinks.SinkView, Sinks.Writes, declared.done.Done.Done}
 use Rattle.call_answer.specs.declared.done.Done.TheVariants as done
-use Rattle.call_answer.specs.{declared.put.WriteStop.WriteStop, declared.said.Said.Said}
+use Rattle.base_text.specs.declared.store.sink.PutFailed.{PutFailed}
+use Rattle.base_memory.specs.declared.stopped.Stopped.{Stopped}
+use Rattle.call_answer.specs.{declared.said.Said.Said}
 
 abbrev pub Answers : Type 1
 Answers = Done → List ℕ → Type 0
@@ -23,8 +25,8 @@ abbrev pub Says : Answers → Said → Type 0
 Says allowed said = allowed said.status said.text.items
 
 -- an answer is written: its whole text, with its status, or a front of the text
-pub record WritesAnswer (allowed : Answers) (old new : SinkView) (result : Result Done WriteStop)
-    : Type 0 where
+pub record WritesAnswer (allowed : Answers) (old new : SinkView)
+    (result : Result Done (Stopped PutFailed)) : Type 0 where
   pub status : Done
   pub text : List ℕ
   pub is : allowed status text

@@ -2,8 +2,9 @@
 use Rattle.std.specs.Prelude.{◌≡◌, MatchResult, ℕ, List, Option, Result, Ok, Err}
 use Rattle.std.specs.Io.KnownBytes.{Appends}
 use Rattle.base_text.specs.{store.Counts.Rose, store.Sink.GrewByProper, store.Sink.GrewByPart}
-use Rattle.call_answer.specs.declared.put.WriteStop.{WriteStop}
-use Rattle.call_answer.specs.declared.put.WriteStop.TheVariants as stop
+use Rattle.base_text.specs.declared.store.sink.PutFailed.{PutFailed}
+use Rattle.base_memory.specs.declared.stopped.Stopped.{Stopped}
+use Rattle.base_memory.specs.declared.stopped.Stopped.TheVariants as stopped
 
 -- what is seen of a sink: the bytes that it took, where it tells them, and its count of faults
 pub record SinkView : Type 0 where
@@ -26,13 +27,14 @@ Puts old new text (Err e) =
     Rose old.faults new.faults × GrewByProper old.written new.written text
 
 -- a writer of a text stopped, with a front of the text written
-pub record WriteStops (old new : SinkView) (text : List ℕ) (why : WriteStop) : Type 0 where
-  pub sink : why ≡ stop.Sink
+pub record WriteStops (old new : SinkView) (text : List ℕ) (why : Stopped PutFailed) : Type 0 where
+  pub sink : (failed : PutFailed) → why ≡ stopped.Fault failed
       → Rose old.faults new.faults × GrewByProper old.written new.written text
-  pub memory : why ≡ stop.Memory
+  pub memory : why ≡ stopped.Memory
       → (new.faults ≡ old.faults) × GrewByPart old.written new.written text
 
 -- a writer of a text writes all of it, or stops with a front of it written
-abbrev pub Writes : {X : Type 0} → SinkView → SinkView → List ℕ → Result X WriteStop → Type 0
+abbrev pub Writes : {X : Type 0} → SinkView → SinkView → List ℕ → Result X (Stopped PutFailed)
+    → Type 0
 Writes old new text result =
     MatchResult result (λ _. GrewByAll old new text) (WriteStops old new text)

@@ -9,7 +9,7 @@ mod study;
 mod text;
 
 pub use done::Done;
-pub use put::{WriteStop, put_pieces, put_text};
+pub use put::{put_pieces, put_text};
 pub use said::{Said, put_said};
 pub use study::Study;
 pub use text::text_of;

@@ -4,8 +4,9 @@ ghost use Rattle.call_answer.specs.declared.done.Done.TheVariants.{Good, Rejecte
 ghost use Rattle.call_answer.specs.Sinks.{Writes, sink_view};
 
 use crate::done::Done;
-use crate::put::{WriteStop, put_text};
-use base_text::store::Sink;
+use crate::put::put_text;
+use base_memory::Stopped;
+use base_text::store::{PutFailed, Sink};
 
 /// A status and the whole text that goes with it.
 #[derive(Drop)]
@@ -37,7 +38,7 @@ impl Said {
 }
 
 /// Puts the whole text, and gives its status.
-pub fn put_said<O: Sink>(out: &mut O, said: &Said) -> Result<Done, WriteStop>
+pub fn put_said<O: Sink>(out: &mut O, said: &Said) -> Result<Done, Stopped<PutFailed>>
     ensures status { IfOk result (λ s. s ≡ said.now.status) }
     ensures text { Writes (sink_view O.written O.faults out.old)
         (sink_view O.written O.faults out.new) said.now.text.items result }

@@ -42,18 +42,17 @@ pub record Accepts (IsAccepted : Counts → Type 0) (text : List ℕ) : Type 0 w
   pub accepted : IsAccepted counts
   pub text_is : text ≡ concat (accepted_pieces counts)
 
--- it has such a first fault, which is none of memory
-pub record Rejects {Fault : Type 0} (IsFault : Fault → Type 0) (memory : Fault)
-    (pieces : Fault → List (List ℕ)) (text : List ℕ) : Type 0 where
+-- it has such a first fault
+pub record Rejects {Fault : Type 0} (IsFault : Fault → Type 0) (pieces : Fault → List (List ℕ))
+    (text : List ℕ) : Type 0 where
   pub why : Fault
   pub first : IsFault why
-  pub known : why ≢ memory
   pub text_is : text ≡ concat (pieces why)
 
 -- what status 0 and status 3 say of it
-abbrev pub IsCheckedText : {Fault : Type 0} → (Counts → Type 0) → (Fault → Type 0) → Fault
+abbrev pub IsCheckedText : {Fault : Type 0} → (Counts → Type 0) → (Fault → Type 0)
     → (Fault → List (List ℕ)) → Answers
-IsCheckedText accepted fault memory pieces done.Good text = Accepts accepted text
-IsCheckedText accepted fault memory pieces done.Rejected text =
-    Rejects fault memory pieces text
-IsCheckedText accepted fault memory pieces s text = ⊥
+IsCheckedText accepted fault pieces done.Good text = Accepts accepted text
+IsCheckedText accepted fault pieces done.Rejected text =
+    Rejects fault pieces text
+IsCheckedText accepted fault pieces s text = ⊥

@@ -6,10 +6,12 @@ ghost use Rattle.model_line.specs.Fits.{Fits};
 ghost use Rattle.model_logic.specs.Histories.{History, IsLineHistory};
 ghost use Rattle.run_changes.specs.rows.PlayRows.{run_rows};
 ghost use Rattle.model_timing.specs.{Choice.timing_choice, Inside.IsTimingInside};
-ghost use Rattle.cert_claims.specs.check.Check.{IsAccepted, IsCheckFault, IsSound};
+ghost use Rattle.base_memory.specs.Gives.{OfFault};
+ghost use Rattle.cert_claims.specs.check.Check.{IsAccepted, IsCheckFault, IsSoundText};
 ghost use Rattle.call_engine.specs.Calls.{AskedCertify, AskedCheck, AskedPlay, Calls, NoneFell};
 ghost use Rattle.call_engine.specs.ScriptVerdicts.{IsScriptVerdict};
 
+use base_memory::Stopped;
 use cert_claims::check::{CheckFault, Counts};
 use judge_verdict::verdict::ScriptVerdict;
 use model_line::{Memory, Script};
@@ -62,13 +64,13 @@ pub trait Engine {
         compiled: &Compiled<'_>,
         scripts: &[Script],
         cert: &[u8],
-    ) -> Result<Counts, CheckFault>
+    ) -> Result<Counts, Stopped<CheckFault>>
         requires fits { All (Fits compiled.now.line.now) scripts.now }
         requires few { length scripts.now ≤ 64 }
         ensures exact { MatchResult result
             (λ counts. IsAccepted compiled.now.line.now scripts.now cert.now counts)
-            (λ fault. IsCheckFault compiled.now.line.now scripts.now cert.now fault) }
-        ensures yes { IfOk result (λ _. IsSound compiled.now.line.now scripts.now cert.now) }
+            (OfFault (IsCheckFault compiled.now.line.now scripts.now cert.now)) }
+        ensures yes { IfOk result (λ _. IsSoundText compiled.now.line.now scripts.now cert.now) }
         ensures asked { AskedCheck compiled.now.line.now (calls self.old) (calls self.new) }
         ensures kept { NoneFell (calls self.old) (calls self.new) };
 }

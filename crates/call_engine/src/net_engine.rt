@@ -6,12 +6,14 @@ ghost use Rattle.model_line.specs.Fits.{Fits};
 ghost use Rattle.model_logic.specs.Histories.{History, IsLineHistory};
 ghost use Rattle.run_changes.specs.rows.PlayRows.{run_rows};
 ghost use Rattle.model_timing.specs.{Choice.timing_choice, Inside.IsTimingInside};
-ghost use Rattle.cert_claims.specs.check.Check.{IsAccepted, IsCheckFault, IsSound};
+ghost use Rattle.base_memory.specs.Gives.{OfFault};
+ghost use Rattle.cert_claims.specs.check.Check.{IsAccepted, IsCheckFault, IsSoundText};
 ghost use Rattle.call_engine.specs.Calls.{AskedCertify, AskedCheck, AskedPlay, NoneFell};
 ghost use Rattle.call_engine.specs.ScriptVerdicts.{IsScriptVerdict};
 ghost use Rattle.call_engine.specs.NetCalls.{after_certify, after_check, after_play, calls_of};
 
 use crate::engine::Engine;
+use base_memory::Stopped;
 use cert_claims::check::{CheckFault, Counts, check};
 use judge_verdict::verdict::{ScriptVerdict, certify};
 use model_line::{Memory, Script};
@@ -100,13 +102,13 @@ impl Engine for NetEngine {
         compiled: &Compiled<'_>,
         scripts: &[Script],
         cert: &[u8],
-    ) -> Result<Counts, CheckFault>
+    ) -> Result<Counts, Stopped<CheckFault>>
         requires fits { All (Fits compiled.now.line.now) scripts.now }
         requires few { length scripts.now ≤ 64 }
         ensures exact { MatchResult result
             (λ counts. IsAccepted compiled.now.line.now scripts.now cert.now counts)
-            (λ fault. IsCheckFault compiled.now.line.now scripts.now cert.now fault) }
-        ensures yes { IfOk result (λ _. IsSound compiled.now.line.now scripts.now cert.now) }
+            (OfFault (IsCheckFault compiled.now.line.now scripts.now cert.now)) }
+        ensures yes { IfOk result (λ _. IsSoundText compiled.now.line.now scripts.now cert.now) }
         ensures asked { AskedCheck compiled.now.line.now (calls_of self.old) (calls_of self.new) }
         ensures kept { NoneFell (calls_of self.old) (calls_of self.new) }
         ensures counted { self.new ≡ after_check self.old }

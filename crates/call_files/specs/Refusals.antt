@@ -41,7 +41,6 @@ line_detail (fault.Range path) = detail.Path path
 line_detail (fault.BadName path) = detail.Path path
 line_detail (fault.Twice path) = detail.Path path
 line_detail (fault.Channels from to) = detail.Channel from to
-line_detail fault.Memory = detail.Nothing
 
 -- the record of a fault of a scripts, timings or record file
 abbrev pub record_detail : Option ℕ → Detail

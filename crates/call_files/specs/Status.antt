@@ -2,8 +2,9 @@
 use Rattle.std.specs.Prelude.{Result, Ok, Err, ⊤}
 use Rattle.call_answer.specs.declared.done.Done.{Done}
 use Rattle.call_answer.specs.declared.done.Done.TheVariants as done
-use Rattle.call_answer.specs.declared.put.WriteStop.{WriteStop}
-use Rattle.call_answer.specs.declared.put.WriteStop.TheVariants as write_stop
+use Rattle.base_text.specs.declared.store.sink.PutFailed.{PutFailed}
+use Rattle.base_memory.specs.declared.stopped.Stopped.{Stopped}
+use Rattle.base_memory.specs.declared.stopped.Stopped.TheVariants as stopped
 use Rattle.call_files.specs.declared.stop.Status.{Status}
 use Rattle.call_files.specs.declared.stop.Status.TheVariants as status
 use Rattle.call_files.specs.declared.stop.Stop.{Stop}
@@ -17,12 +18,12 @@ status_of_done done.SomeUndecided = status.SomeUndecided
 status_of_done done.Rejected = status.Rejected
 
 -- the writing of a command's text stopped
-abbrev pub stop_of_write : WriteStop → Stop
-stop_of_write write_stop.Sink = stop.Sink
-stop_of_write write_stop.Memory = stop.Memory
+abbrev pub stop_of_write : Stopped PutFailed → Stop
+stop_of_write (stopped.Fault failed) = stop.Sink
+stop_of_write stopped.Memory = stop.Memory
 
 -- a command ended, with its text written or not
-abbrev pub ended : Result Done WriteStop → Result Status Stop
+abbrev pub ended : Result Done (Stopped PutFailed) → Result Status Stop
 ended (Ok d) = Ok (status_of_done d)
 ended (Err why) = Err (stop_of_write why)
 

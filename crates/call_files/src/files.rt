@@ -4,6 +4,7 @@ ghost use Rattle.call_files.specs.Files.{Fetches, limit_of as limit, named};
 
 use crate::refusal::Refusal;
 use crate::stop::{File, Stop};
+use base_memory::Stopped;
 use base_text::store::{FetchFault, Store, fetch};
 use std::alloc::Global;
 
@@ -31,8 +32,8 @@ pub fn fetch_file<S: Store>(
 {
     match fetch(alloc, store, name, limit_of(file)) {
         Ok(bytes) => Ok(bytes),
-        Err(FetchFault::Failed) => Err(Stop::Store(file)),
-        Err(FetchFault::TooLong) => Err(Stop::Refused(Refusal::TooLong(file))),
-        Err(FetchFault::Memory) => Err(Stop::Memory),
+        Err(Stopped::Fault(FetchFault::Failed)) => Err(Stop::Store(file)),
+        Err(Stopped::Fault(FetchFault::TooLong)) => Err(Stop::Refused(Refusal::TooLong(file))),
+        Err(Stopped::Memory) => Err(Stop::Memory),
     }
 }

@@ -88,7 +88,7 @@ fn detail_of_line(fault: &LineFault) -> Detail
     ensures { result ≡ line_detail fault.now }
 {
     match fault {
-        LineFault::NotToml | LineFault::Memory => Detail::Nothing,
+        LineFault::NotToml => Detail::Nothing,
         LineFault::Unknown(path)
         | LineFault::Missing(path)
         | LineFault::WrongKind(path)

@@ -1,9 +1,12 @@
 //! How a call ends: its exit status, and why it stopped.
 ghost use Rattle.std.specs.Prelude.{◌≡◌};
-ghost use Rattle.call_files.specs.{Status.ended as end_of, declared.stop.Stop.TheVariants.Memory};
+ghost use Rattle.call_files.specs.{Status.ended as end_of, Stops.stop_by, declared.stop.Stop.TheVariants.Memory};
+ghost use Rattle.call_files.specs.declared.refusal.Refusal.TheVariants as refusal;
 
 use crate::refusal::Refusal;
-use call_answer::{Done, WriteStop};
+use base_memory::{Memory, Stopped};
+use base_text::store::PutFailed;
+use call_answer::Done;
 use file_line::LineFault;
 use file_tables::script::ScriptFault;
 use file_tables::timing::TimingFault;
@@ -62,7 +65,7 @@ pub enum Stop {
 }
 
 /// What a call ends with, once its command ended.
-pub fn ended(written: Result<Done, WriteStop>) -> Result<Status, Stop>
+pub fn ended(written: Result<Done, Stopped<PutFailed>>) -> Result<Status, Stop>
     ensures { result ≡ end_of written }
 {
     match written {
@@ -70,8 +73,8 @@ pub fn ended(written: Result<Done, WriteStop>) -> Result<Status, Stop>
         Ok(Done::SomeNo) => Ok(Status::SomeNo),
         Ok(Done::SomeUndecided) => Ok(Status::SomeUndecided),
         Ok(Done::Rejected) => Ok(Status::Rejected),
-        Err(WriteStop::Sink) => Err(Stop::Sink),
-        Err(WriteStop::Memory) => Err(Stop::Memory),
+        Err(Stopped::Fault(_)) => Err(Stop::Sink),
+        Err(Stopped::Memory) => Err(Stop::Memory),
     }
 }
 
@@ -92,62 +95,54 @@ impl Stop {
     }
 }
 
-impl From<model_line::Memory> for Stop {
+impl From<Memory> for Stop {
     ghost from_gives = { λ _ stop. stop ≡ Memory };
 
-    fn from(_: model_line::Memory) -> Self {
+    fn from(_: Memory) -> Self {
         Stop::Memory
     }
 }
 
-impl From<LineFault> for Stop {
-    ghost use Rattle.call_files.specs.Stops.{line_stop};
+impl From<Stopped<LineFault>> for Stop {
+    ghost from_gives = { λ why stop. stop ≡ stop_by refusal.Line why };
 
-    ghost from_gives = { λ fault stop. stop ≡ line_stop fault };
-
-    fn from(fault: LineFault) -> Self {
-        match fault {
-            LineFault::Memory => Stop::Memory,
-            fault => Stop::Refused(Refusal::Line(fault)),
+    fn from(why: Stopped<LineFault>) -> Self {
+        match why {
+            Stopped::Fault(fault) => Stop::Refused(Refusal::Line(fault)),
+            Stopped::Memory => Stop::Memory,
         }
     }
 }
 
-impl From<ScriptFault> for Stop {
-    ghost use Rattle.call_files.specs.Stops.{script_stop};
+impl From<Stopped<ScriptFault>> for Stop {
+    ghost from_gives = { λ why stop. stop ≡ stop_by refusal.Scripts why };
 
-    ghost from_gives = { λ fault stop. stop ≡ script_stop fault };
-
-    fn from(fault: ScriptFault) -> Self {
-        match fault {
-            ScriptFault::Memory => Stop::Memory,
-            fault => Stop::Refused(Refusal::Scripts(fault)),
+    fn from(why: Stopped<ScriptFault>) -> Self {
+        match why {
+            Stopped::Fault(fault) => Stop::Refused(Refusal::Scripts(fault)),
+            Stopped::Memory => Stop::Memory,
         }
     }
 }
 
-impl From<TimingFault> for Stop {
-    ghost use Rattle.call_files.specs.Stops.{timing_stop};
+impl From<Stopped<TimingFault>> for Stop {
+    ghost from_gives = { λ why stop. stop ≡ stop_by refusal.Timings why };
 
-    ghost from_gives = { λ fault stop. stop ≡ timing_stop fault };
-
-    fn from(fault: TimingFault) -> Self {
-        match fault {
-            TimingFault::Memory => Stop::Memory,
-            fault => Stop::Refused(Refusal::Timings(fault)),
+    fn from(why: Stopped<TimingFault>) -> Self {
+        match why {
+            Stopped::Fault(fault) => Stop::Refused(Refusal::Timings(fault)),
+            Stopped::Memory => Stop::Memory,
         }
     }
 }
 
-impl From<SeenFault> for Stop {
-    ghost use Rattle.call_files.specs.Stops.{record_stop};
+impl From<Stopped<SeenFault>> for Stop {
+    ghost from_gives = { λ why stop. stop ≡ stop_by refusal.Record why };
 
-    ghost from_gives = { λ fault stop. stop ≡ record_stop fault };
-
-    fn from(fault: SeenFault) -> Self {
-        match fault {
-            SeenFault::Memory => Stop::Memory,
-            fault => Stop::Refused(Refusal::Record(fault)),
+    fn from(why: Stopped<SeenFault>) -> Self {
+        match why {
+            Stopped::Fault(fault) => Stop::Refused(Refusal::Record(fault)),
+            Stopped::Memory => Stop::Memory,
         }
     }
 }

@@ -16,7 +16,7 @@ pub record IsRowOf (line : Line) (scripts : List Script) (row : Row) : Type 0 wh
   pub answer : IsAnswer line script row.terminal row.settled.answer
 
 -- the answers and first ticks of all obligations
-pub record IsKnown (known : Known) : Type 0 where
+pub record AreKnown (known : Known) : Type 0 where
   pub study : IsAnyStudy known.study.now
   pub rows : AreRows known.study.now.line known.study.now.scripts.items known.rows.now
   pub firsts : AreFirsts known.study.now.line known.study.now.scripts.items known.firsts.now

@@ -2,7 +2,7 @@
 
 ghost use Rattle.std.specs.Prelude.{◌≤◌, ◌<◌, ◌+◌, IfOk, length};
 ghost use Rattle.judge_verdict.specs.verdict.OneEach.{OneEach};
-ghost use Rattle.call_page.specs.{Facts.IsKnown, Faults.IsCaseOf};
+ghost use Rattle.call_page.specs.{Facts.AreKnown, Faults.IsCaseOf};
 ghost use Rattle.call_facts.specs.Lists.{At};
 
 use crate::known::Known;
@@ -15,7 +15,7 @@ use std::alloc::Global;
 
 /// The scripts of a part, in order.
 pub fn cases(alloc: Global, known: &Known<'_>, part: Part) -> Result<Vec<Case>, Memory>
-    requires known { IsKnown known.now }
+    requires known { AreKnown known.now }
     requires within { part.start + part.count ≤ length known.now.study.now.scripts.items }
     ensures { IfOk result (λ cases. OneEach
         (λ j c. At known.now.study.now.scripts.items (part.start + j)
@@ -31,7 +31,7 @@ pub fn cases(alloc: Global, known: &Known<'_>, part: Part) -> Result<Vec<Case>, 
 }
 
 fn case(alloc: Global, known: &Known<'_>, script: usize) -> Result<Case, Memory>
-    requires known { IsKnown known.now }
+    requires known { AreKnown known.now }
     requires exists { script < length known.now.study.now.scripts.items }
     ensures { IfOk result (λ c. At known.now.study.now.scripts.items script
         (λ s. IsCaseOf known.now.study.now.line known.now.groups.now script s c)) }

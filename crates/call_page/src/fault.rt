@@ -1,7 +1,7 @@
 //! Faults.
 
 ghost use Rattle.std.specs.Prelude.{◌≡◌, ◌≤◌, ◌<◌, ◌+◌, IfOk, length};
-ghost use Rattle.call_page.specs.{Facts.IsKnown, Faults.IsFaultOf};
+ghost use Rattle.call_page.specs.{Facts.AreKnown, Faults.IsFaultOf};
 ghost use Rattle.call_facts.specs.Lists.{EachOf};
 ghost use Rattle.call_page.specs.Parts.{AreParts};
 
@@ -19,7 +19,7 @@ use std::alloc::Global;
 
 /// The faults of these parts, in order.
 pub fn faults(alloc: Global, known: &Known<'_>, parts: &[Part]) -> Result<Vec<Fault>, Memory>
-    requires known { IsKnown known.now }
+    requires known { AreKnown known.now }
     requires parts { AreParts known.now.groups.now
         (length known.now.study.now.scripts.items) parts.now }
     ensures { IfOk result (λ faults. EachOf
@@ -35,7 +35,7 @@ pub fn faults(alloc: Global, known: &Known<'_>, parts: &[Part]) -> Result<Vec<Fa
 }
 
 fn fault(alloc: Global, known: &Known<'_>, part: Part) -> Result<Fault, Memory>
-    requires known { IsKnown known.now }
+    requires known { AreKnown known.now }
     requires some { 1 ≤ part.count }
     requires within { part.start + part.count ≤ length known.now.study.now.scripts.items }
     ensures { IfOk result (IsFaultOf known.now.study.now.line

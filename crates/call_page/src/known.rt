@@ -3,7 +3,7 @@
 ghost use Rattle.std.specs.Prelude.{◌≡◌, ◌<◌, ◌*◌, Some, length, slice_get};
 ghost use Rattle.model_line.specs.Parameters.{terminal_count};
 ghost use Rattle.model_line.specs.NamesByNumber.{terminal_name};
-ghost use Rattle.call_page.specs.Facts.{IsKnown};
+ghost use Rattle.call_page.specs.Facts.{AreKnown};
 ghost use Rattle.call_facts.specs.FirstTicks.{place as place_in_order};
 
 use call_answer::Study;
@@ -40,7 +40,7 @@ pub fn name_of(line: &Line, terminal: u32) -> Name
 
 /// The answer to the obligation of a script at a terminal.
 pub fn row_at<'a>(known: &Known<'a>, script: usize, terminal: u32) -> &'a Row
-    requires known { IsKnown known.now }
+    requires known { AreKnown known.now }
     requires script { script < length known.now.study.now.scripts.items }
     requires terminal { terminal < terminal_count known.now.study.now.line }
     ensures { slice_get known.now.rows.now
@@ -51,7 +51,7 @@ pub fn row_at<'a>(known: &Known<'a>, script: usize, terminal: u32) -> &'a Row
 
 /// The first ticks of its trip.
 pub fn firsts_at(known: &Known<'_>, script: usize, terminal: u32) -> Firsts
-    requires known { IsKnown known.now }
+    requires known { AreKnown known.now }
     requires script { script < length known.now.study.now.scripts.items }
     requires terminal { terminal < terminal_count known.now.study.now.line }
     ensures { slice_get known.now.firsts.now
@@ -62,7 +62,7 @@ pub fn firsts_at(known: &Known<'_>, script: usize, terminal: u32) -> Firsts
 
 // Where an obligation stands.
 fn place(known: &Known<'_>, script: usize, terminal: u32) -> usize
-    requires known { IsKnown known.now }
+    requires known { AreKnown known.now }
     requires script { script < length known.now.study.now.scripts.items }
     requires terminal { terminal < terminal_count known.now.study.now.line }
     ensures is { result ≡ place_in_order known.now.study.now.line script terminal }

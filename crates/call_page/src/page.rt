@@ -8,7 +8,7 @@ ghost use Rattle.draw_run.specs.layout.Drawings.{scheme_said};
 ghost use Rattle.call_tables.specs.Rows.{AreRows};
 ghost use Rattle.call_answer.specs.Study.{IsAnyStudy};
 ghost use Rattle.call_page.specs.Choices.{IsChoiceOf, IsUndecidedOf, failing_row, open_row};
-ghost use Rattle.call_page.specs.{Facts.IsKnown, Faults.IsFaultOf, Files.AreFiles};
+ghost use Rattle.call_page.specs.{Facts.AreKnown, Faults.IsFaultOf, Files.AreFiles};
 ghost use Rattle.call_page.specs.Parts.{AreParts};
 ghost use Rattle.call_facts.specs.{Least.IsLeastOf, Lists.EachOf};
 ghost use Rattle.call_page.specs.Pages.{AreCounts, AreOfFew, IsPageOf};
@@ -32,7 +32,7 @@ use std::alloc::Global;
 
 /// The page of what is known.
 pub fn page(alloc: Global, known: &Known<'_>, asked: &Asked<'_>) -> Result<Page, Memory>
-    requires known { IsKnown known.now }
+    requires known { AreKnown known.now }
     requires once { AreOnce (script_names known.now.study.now.scripts.items) }
     ensures { IfOk result (IsPageOf known.now.study.now.line known.now.study.now.scripts.items
         known.now.groups.now asked.now.title.now known.now.rows.now known.now.firsts.now) }
@@ -75,7 +75,7 @@ struct Findings {
 }
 
 fn found(alloc: Global, known: &Known<'_>, parts: &[Part]) -> Result<Findings, Memory>
-    requires known { IsKnown known.now }
+    requires known { AreKnown known.now }
     requires parts { AreParts known.now.groups.now
         (length known.now.study.now.scripts.items) parts.now }
     requires few { length parts.now < 2 ^ 32 }

@@ -3,7 +3,7 @@
 ghost use Rattle.std.specs.Prelude.{◌≡◌, ◌≤◌, ◌<◌, ◌+◌, IfOk, length};
 ghost use Rattle.model_line.specs.Parameters.{terminal_count};
 ghost use Rattle.judge_verdict.specs.verdict.OneEach.{OneEach};
-ghost use Rattle.call_page.specs.Facts.{IsKnown};
+ghost use Rattle.call_page.specs.Facts.{AreKnown};
 ghost use Rattle.call_facts.specs.{FirstTicks.place, Lists.At};
 ghost use Rattle.call_page.specs.Verdicts.{IsVerdictOf, standing_of as standing_of_answer};
 
@@ -18,7 +18,7 @@ use std::alloc::Global;
 
 /// The verdicts of a part, one for each terminal in line order.
 pub fn verdicts(alloc: Global, known: &Known<'_>, part: Part) -> Result<Vec<Verdict>, Memory>
-    requires known { IsKnown known.now }
+    requires known { AreKnown known.now }
     requires some { 1 ≤ part.count }
     requires within { part.start + part.count ≤ length known.now.study.now.scripts.items }
     ensures { IfOk result (λ verdicts. OneEach
@@ -35,7 +35,7 @@ pub fn verdicts(alloc: Global, known: &Known<'_>, part: Part) -> Result<Vec<Verd
 }
 
 fn verdict(alloc: Global, known: &Known<'_>, part: Part, terminal: u32) -> Result<Verdict, Memory>
-    requires known { IsKnown known.now }
+    requires known { AreKnown known.now }
     requires some { 1 ≤ part.count }
     requires within { part.start + part.count ≤ length known.now.study.now.scripts.items }
     requires terminal { terminal < terminal_count known.now.study.now.line }
@@ -66,7 +66,7 @@ fn standings(
     part: Part,
     terminal: u32,
 ) -> Result<Vec<Standing>, Memory>
-    requires known { IsKnown known.now }
+    requires known { AreKnown known.now }
     requires within { part.start + part.count ≤ length known.now.study.now.scripts.items }
     requires terminal { terminal < terminal_count known.now.study.now.line }
     ensures { IfOk result (λ standings. OneEach

@@ -2,7 +2,7 @@
 
 ghost use Rattle.std.specs.Prelude.{◌≡◌, ◌≤◌, ◌<◌, ◌+◌, length};
 ghost use Rattle.model_line.specs.Parameters.{terminal_count};
-ghost use Rattle.call_page.specs.{Facts.IsKnown, Faults.IsShown, Verdicts.IsWorst};
+ghost use Rattle.call_page.specs.{Facts.AreKnown, Faults.IsShown, Verdicts.IsWorst};
 ghost use Rattle.call_page.specs.Verdicts.{distance as distance_of, distance_at as distance_there};
 ghost use Rattle.call_page.specs.Verdicts.{distance_held as distance_of_held};
 
@@ -13,7 +13,7 @@ use model_line::Kind;
 
 /// The place in a part of the script that does worst at a terminal.
 pub fn worst(known: &Known<'_>, part: Part, terminal: u32) -> usize
-    requires known { IsKnown known.now }
+    requires known { AreKnown known.now }
     requires some { 1 ≤ part.count }
     requires within { part.start + part.count ≤ length known.now.study.now.scripts.items }
     requires terminal { terminal < terminal_count known.now.study.now.line }
@@ -34,7 +34,7 @@ pub fn worst(known: &Known<'_>, part: Part, terminal: u32) -> usize
 
 /// The place in a part of the script that does worst at any terminal.
 pub fn shown(known: &Known<'_>, part: Part) -> usize
-    requires known { IsKnown known.now }
+    requires known { AreKnown known.now }
     requires some { 1 ≤ part.count }
     requires within { part.start + part.count ≤ length known.now.study.now.scripts.items }
     ensures { IsShown known.now.study.now.line known.now.study.now.scripts.items
@@ -55,7 +55,7 @@ pub fn shown(known: &Known<'_>, part: Part) -> usize
 
 // How far the obligation of a script at a terminal is from failing.
 fn distance_at(known: &Known<'_>, script: usize, terminal: u32) -> u32
-    requires known { IsKnown known.now }
+    requires known { AreKnown known.now }
     requires script { script < length known.now.study.now.scripts.items }
     requires terminal { terminal < terminal_count known.now.study.now.line }
     ensures { result ≡ distance_there known.now.study.now.line

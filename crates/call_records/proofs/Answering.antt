@@ -1,5 +1,5 @@
 -- What may be answered over all that was read.
-use Rattle.std.proofs.Common.{◌≡◌, ◌∷◌, ◌∙◌, ℕ, Bool, true, false, List, [], Option, None, Some, Result, Ok, Err, map, refl, ap, sym, subst, inl, inr}
+use Rattle.std.proofs.Common.{◌≡◌, ◌∷◌, ◌∙◌, ℕ, List, [], Option, None, Some, Result, Ok, Err, map, refl, ap, sym, subst, inl, inr}
 use Rattle.std.specs.Prelude.{Vec, slice_get}
 use Rattle.std.specs.declared.alloc.Global.{Global}
 use Rattle.model_line.specs.declared.line.Line.{Line}
@@ -8,7 +8,7 @@ use Rattle.file_records.specs.map.Maps.{MapValues}
 use Rattle.file_records.specs.tracks.Tracks.{AreTracks, BytesValues, FailsAt, PlacedValues, TrackValues, placed_from}
 use Rattle.call_records.specs.Answers.{Answers, IsSourceRefusal, answer_of, over_work, placed_of}
 use Rattle.call_records.specs.Course.{RecorderFiles, bytes_in}
-use Rattle.call_records.specs.Faults.{is_record_memory, record_refusal}
+use Rattle.call_records.specs.Faults.{record_refusal}
 use Rattle.call_records.specs.Halts.{End, Tells}
 use Rattle.call_records.specs.Read.{Gives, IsMemory, TellsAt, TellsOf, files_values}
 use Rattle.call_ask.specs.declared.records.RecordsWork.{RecordsWork as Work}
@@ -69,30 +69,25 @@ module _ (asked : Work) (line : Line) (m : MapValues) (files : List RecorderFile
       abbrev line_of_it : List ℕ
       line_of_it = record_refusal own.config_name own.data_name source.source.channel why
 
-      by_line : (b : Bool) → is_record_memory why ≡ b → (stop : Halt) → Tells b line_of_it stop
-          → Refused stop
-      by_line true is (halt.Refused told) tells = absurd tells
-      by_line false is (halt.Refused told) tells = inr (
+      by_line : (stop : Halt) → Tells line_of_it stop → Refused stop
+      by_line (halt.Refused told) tells = inr (
         place,
         why,
         told.items,
         fails,
-        record { source = source; there = there; own = own; its = its; no_memory = is; is = tells },
+        record { source = source; there = there; own = own; its = its; is = tells },
         (refl, refl),
       )
-      by_line true is (halt.Store file) tells = absurd tells
-      by_line false is (halt.Store file) tells = absurd tells
-      by_line true is halt.Sink tells = absurd tells
-      by_line false is halt.Sink tells = absurd tells
-      by_line true is halt.Memory tells = tt
-      by_line false is halt.Memory tells = tt
+      by_line (halt.Store file) tells = absurd tells
+      by_line halt.Sink tells = absurd tells
+      by_line halt.Memory tells = tt
 
     by_own : (source : PlacedValues) → slice_get (placed_of line m files) place ≡ Some source
         → (o : Option RecorderFiles) → slice_get files source.recorder ≡ o → (stop : Halt)
         → TellsOf o source why stop → Refused stop
     by_own source there None its stop tells = by_memory stop tells
     by_own source there (Some own) its stop tells =
-        by_line source there own its (is_record_memory why) refl stop tells
+        by_line source there own its stop tells
 
     by_source : (o : Option PlacedValues) → slice_get (placed_of line m files) place ≡ o
         → (stop : Halt) → TellsAt o files why stop → Refused stop

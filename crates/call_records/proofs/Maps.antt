@@ -5,8 +5,8 @@ use Rattle.std.specs.Prelude.{codes, nat_le, nat_lt}
 use Rattle.std.proofs.lemmas.Bool.{leb-true}
 use Rattle.toml.specs.Data.{Data, string, integer, float, boolean, datetime, array, table, Members, Items}
 use Rattle.toml.specs.Data.{no_items, item}
-use Rattle.base_records.specs.Gives.{◌>>=◌}
-use Rattle.base_records.specs.CheckLaws.{passed, same_ok, test_passed}
+use Rattle.base_memory.specs.Gives.{◌>>=◌}
+use Rattle.base_memory.specs.CheckLaws.{passed, same_ok, test_passed}
 use Rattle.model_line.specs.declared.line.Line.{Line}
 use Rattle.model_line.specs.declared.script.Kind.{Kind}
 use Rattle.model_line.specs.declared.script.Kind.TheVariants.{Internal, External}

@@ -1,7 +1,6 @@
 -- Courses, one file on.
-use Rattle.std.proofs.Common.{◌≡◌, ◌∷◌, ◌<◌, ◌≤◌, ◌∙◌, ℕ, Bool, true, false, List, [], Option, None, Some}
+use Rattle.std.proofs.Common.{◌≡◌, ◌⊎◌, ◌∷◌, ◌<◌, ◌≤◌, ◌∙◌, ℕ, true, false, List, [], Option, None, Some}
 use Rattle.std.proofs.Common.{IfSome, Result, Ok, Err, length, nat_lt, refl, sym, ap, subst, arith, inl, inr}
-use Rattle.base_records.specs.Gives.{Unless}
 use Rattle.base_text.specs.{store.Counts.Rose, store.Store.SameCounts}
 use Rattle.model_line.specs.declared.line.Line.{Line}
 use Rattle.file_line.specs.Lines.{LineValues, line_values}
@@ -9,7 +8,7 @@ use Rattle.call_records.specs.{Answers.answer_of, Answers.refuses, Halts.End, Ha
 use Rattle.call_records.specs.Course.{Course, NamedFile, makes, over, reads, refused, RecorderFiles}
 use Rattle.call_records.specs.Faults.{too_long_line}
 use Rattle.call_records.specs.Files.{AllTold, Cause, Fetches, Held, NoneRose, Runs, answers}
-use Rattle.call_records.specs.Read.{Gives, Stops, text_seen}
+use Rattle.call_records.specs.Read.{Gives, IsMemory, Stops, text_seen}
 use Rattle.call_ask.specs.declared.records.RecordsWork.{RecordsWork as Work}
 use Rattle.call_records.specs.declared.halt.Halt.{Halt}
 use Rattle.call_records.specs.declared.halt.Halt.TheVariants as halt
@@ -66,7 +65,7 @@ module _ (files : Held) where
   -- ---- ends
 
   -- a file is refused
-  pub runs_refused : (line : List ℕ) (why : Halt) (c : List ℕ → ℕ) → Tells false line why
+  pub runs_refused : (line : List ℕ) (why : Halt) (c : List ℕ → ℕ) → Tells line why
       → Runs files c c (refused line) (Err why)
   runs_refused line (halt.Refused v) c tells = ((λ name. refl), (λ told. (tells, refl)))
   runs_refused line (halt.Store file) c tells = absurd tells
@@ -83,31 +82,25 @@ module _ (files : Held) where
   runs_over asked line m all (Err halt.Sink) c given = absurd given
   runs_over asked line m all (Err halt.Memory) c given = (λ name. refl)
 
-  -- a reader's fault
-  stops_by : {Y F : Type 0} (told : F → List ℕ) (said : Result Y F) (course : Result Y F → Course)
-      → ((e : F) → course (Err e) ≡ refused (told e))
-      → (fault : F) (b : Bool) (why : Halt) (c : List ℕ → ℕ)
-      → Unless b (said ≡ Err fault) → Tells b (told fault) why
-      → Runs files c c (course said) (Err why)
-  stops_by told said course refusing fault true (halt.Refused v) c fails tells = absurd tells
-  stops_by told said course refusing fault false (halt.Refused v) c fails tells =
-      subst (λ k. Runs files c c k (Err (halt.Refused v)))
-      (sym (ap course fails ∙ refusing fault))
-      (runs_refused (told fault) (halt.Refused v) c tells)
-  stops_by told said course refusing fault true (halt.Store file) c fails tells = absurd tells
-  stops_by told said course refusing fault false (halt.Store file) c fails tells = absurd tells
-  stops_by told said course refusing fault true halt.Sink c fails tells = absurd tells
-  stops_by told said course refusing fault false halt.Sink c fails tells = absurd tells
-  stops_by told said course refusing fault true halt.Memory c fails tells = (λ name. refl)
-  stops_by told said course refusing fault false halt.Memory c fails tells = (λ name. refl)
+  -- want of memory
+  pub runs_out : (course : Course) (why : Halt) (c : List ℕ → ℕ) → IsMemory why
+      → Runs files c c course (Err why)
+  runs_out course (halt.Refused v) c is = absurd is
+  runs_out course (halt.Store file) c is = absurd is
+  runs_out course halt.Sink c is = absurd is
+  runs_out course halt.Memory c is = (λ name. refl)
 
-  pub reader_stops : {Y F : Type 0} (is_memory : F → Bool) (told : F → List ℕ) (said : Result Y F)
+  -- a reader's fault
+  pub reader_stops : {Y F : Type 0} (told : F → List ℕ) (said : Result Y F)
       (course : Result Y F → Course) → ((e : F) → course (Err e) ≡ refused (told e))
-      → (why : Halt) (c : List ℕ → ℕ) → Stops is_memory told said why
+      → (why : Halt) (c : List ℕ → ℕ) → Stops told said why ⊎ IsMemory why
       → Runs files c c (course said) (Err why)
-  reader_stops is_memory told said course refusing why c stops =
-      stops_by told said course refusing stops.fault (is_memory stops.fault) why c stops.fails
-      stops.tells
+  reader_stops told said course refusing why c stops = elim stops [
+    | inl by ↦ subst (λ k. Runs files c c k (Err why))
+        (sym (ap course by.fails ∙ refusing by.fault))
+        (runs_refused (told by.fault) why c by.tells)
+    | inr is ↦ runs_out (course said) why c is
+  ]
 
   -- ---- one on
 

@@ -8,7 +8,7 @@ use Rattle.file_study.specs.sweeps.Parts.{SaysScripts}
 use Rattle.file_records.specs.tracks.Rows.{sources_text}
 use Rattle.file_records.specs.{recorded.Changes.record_text, recorded.Spans.script_told, recorded.Spans.spans_told}
 use Rattle.call_records.specs.{Course.RecorderFiles, Course.bytes_in, Halts.End}
-use Rattle.call_records.specs.Faults.{is_record_memory, record_refusal, too_many_spans}
+use Rattle.call_records.specs.Faults.{record_refusal, too_many_spans}
 use Rattle.call_ask.specs.declared.records.RecordsWork.{RecordsWork as Work}
 use Rattle.call_ask.specs.declared.records.RecordsWork.TheVariants as work
 use Rattle.call_records.specs.declared.halt.Halt.TheVariants as halt
@@ -42,7 +42,6 @@ pub record IsSourceRefusal (placed : List PlacedValues) (files : List RecorderFi
   pub there : slice_get placed place ≡ Some source
   pub own : RecorderFiles
   pub its : slice_get files source.recorder ≡ Some own
-  pub no_memory : is_record_memory why ≡ false
   pub is : told ≡ record_refusal own.config_name own.data_name source.source.channel why
 
 -- what holds of what the sources tell, or of the refusal of the first that tells nothing

@@ -1,5 +1,5 @@
 -- Why a file is refused, as the line on standard error says it.
-use Rattle.std.specs.Prelude.{◌∷◌, ◌++◌, ℕ, Bool, true, false, List, [], Option, None, Some, codes}
+use Rattle.std.specs.Prelude.{◌∷◌, ◌++◌, ℕ, List, [], Option, None, Some, codes}
 use Rattle.std.specs.Prelude.{decimal}
 use Rattle.std.specs.List.{concat}
 use Rattle.model_line.specs.declared.line.Line.{Line}
@@ -12,7 +12,6 @@ use Rattle.file_comtrade.specs.declared.fault.DataFault.TheVariants as data_faul
 use Rattle.file_comtrade.specs.declared.record.RecordFault.{RecordFault}
 use Rattle.file_comtrade.specs.declared.record.RecordFault.TheVariants as record_fault
 use Rattle.file_comtrade.specs.declared.ticks.TickFault.{TickFault}
-use Rattle.file_comtrade.specs.declared.ticks.TickFault.TheVariants as tick_fault
 use Rattle.file_records.specs.declared.map.fault.MapFault.{MapFault}
 use Rattle.file_records.specs.declared.map.fault.MapFault.TheVariants as map_fault
 use Rattle.file_records.specs.declared.map.source.Signal.{Signal}
@@ -36,10 +35,6 @@ too_long_line file limit =
 
 -- ---- the line
 
-abbrev pub is_line_memory : LineFault → Bool
-is_line_memory line_fault.Memory = true
-is_line_memory _ = false
-
 -- the fault's name and its place, as `pilot` tells them
 abbrev pub line_words : LineFault → List (List ℕ)
 line_words line_fault.NotToml = codes "NotToml" ∷ []
@@ -51,16 +46,11 @@ line_words (line_fault.BadName path) = codes "BadName" ∷ codes " " ∷ path �
 line_words (line_fault.Twice path) = codes "Twice" ∷ codes " " ∷ path ∷ []
 line_words (line_fault.Channels from to) =
     codes "Channels" ∷ codes " " ∷ from ∷ codes ">" ∷ to ∷ []
-line_words line_fault.Memory = []
 
 abbrev pub line_refusal : LineFault → List ℕ
 line_refusal why = refusal_line (codes "line") (line_words why)
 
 -- ---- the map
-
-abbrev pub is_map_memory : MapFault → Bool
-is_map_memory map_fault.Memory = true
-is_map_memory _ = false
 
 abbrev pub map_words : MapFault → List (List ℕ)
 map_words map_fault.NotToml = codes "no TOML document" ∷ []
@@ -71,7 +61,6 @@ map_words (map_fault.Range path) = path ∷ codes ": outside the limits" ∷ []
 map_words (map_fault.BadName path) = path ∷ codes ": no such name" ∷ []
 map_words (map_fault.BadInstant path) = path ∷ codes ": no instant, as 2026-03-05T12:00:00.1" ∷ []
 map_words (map_fault.OneFile path) = path ∷ codes ": a record in one file (.cff) is not read" ∷ []
-map_words map_fault.Memory = []
 
 abbrev pub map_refusal : MapFault → List ℕ
 map_refusal why = refusal_line (codes "map") (map_words why)
@@ -91,10 +80,6 @@ abbrev pub too_many_spans : List ℕ
 too_many_spans = refusal_line (codes "map") (codes "the script has more than 200 rows" ∷ [])
 
 -- ---- the records
-
-abbrev pub is_config_memory : ConfigFault → Bool
-is_config_memory config_fault.Memory = true
-is_config_memory _ = false
 
 abbrev pub line_words_at : ℕ → List ℕ → List (List ℕ)
 line_words_at n words = codes "line " ∷ decimal n ∷ codes ": " ∷ words ∷ []
@@ -118,11 +103,6 @@ config_words (config_fault.Moment n) = line_words_at n (codes "not a date and a 
 config_words (config_fault.BadForm n) =
     line_words_at n (codes "none of ASCII, BINARY, BINARY32 and FLOAT32")
 config_words (config_fault.Factor n) = line_words_at n (codes "not a factor of the stamps")
-config_words config_fault.Memory = []
-
-abbrev pub is_data_memory : DataFault → Bool
-is_data_memory data_fault.Memory = true
-is_data_memory _ = false
 
 abbrev pub sample_words : ℕ → List ℕ → List (List ℕ)
 sample_words n words = codes "sample " ∷ decimal n ∷ codes ": " ∷ words ∷ []
@@ -142,29 +122,19 @@ data_words (data_fault.TooLate n) =
     sample_words n (codes "its time is 2^64 nanoseconds or more")
 data_words (data_fault.Earlier n) =
     sample_words n (codes "its time is before that of the sample before")
-data_words data_fault.Memory = []
 
-abbrev pub is_tick_memory : TickFault → Bool
-is_tick_memory tick_fault.Memory = true
-is_tick_memory _ = false
+-- the first tick with a sample, and the last, where there is one
+abbrev pub gap_words : ℕ → Option ℕ → List (List ℕ)
+gap_words from None = codes "all samples are before tick 0" ∷ []
+gap_words from (Some to) =
+    codes "samples from tick " ∷ decimal from ∷ codes " to tick " ∷ decimal to ∷ codes " alone" ∷ []
 
 abbrev pub tick_words : TickFault → List (List ℕ)
-tick_words (tick_fault.Gap from None) = codes "all samples are before tick 0" ∷ []
-tick_words (tick_fault.Gap from (Some to)) =
-    codes "samples from tick " ∷ decimal from ∷ codes " to tick " ∷ decimal to ∷ codes " alone" ∷ []
-tick_words tick_fault.Memory = []
+tick_words why = gap_words why.from why.to
 
 abbrev pub channel_words : ChannelSaid → List (List ℕ)
 channel_words (id bytes) = codes "with the id " ∷ bytes ∷ []
 channel_words (number n) = codes "of number " ∷ decimal n ∷ []
-
-abbrev pub is_record_memory : RecordFault → Bool
-is_record_memory (record_fault.Config why) = is_config_memory why
-is_record_memory record_fault.NoChannel = false
-is_record_memory record_fault.ManyChannels = false
-is_record_memory (record_fault.Data why) = is_data_memory why
-is_record_memory (record_fault.Ticks why) = is_tick_memory why
-is_record_memory record_fault.Memory = true
 
 -- why a channel has no levels, by the names of the recorder's two files
 abbrev pub record_refusal : List ℕ → List ℕ → ChannelSaid → RecordFault → List ℕ
@@ -176,4 +146,3 @@ record_refusal config own channel record_fault.ManyChannels =
     refusal_line config (codes "there is more than one digital channel " ∷ channel_words channel)
 record_refusal config own channel (record_fault.Data why) = refusal_line own (data_words why)
 record_refusal config own channel (record_fault.Ticks why) = refusal_line own (tick_words why)
-record_refusal config own channel record_fault.Memory = []

@@ -1,5 +1,5 @@
 -- How a call ends: the exit status, and the line that says it.
-use Rattle.std.specs.Prelude.{◌≡◌, ◌∷◌, ℕ, Bool, true, false, List, [], Result, Ok, Err, codes, ⊤}
+use Rattle.std.specs.Prelude.{◌≡◌, ◌∷◌, ℕ, List, [], Result, Ok, Err, codes, ⊤}
 use Rattle.std.specs.List.{concat}
 use Rattle.call_records.specs.declared.halt.{File.File, Halt.Halt}
 use Rattle.call_records.specs.declared.halt.File.TheVariants as file
@@ -58,10 +58,9 @@ abbrev pub IsDone : End → Type 0
 IsDone (Ok _) = ⊤
 IsDone (Err why) = ⊥
 
--- a file is refused with this line, or memory ran out; a fault that is want of memory refuses nothing
-abbrev pub Tells : Bool → List ℕ → Halt → Type 0
-Tells true line (halt.Refused told) = ⊥
-Tells false line (halt.Refused told) = told.items ≡ line
-Tells is_memory line (halt.Store file) = ⊥
-Tells is_memory line halt.Sink = ⊥
-Tells is_memory line halt.Memory = ⊤
+-- a file is refused with this line, or memory ran out
+abbrev pub Tells : List ℕ → Halt → Type 0
+Tells line (halt.Refused told) = told.items ≡ line
+Tells line (halt.Store file) = ⊥
+Tells line halt.Sink = ⊥
+Tells line halt.Memory = ⊤

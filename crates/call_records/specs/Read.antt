@@ -1,28 +1,14 @@
 -- What the readers of the call answer.
-use Rattle.std.specs.Prelude.{◌≡◌, ℕ, Bool, List, [], Vec, Option, None, Some, Result, Ok, Err, map, slice_get, ⊤}
+use Rattle.std.specs.Prelude.{◌≡◌, ◌⊎◌, ℕ, List, [], Vec, Option, None, Some, Result, Ok, Err, map, slice_get, ⊤}
 use Rattle.std.specs.declared.alloc.Global.{Global}
-use Rattle.base_records.specs.Gives.{Fails}
 use Rattle.file_comtrade.specs.declared.record.RecordFault.{RecordFault}
 use Rattle.file_records.specs.tracks.Tracks.{PlacedValues}
-use Rattle.call_records.specs.Faults.{is_record_memory, record_refusal}
+use Rattle.call_records.specs.Faults.{record_refusal}
 use Rattle.call_records.specs.{Answers.Answers, Course.RecorderFiles, Course.files_with}
 use Rattle.call_records.specs.Halts.{Tells}
 use Rattle.call_records.specs.declared.fetch as code
 use Rattle.call_records.specs.declared.halt.Halt.{Halt}
 use Rattle.call_records.specs.declared.halt.Halt.TheVariants as halt
-
--- a fault of a reader, and how it is told
-pub record Stops {Y F : Type 0} (is_memory : F → Bool) (told : F → List ℕ) (said : Result Y F)
-    (why : Halt) : Type 0 where
-  pub fault : F
-  pub fails : Fails is_memory fault said
-  pub tells : Tells (is_memory fault) (told fault) why
-
--- a value that is what reading gives, or such a fault
-abbrev pub Reads : {X Y F : Type 0} → (X → Y) → (F → Bool) → (F → List ℕ) → Result Y F
-    → Result X Halt → Type 0
-Reads view is_memory told said (Ok x) = said ≡ Ok (view x)
-Reads view is_memory told said (Err why) = Stops is_memory told said why
 
 abbrev pub IsMemory : Halt → Type 0
 IsMemory (halt.Refused line) = ⊥
@@ -30,12 +16,22 @@ IsMemory (halt.Store file) = ⊥
 IsMemory halt.Sink = ⊥
 IsMemory halt.Memory = ⊤
 
+-- a fault of a reader, as it is told
+pub record Stops {Y F : Type 0} (told : F → List ℕ) (said : Result Y F) (why : Halt) : Type 0 where
+  pub fault : F
+  pub fails : said ≡ Err fault
+  pub tells : Tells (told fault) why
+
+-- a value that is what reading gives, or such a fault; want of memory says nothing
+abbrev pub Reads : {X Y F : Type 0} → (X → Y) → (F → List ℕ) → Result Y F → Result X Halt → Type 0
+Reads view told said (Ok x) = said ≡ Ok (view x)
+Reads view told said (Err why) = Stops told said why ⊎ IsMemory why
+
 -- a source is refused by the names of its recorder's files, or memory ran out; a recorder has its files
 abbrev pub TellsOf : Option RecorderFiles → PlacedValues → RecordFault → Halt → Type 0
 TellsOf None source why stop = IsMemory stop
 TellsOf (Some own) source why stop =
-    Tells (is_record_memory why)
-    (record_refusal own.config_name own.data_name source.source.channel why) stop
+    Tells (record_refusal own.config_name own.data_name source.source.channel why) stop
 
 -- so is the source at a place, where there is one
 abbrev pub TellsAt : Option PlacedValues → List RecorderFiles → RecordFault → Halt → Type 0

@@ -11,6 +11,7 @@ ghost use Rattle.call_records.specs.Read.{files_values};
 use crate::fetch::RecorderFiles;
 use crate::halt::Halt;
 use crate::refusal::{record_halt, too_many_halt};
+use base_memory::Stopped;
 use call_ask::RecordsWork;
 use file_comtrade::RecordFault;
 use file_records::map::Map;
@@ -119,6 +120,7 @@ pub fn answer(
     let placed = place(alloc, line, map.recorders.as_slice(), bytes.as_slice())?;
     match read_tracks(alloc, placed.as_slice()) {
         Ok(tracks) => text_over(alloc, work, line, map, placed.as_slice(), tracks.as_slice()),
-        Err(fault) => Err(fault_halt(alloc, placed.as_slice(), files, fault)),
+        Err(Stopped::Fault(fault)) => Err(fault_halt(alloc, placed.as_slice(), files, fault)),
+        Err(Stopped::Memory) => Err(Halt::Memory),
     }
 }

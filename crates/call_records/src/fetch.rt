@@ -11,6 +11,7 @@ ghost use Rattle.call_records.specs.Read.{text_seen};
 use crate::beside::beside;
 use crate::halt::{File, Halt};
 use crate::refusal::too_long;
+use base_memory::Stopped;
 use base_text::store::{FetchFault, Store, fetch};
 use file_records::map::{Recorder, data_name};
 use std::alloc::Global;
@@ -49,9 +50,9 @@ pub fn fetch_file<S: Store>(
 {
     match fetch(alloc, store, name, limit) {
         Ok(bytes) => Ok(bytes),
-        Err(FetchFault::Failed) => Err(Halt::Store(file)),
-        Err(FetchFault::TooLong) => Err(too_long(alloc, file.told(), limit)),
-        Err(FetchFault::Memory) => Err(Halt::Memory),
+        Err(Stopped::Fault(FetchFault::Failed)) => Err(Halt::Store(file)),
+        Err(Stopped::Fault(FetchFault::TooLong)) => Err(too_long(alloc, file.told(), limit)),
+        Err(Stopped::Memory) => Err(Halt::Memory),
     }
 }
 
@@ -80,9 +81,9 @@ fn fetch_beside<S: Store>(
     };
     match fetch(alloc, store, text, limit) {
         Ok(bytes) => Ok(NamedBytes { name, bytes }),
-        Err(FetchFault::Failed) => Err(Halt::Store(File::Recorder(name))),
-        Err(FetchFault::TooLong) => Err(too_long(alloc, name.as_slice(), limit)),
-        Err(FetchFault::Memory) => Err(Halt::Memory),
+        Err(Stopped::Fault(FetchFault::Failed)) => Err(Halt::Store(File::Recorder(name))),
+        Err(Stopped::Fault(FetchFault::TooLong)) => Err(too_long(alloc, name.as_slice(), limit)),
+        Err(Stopped::Memory) => Err(Halt::Memory),
     }
 }
 

@@ -1,16 +1,13 @@
 //! Why a file is refused, as the line on standard error says it.
 
-ghost use Rattle.std.specs.Prelude.{[], ◌∷◌, ◌≡◌, ◌++◌, IfOk, OnOk, Some, codes, map, false};
+ghost use Rattle.std.specs.Prelude.{[], ◌∷◌, ◌≡◌, ◌++◌, IfOk, OnOk, Some, codes, map};
 ghost use Rattle.std.specs.List.{concat};
 ghost use Rattle.file_comtrade.specs.declared.fault.DataFault.TheVariants as data_of;
-ghost use Rattle.file_comtrade.specs.declared.ticks.TickFault.TheVariants as tick_of;
 ghost use Rattle.file_records.specs.map.Sources.{channel_said};
 ghost use Rattle.call_records.specs.Halts.{Tells};
 ghost use Rattle.call_records.specs.Faults.{line_feed, refusal_line, refused_file, too_long_line, line_refusal};
 ghost use Rattle.call_records.specs.Faults.{map_refusal, untold_refusal, too_many_spans};
-ghost use Rattle.call_records.specs.Faults.{config_words, data_words, tick_words, record_refusal};
-ghost use Rattle.call_records.specs.Faults.{is_config_memory, is_data_memory, is_line_memory};
-ghost use Rattle.call_records.specs.Faults.{is_map_memory, is_record_memory, is_tick_memory};
+ghost use Rattle.call_records.specs.Faults.{config_words, data_words, gap_words, tick_words, record_refusal};
 ghost use Rattle.call_records.specs.Faults.{channel_words, line_words_at, missing_words, sample_words};
 
 use crate::halt::Halt;
@@ -59,7 +56,7 @@ fn push_end(text: &mut Vec<u8>) -> Result<(), Memory>
 
 /// A file is refused in these words.
 fn refused(alloc: Global, file: &[u8], words: &[&[u8]]) -> Halt
-    ensures { Tells false (refusal_line file.now (map (λ piece. piece.now) words.now)) result }
+    ensures { Tells (refusal_line file.now (map (λ piece. piece.now) words.now)) result }
 {
     match line_with(alloc, file, words) {
         Ok(line) => Halt::Refused(line),
@@ -69,7 +66,7 @@ fn refused(alloc: Global, file: &[u8], words: &[&[u8]]) -> Halt
 
 /// A file of that name has more bytes than the limit.
 pub fn too_long(alloc: Global, file: &[u8], limit: u32) -> Halt
-    ensures { Tells false (too_long_line file.now limit) result }
+    ensures { Tells (too_long_line file.now limit) result }
 {
     let mut digits = Buffer::new();
     let limit = digits.format(limit).as_bytes();
@@ -78,14 +75,14 @@ pub fn too_long(alloc: Global, file: &[u8], limit: u32) -> Halt
 
 // A fault's name and a place.
 fn refused_at(alloc: Global, file: &[u8], name: &[u8], path: &[u8]) -> Halt
-    ensures { Tells false (refusal_line file.now (name.now ∷ codes " " ∷ path.now ∷ [])) result }
+    ensures { Tells (refusal_line file.now (name.now ∷ codes " " ∷ path.now ∷ [])) result }
 {
     refused(alloc, file, &[name, b" ", path])
 }
 
 /// The line file is refused.
 pub fn line_halt(alloc: Global, fault: &LineFault) -> Halt
-    ensures { Tells (is_line_memory fault.now) (line_refusal fault.now) result }
+    ensures { Tells (line_refusal fault.now) result }
 {
     match fault {
         LineFault::NotToml => refused(alloc, b"line", &[b"NotToml"]),
@@ -100,20 +97,19 @@ pub fn line_halt(alloc: Global, fault: &LineFault) -> Halt
             b"line",
             &[b"Channels", b" ", from.bytes(), b">", to.bytes()],
         ),
-        LineFault::Memory => Halt::Memory,
     }
 }
 
 // What is wrong at a place of the map.
 fn map_refused(alloc: Global, path: &[u8], words: &[u8]) -> Halt
-    ensures { Tells false (refusal_line (codes "map") (path.now ∷ words.now ∷ [])) result }
+    ensures { Tells (refusal_line (codes "map") (path.now ∷ words.now ∷ [])) result }
 {
     refused(alloc, b"map", &[path, words])
 }
 
 /// The map is refused.
 pub fn map_halt(alloc: Global, fault: &MapFault) -> Halt
-    ensures { Tells (is_map_memory fault.now) (map_refusal fault.now) result }
+    ensures { Tells (map_refusal fault.now) result }
 {
     match fault {
         MapFault::NotToml => refused(alloc, b"map", &[b"no TOML document"]),
@@ -136,13 +132,12 @@ pub fn map_halt(alloc: Global, fault: &MapFault) -> Halt
             path.bytes(),
             b": a record in one file (.cff) is not read",
         ),
-        MapFault::Memory => Halt::Memory,
     }
 }
 
 /// No recorder tells a key or a trip.
 pub fn untold_halt(alloc: Global, line: &Line, signal: Signal) -> Halt
-    ensures { Tells false (untold_refusal line.now signal) result }
+    ensures { Tells (untold_refusal line.now signal) result }
 {
     match signal {
         Signal::Key(k) => map_refused(
@@ -161,14 +156,14 @@ pub fn untold_halt(alloc: Global, line: &Line, signal: Signal) -> Halt
 
 /// The script would have more than 200 spans.
 pub fn too_many_halt(alloc: Global) -> Halt
-    ensures { Tells false too_many_spans result }
+    ensures { Tells too_many_spans result }
 {
     refused(alloc, b"map", &[b"the script has more than 200 rows"])
 }
 
 // A line or a sample is missing.
 fn missing_refused(alloc: Global, file: &[u8], what: &[u8], n: usize) -> Halt
-    ensures { Tells false (refusal_line file.now (missing_words what.now n)) result }
+    ensures { Tells (refusal_line file.now (missing_words what.now n)) result }
 {
     let mut digits = Buffer::new();
     let n = digits.format(n).as_bytes();
@@ -177,7 +172,7 @@ fn missing_refused(alloc: Global, file: &[u8], what: &[u8], n: usize) -> Halt
 
 // What is wrong in a line of a configuration.
 fn line_refused(alloc: Global, config: &[u8], n: usize, words: &[u8]) -> Halt
-    ensures { Tells false (refusal_line config.now (line_words_at n words.now)) result }
+    ensures { Tells (refusal_line config.now (line_words_at n words.now)) result }
 {
     let mut digits = Buffer::new();
     let n = digits.format(n).as_bytes();
@@ -185,7 +180,7 @@ fn line_refused(alloc: Global, config: &[u8], n: usize, words: &[u8]) -> Halt
 }
 
 fn config_halt(alloc: Global, config: &[u8], fault: ConfigFault) -> Halt
-    ensures { Tells (is_config_memory fault) (refusal_line config.now (config_words fault)) result }
+    ensures { Tells (refusal_line config.now (config_words fault)) result }
 {
     match fault {
         ConfigFault::Absent(n) => missing_refused(alloc, config, b"line ", n),
@@ -229,13 +224,12 @@ fn config_halt(alloc: Global, config: &[u8], fault: ConfigFault) -> Halt
             b"none of ASCII, BINARY, BINARY32 and FLOAT32",
         ),
         ConfigFault::Factor(n) => line_refused(alloc, config, n, b"not a factor of the stamps"),
-        ConfigFault::Memory => Halt::Memory,
     }
 }
 
 // What is wrong in a sample.
 fn sample_refused(alloc: Global, data: &[u8], n: usize, words: &[u8]) -> Halt
-    ensures { Tells false (refusal_line data.now (sample_words n words.now)) result }
+    ensures { Tells (refusal_line data.now (sample_words n words.now)) result }
 {
     let mut digits = Buffer::new();
     let n = digits.format(n).as_bytes();
@@ -243,7 +237,7 @@ fn sample_refused(alloc: Global, data: &[u8], n: usize, words: &[u8]) -> Halt
 }
 
 fn level_refused(alloc: Global, data: &[u8], n: usize, channel: usize) -> Halt
-    ensures { Tells false (refusal_line data.now (data_words
+    ensures { Tells (refusal_line data.now (data_words
         (data_of.Level n channel))) result }
 {
     let mut digits = Buffer::new();
@@ -264,7 +258,7 @@ fn level_refused(alloc: Global, data: &[u8], n: usize, channel: usize) -> Halt
 }
 
 fn data_halt(alloc: Global, data: &[u8], fault: DataFault) -> Halt
-    ensures { Tells (is_data_memory fault) (refusal_line data.now (data_words fault)) result }
+    ensures { Tells (refusal_line data.now (data_words fault)) result }
 {
     match fault {
         DataFault::Absent(n) => missing_refused(alloc, data, b"sample ", n),
@@ -292,12 +286,11 @@ fn data_halt(alloc: Global, data: &[u8], fault: DataFault) -> Halt
             n,
             b"its time is before that of the sample before",
         ),
-        DataFault::Memory => Halt::Memory,
     }
 }
 
 fn gap_refused(alloc: Global, data: &[u8], from: u128, to: u128) -> Halt
-    ensures { Tells false (refusal_line data.now (tick_words (tick_of.Gap from (Some to)))) result }
+    ensures { Tells (refusal_line data.now (gap_words from (Some to))) result }
 {
     let mut digits = Buffer::new();
     let from = digits.format(from).as_bytes();
@@ -311,20 +304,17 @@ fn gap_refused(alloc: Global, data: &[u8], from: u128, to: u128) -> Halt
 }
 
 fn tick_halt(alloc: Global, data: &[u8], fault: TickFault) -> Halt
-    ensures { Tells (is_tick_memory fault) (refusal_line data.now (tick_words fault)) result }
+    ensures { Tells (refusal_line data.now (tick_words fault)) result }
 {
-    match fault {
-        TickFault::Gap { to: None, .. } => {
-            refused(alloc, data, &[b"all samples are before tick 0"])
-        }
-        TickFault::Gap { from, to: Some(to) } => gap_refused(alloc, data, from, to),
-        TickFault::Memory => Halt::Memory,
+    match fault.to {
+        None => refused(alloc, data, &[b"all samples are before tick 0"]),
+        Some(to) => gap_refused(alloc, data, fault.from, to),
     }
 }
 
 // The configuration does not name one channel so.
 fn channel_refused(alloc: Global, config: &[u8], what: &[u8], channel: &ChannelName) -> Halt
-    ensures { Tells false (refusal_line config.now (what.now
+    ensures { Tells (refusal_line config.now (what.now
         ∷ channel_words (channel_said channel.now))) result }
 {
     match channel {
@@ -345,7 +335,7 @@ pub fn record_halt(
     channel: &ChannelName,
     fault: RecordFault,
 ) -> Halt
-    ensures { Tells (is_record_memory fault) (record_refusal config.now data.now
+    ensures { Tells (record_refusal config.now data.now
         (channel_said channel.now) fault) result }
 {
     match fault {
@@ -361,6 +351,5 @@ pub fn record_halt(
         ),
         RecordFault::Data(why) => data_halt(alloc, data, why),
         RecordFault::Ticks(why) => tick_halt(alloc, data, why),
-        RecordFault::Memory => Halt::Memory,
     }
 }

@@ -3,21 +3,22 @@ use Rattle.std.proofs.Common.{◌≡◌, ℕ, List, Option, Result, Err, None, l
 use Rattle.call_answer.specs.declared.said.Said.{Said}
 use Rattle.call_ask.specs.declared.map.MapForm.{MapForm}
 use Rattle.call_work.specs.map.Asked.{asked_of}
-use Rattle.call_work.specs.declared.map.denial.{MapDenial.MapDenial, MapStop.MapStop}
-use Rattle.call_work.specs.declared.map.denial.MapStop.TheVariants as map_stop
+use Rattle.call_work.specs.declared.map.denial.MapDenial.{MapDenial}
+use Rattle.base_memory.specs.declared.stopped.Stopped.{Stopped}
+use Rattle.base_memory.specs.declared.stopped.Stopped.TheVariants as stopped
 use Rattle.call_study.specs.{Answers.answer_by, Ends.Gives}
 use Rattle.call_work.specs.load.Reading.{at_most}
-use Rattle.call_work.specs.load.Loaded.{as_read, studied}
+use Rattle.call_work.specs.load.Loaded.{as_read, halt_by, studied}
 use Rattle.call_work.specs.load.Reading.{map_halt, map_of}
 use Rattle.call_work.specs.declared.load.sources.Loaded.{Loaded}
 
 -- the words ask for none, or memory ran out
-pub map_halts : (form : MapForm) (x : List ℕ) (y : Option (List ℕ)) (l : Loaded) (stop : MapStop)
-    (result : Result Said MapStop) → at_most 4096 (length l.study.scripts.items) ≡ None
-    → result ≡ Err stop
-    → ((why : MapDenial) → result ≡ Err (map_stop.Denied why)
+pub map_halts : (form : MapForm) (x : List ℕ) (y : Option (List ℕ)) (l : Loaded)
+    (stop : Stopped MapDenial) (result : Result Said (Stopped MapDenial))
+    → at_most 4096 (length l.study.scripts.items) ≡ None → result ≡ Err stop
+    → ((why : MapDenial) → result ≡ Err (stopped.Fault why)
     → asked_of l.study.line x y ≡ Err why)
-    → Gives (answer_by (map_of form x y (as_read (studied l)))) (Err (map_halt stop))
-map_halts form x y l (map_stop.Denied why) result few of denied =
+    → Gives (answer_by (map_of form x y (as_read (studied l)))) (Err (halt_by map_halt stop))
+map_halts form x y l (stopped.Fault why) result few of denied =
     rw (few, denied why of) (refl, refl)
-map_halts form x y l map_stop.Memory result few of denied = tt
+map_halts form x y l stopped.Memory result few of denied = tt

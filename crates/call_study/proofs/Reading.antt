@@ -5,13 +5,14 @@ use Rattle.std.specs.List.{All}
 use Rattle.model_line.specs.declared.line.Line.{Line}
 use Rattle.file_study.specs.study.Studies.{StudyValues, study_of}
 use Rattle.file_study.specs.declared.study.fault.StudyFault.{StudyFault}
-use Rattle.file_tables.specs.timing.Gives as timing_reading
+use Rattle.base_memory.specs.Gives.{Fails}
+use Rattle.base_memory.specs.declared.stopped.Stopped.{Stopped}
+use Rattle.base_memory.specs.declared.stopped.Stopped.TheVariants as stopped
 use Rattle.file_tables.specs.declared.timing.fault.TimingFault.{TimingFault}
-use Rattle.file_tables.specs.declared.timing.fault.TimingFault.TheVariants as timing_fault
 use Rattle.model_timing.specs.{Inside.IsTimingInside, NamedValues.NamedValues}
 use Rattle.call_answer.specs.declared.said.Said.{Said}
 use Rattle.call_files.specs.Said.{of_timings}
-use Rattle.call_files.specs.Stops.{timing_stop}
+use Rattle.call_files.specs.Stops.{stop_by}
 use Rattle.call_files.specs.declared.refusal.Refusal.{Refusal}
 use Rattle.call_files.specs.declared.refusal.Refusal.TheVariants as refusal
 use Rattle.call_files.specs.declared.stop.Stop.TheVariants as stop
@@ -111,16 +112,9 @@ load_halts from allowed (halt.Denied why) read refused = refused read
 
 -- the timings are refused, or memory ran out
 pub timings_halt : (said : Result (List NamedValues) TimingFault) (allowed : Answers)
-    (e : TimingFault) → timing_reading.Fails e said
-    → (said ≡ Err e → allowed (Err (refused_by (refusal.Timings e))) [])
-    → Gives allowed (Err (halt.Stopped (timing_stop e)))
-timings_halt said allowed timing_fault.Header fails refused = refused fails
-timings_halt said allowed (timing_fault.Fields n) fails refused = refused fails
-timings_halt said allowed (timing_fault.Parameter n) fails refused = refused fails
-timings_halt said allowed (timing_fault.Value n) fails refused = refused fails
-timings_halt said allowed (timing_fault.Twice n) fails refused = refused fails
-timings_halt said allowed (timing_fault.Order n) fails refused = refused fails
-timings_halt said allowed timing_fault.TooMany fails refused = refused fails
-timings_halt said allowed timing_fault.Empty fails refused = refused fails
-timings_halt said allowed (timing_fault.BadName n) fails refused = refused fails
-timings_halt said allowed timing_fault.Memory fails refused = tt
+    (why : Stopped TimingFault) → Fails why said
+    → ((fault : TimingFault) → said ≡ Err fault
+    → allowed (Err (refused_by (refusal.Timings fault))) [])
+    → Gives allowed (Err (halt.Stopped (stop_by refusal.Timings why)))
+timings_halt said allowed (stopped.Fault fault) fails refused = refused fault fails
+timings_halt said allowed stopped.Memory fails refused = tt

@@ -9,7 +9,7 @@ use Rattle.call_engine.specs.Checked.{line_pieces, outside_pieces, passes_pieces
 use Rattle.call_engine.specs.Checked.{IsCheckedText}
 use Rattle.call_answer.specs.Answers.{Answers}
 
--- `rejected` and the fault; want of memory is none
+-- `rejected` and the fault
 abbrev pub rejected_pieces : Line → List Script → SettleFault → List (List ℕ)
 rejected_pieces line scripts (fault.Line n) = line_pieces n
 rejected_pieces line scripts (fault.NotShown i k n) =
@@ -17,10 +17,9 @@ rejected_pieces line scripts (fault.NotShown i k n) =
 rejected_pieces line scripts (fault.Outside i k p value) =
     outside_pieces line scripts i k p value
 rejected_pieces line scripts (fault.Passes i k t) = passes_pieces line scripts i k t
-rejected_pieces line scripts fault.Memory = []
 
 -- the trees are accepted, or have such a first fault
 abbrev pub recheck_answer : Line → List Script → List ℕ → Answers
 recheck_answer line scripts trees =
-    IsCheckedText (IsAccepted line scripts trees) (IsSettleFault line scripts trees) fault.Memory
+    IsCheckedText (IsAccepted line scripts trees) (IsSettleFault line scripts trees)
     (rejected_pieces line scripts)

@@ -1,17 +1,16 @@
 //! Whether settled trees are accepted.
 
-ghost use Rattle.std.specs.Prelude.{◌≡◌, ◌≢◌, IfOk};
+ghost use Rattle.std.specs.Prelude.{◌≡◌, IfOk};
 ghost use Rattle.std.specs.List.{concat};
-ghost use Rattle.cert_settle.specs.declared.fault.SettleFault.{SettleFault};
 ghost use Rattle.call_answer.specs.{Answers.Says, Study.IsStudy};
 ghost use Rattle.call_engine.specs.Checked.{line_pieces};
 ghost use Rattle.call_tables.specs.Recheck.{recheck_answer, rejected_pieces};
 
+use base_memory::{Memory, Stopped};
 use call_answer::{Said, Study, text_of};
 use call_engine::checked::{accepted_text, place, rejected_outside, rejected_passes};
 use cert_settle::{SettleFault, check_settle};
 use itoa::Buffer;
-use model_line::Memory;
 use net_gates::Compiled;
 use std::alloc::Global;
 
@@ -28,13 +27,12 @@ pub fn recheck_settled(alloc: Global, study: &Study, trees: &[u8]) -> Result<Sai
     };
     match check_settle(alloc, &compiled, study.scripts.as_slice(), trees) {
         Ok(counts) => Ok(Said::good(accepted_text(alloc, counts)?)),
-        Err(SettleFault::Memory) => Err(Memory),
-        Err(fault) => Ok(Said::rejected(rejected_text(alloc, study, fault)?)),
+        Err(Stopped::Memory) => Err(Memory),
+        Err(Stopped::Fault(fault)) => Ok(Said::rejected(rejected_text(alloc, study, fault)?)),
     }
 }
 
 fn rejected_text(alloc: Global, study: &Study, fault: SettleFault) -> Result<Vec<u8>, Memory>
-    requires { fault ≢ SettleFault.Memory }
     ensures { IfOk result (λ text. text.items
         ≡ concat (rejected_pieces study.now.line study.now.scripts.items fault)) }
 {
@@ -64,7 +62,6 @@ fn rejected_text(alloc: Global, study: &Study, fault: SettleFault) -> Result<Vec
             terminal,
             tick,
         } => rejected_passes(alloc, study, script, terminal, tick),
-        SettleFault::Memory => Err(Memory),
     }
 }
 

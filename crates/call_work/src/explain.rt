@@ -4,12 +4,12 @@
 mod answer;
 mod asked;
 mod explain;
+mod fault;
 mod fields;
 mod pick;
-mod stop;
 mod unpicked;
 
 pub use asked::Asked;
 pub use explain::explain_said;
-pub use stop::ExplainStop;
+pub use fault::ExplainFault;
 pub use unpicked::Unpicked;

@@ -5,5 +5,5 @@ mod axes;
 mod denial;
 mod said;
 
-pub use denial::{MapDenial, MapStop, Side, put_map_denial};
+pub use denial::{MapDenial, Side, put_map_denial};
 pub use said::map_of;

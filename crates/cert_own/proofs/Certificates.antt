@@ -1,5 +1,5 @@
 -- What is certified of several scripts: that there is one list of claims, and that it is accepted.
-use Rattle.std.proofs.Common.{◌≡◌, ◌≢◌, ℕ, List, [], ◌∷◌, ◌++◌, length, map, refl}
+use Rattle.std.proofs.Common.{◌≡◌, ℕ, List, [], ◌∷◌, ◌++◌, length, map, refl}
 use Rattle.std.proofs.Common.{sym, ◌∙◌, ap, subst, arith, append_assoc}
 use Rattle.std.proofs.lemmas.List.{append-nil}
 use Rattle.std.proofs.lemmas.Slice.Zip.{AllZip-long}
@@ -12,7 +12,6 @@ use Rattle.cert_claims.specs.text.Text.{CanBeWritten, certificate_text, part_tex
 use Rattle.judge_verdict.specs.declared.verdict.verdict.Verdict.{Verdict}
 use Rattle.cert_own.specs.Piece.{claims_of, written_as}
 use Rattle.cert_claims.specs.{declared.check.counts.Counts.Counts, declared.check.fault.CheckFault.CheckFault}
-use Rattle.cert_claims.specs.declared.check.fault.CheckFault.TheVariants as wrong
 use Rattle.cert_claims.specs.check.Check.{IsAccepted, IsCheckFault}
 use Rattle.cert_claims.specs.check.Counts.{AreCounts, all_verdicts, counts_in, are_counts}
 use Rattle.model_history.specs.ZipLaws.{zip_all, zip_each, zip_exists, zip_once}
@@ -131,22 +130,10 @@ module _ (known : Known) (line : Line) where
         (counts_in (all_verdicts claims))
     counted = text_accepted (counts_in (all_verdicts claims)) (are_counts (all_verdicts claims))
 
-    module _ (refuses : (line : Line) (scripts : List Script) (bytes : List ℕ) (counts : Counts)
-        (fault : CheckFault) → fault ≢ wrong.Memory → IsCheckFault line scripts bytes fault
-        → ¬ (IsAccepted line scripts bytes counts)) where
-      only_memory : (f : CheckFault) → (f ≢ wrong.Memory → ⊥) → f ≡ wrong.Memory
-      only_memory (wrong.Line n) never = absurd (never (λ same. absurd (cc)))
-      only_memory (wrong.NotCovered i k t claimed derived) never =
-          absurd (never (λ same. absurd (cc)))
-      only_memory (wrong.NotHeld i k) never = absurd (never (λ same. absurd (cc)))
-      only_memory (wrong.Outside i k p value) never = absurd (never (λ same. absurd (cc)))
-      only_memory (wrong.Passes i k t) never = absurd (never (λ same. absurd (cc)))
-      only_memory wrong.Memory never = refl
-
-      pub no_fault : (f : CheckFault)
-          → IsCheckFault line scripts (certificate_text line scripts claims) f → f ≡ wrong.Memory
-      no_fault f is =
-          only_memory f
-          (λ other.
-          refuses line scripts (certificate_text line scripts claims)
-          (counts_in (all_verdicts claims)) f other is counted)
+    pub no_fault : ((line : Line) (scripts : List Script) (bytes : List ℕ) (counts : Counts)
+        (fault : CheckFault) → IsCheckFault line scripts bytes fault
+        → ¬ (IsAccepted line scripts bytes counts)) → (fault : CheckFault)
+        → ¬ (IsCheckFault line scripts (certificate_text line scripts claims) fault)
+    no_fault refuses fault is =
+        refuses line scripts (certificate_text line scripts claims)
+        (counts_in (all_verdicts claims)) fault is counted

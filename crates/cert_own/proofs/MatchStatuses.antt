@@ -1,19 +1,16 @@
 -- What the status of `match` says of all records.
-use Rattle.std.proofs.Common.{◌≡◌, ◌||◌, ℕ, zero, suc, Bool, true, false, List, [], ◌∷◌, Some, map}
+use Rattle.std.proofs.Common.{◌≡◌, ◌||◌, ℕ, zero, suc, Bool, true, false, List, [], ◌∷◌}
 use Rattle.std.proofs.Common.{refl}
-use Rattle.std.proofs.Common.{sym, ◌∙◌, ap, subst}
+use Rattle.std.proofs.Common.{sym, subst}
 use Rattle.std.proofs.lemmas.List.Elements.{All-head, All-tail}
-use Rattle.std.proofs.lemmas.Option.{same_Some}
-use Rattle.std.specs.Prelude.{slice_get}
 use Rattle.std.specs.List.{All, AllZip, list_any}
 use Rattle.model_line.specs.{declared.line.Line.Line, declared.script.Script.Script}
-use Rattle.judge_match.specs.matching.Answer.{Head, IsHead, IsMatchAnswer, is_impossible, is_unsettled}
-use Rattle.judge_match.specs.{matching.Recorded.IsRecordOf, matching.Waves.SeenValues, matching.Waves.seen_values}
+use Rattle.judge_match.specs.matching.Answer.{Head, IsHead, is_impossible, is_unsettled}
+use Rattle.judge_match.specs.{matching.Recorded.IsRecordOf, matching.Waves.SeenValues}
 use Rattle.judge_match.specs.declared.matching.seen.Match.{Match}
 use Rattle.judge_match.specs.declared.matching.seen.Match.TheVariants.{Explained, Impossible, Unsettled}
 use Rattle.cert_own.specs.Matched.{AllGiven, HoldsOfRecord, HoldsOfRecordAt, HoldsOfSomeRecord}
-use Rattle.cert_own.specs.Matched.{IsGivenBy, IsGivenByNone, IsGivenBySome, IsOpenRecord}
-use Rattle.cert_own.specs.Matched.{Matched}
+use Rattle.cert_own.specs.Matched.{IsGivenByNone, IsGivenBySome, IsOpenRecord}
 use Rattle.cert_own.proofs.MatchLines.{Known, are_seen, said_by, settled_is_true}
 
 -- neither of two

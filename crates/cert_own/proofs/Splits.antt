@@ -1,5 +1,5 @@
 -- What is searched of several scripts is accepted.
-use Rattle.std.proofs.Common.{◌≡◌, ◌≢◌, ℕ, ◌≤◌, List, length, refl}
+use Rattle.std.proofs.Common.{◌≡◌, ℕ, ◌≤◌, List, length}
 use Rattle.std.proofs.lemmas.Slice.Zip.{AllZip-long}
 use Rattle.std.specs.List.{All}
 use Rattle.model_line.specs.{declared.line.Line.Line, declared.script.Script.Script, Fits.Fits}
@@ -9,7 +9,6 @@ use Rattle.model_history.specs.ZipLaws.{zip_all, zip_each}
 use Rattle.cert_split.specs.text.Grammar.{SplitResult, HasOneEach, IsSplitText}
 use Rattle.cert_split.specs.text.Text.{split_text}
 use Rattle.cert_split.specs.declared.check.fault.SplitFault.{SplitFault}
-use Rattle.cert_split.specs.declared.check.fault.SplitFault.TheVariants as wrong
 use Rattle.cert_split.specs.check.Check.{IsAccepted, IsSplitFault}
 use Rattle.cert_split.specs.{check.Counts.CountResults, check.Counts.all_verdicts, check.Results.AreSupported}
 use Rattle.cert_own.specs.Searched.{AreSearched, AllSearched}
@@ -43,20 +42,10 @@ module _ (known : Known) (line : Line) (n : ℕ) (small : n ≤ 8) where
         (counts_in (all_verdicts parts))
     counted = text_accepted (counts_in (all_verdicts parts)) (are_counts (all_verdicts parts))
 
-    module _ (refuses : (line : Line) (scripts : List Script) (bytes : List ℕ) (counts : Counts)
-        (fault : SplitFault) → fault ≢ wrong.Memory → IsSplitFault line scripts bytes fault
-        → ¬ (IsAccepted line scripts bytes counts)) where
-      only_memory : (f : SplitFault) → (f ≢ wrong.Memory → ⊥) → f ≡ wrong.Memory
-      only_memory (wrong.Line n) never = absurd (never (λ same. absurd (cc)))
-      only_memory (wrong.NotHeld i k l) never = absurd (never (λ same. absurd (cc)))
-      only_memory (wrong.Outside i k p value) never = absurd (never (λ same. absurd (cc)))
-      only_memory (wrong.Passes i k t) never = absurd (never (λ same. absurd (cc)))
-      only_memory wrong.Memory never = refl
-
-      pub no_fault : (f : SplitFault)
-          → IsSplitFault line scripts (split_text line scripts parts) f → f ≡ wrong.Memory
-      no_fault f is =
-          only_memory f
-          (λ other.
-          refuses line scripts (split_text line scripts parts) (counts_in (all_verdicts parts)) f
-          other is counted)
+    pub no_fault : ((line : Line) (scripts : List Script) (bytes : List ℕ) (counts : Counts)
+        (fault : SplitFault) → IsSplitFault line scripts bytes fault
+        → ¬ (IsAccepted line scripts bytes counts)) → (fault : SplitFault)
+        → ¬ (IsSplitFault line scripts (split_text line scripts parts) fault)
+    no_fault refuses fault is =
+        refuses line scripts (split_text line scripts parts) (counts_in (all_verdicts parts)) fault
+        is counted

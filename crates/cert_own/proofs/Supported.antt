@@ -13,7 +13,7 @@ use Rattle.cert_claims.specs.check.Refutations.{IsRefutation, steady_timing}
 use Rattle.judge_split.specs.declared.node.Outcome.{Outcome}
 use Rattle.judge_split.specs.declared.node.Outcome.TheVariants as outcome
 use Rattle.judge_split.specs.Search.{Tree, Fails, IsSearch}
-use Rattle.judge_split.specs.{Trees.SplitTree, Found.IsFound, Leaves.AreSound}
+use Rattle.judge_split.specs.{Trees.SplitTree, Found.IsFound, Leaves.IsSoundSplit}
 use Rattle.cert_split.specs.text.Grammar.{SplitResult, IsSplitResult, HasOneEach}
 use Rattle.cert_split.specs.text.Piece.{IsPrintable, written_as}
 use Rattle.cert_split.specs.check.Results.{IsSupported, AreSupported}
@@ -24,7 +24,7 @@ pub record Known : Type 0 where
   pub deadlines : (line : Line) (script : Script) → Fits line script
       → script.deadline < line.horizon
   pub sound : (line : Line) (script : Script) (k n : ℕ) (tree : SplitTree)
-      → IsSearch script k n line (Tree tree) → AreSound line script k (declared_box line) tree
+      → IsSearch script k n line (Tree tree) → IsSoundSplit line script k (declared_box line) tree
   pub fails : (line : Line) (script : Script) (k n : ℕ) (timing : TimingValues)
       → script.deadline < line.horizon → k < terminal_count line
       → IsSearch script k n line (Fails timing) → certified.IsRefutation line script k timing

@@ -56,11 +56,10 @@ pub fn what_is_certified_is_accepted()
         (counts : Counts) → All (Fits line) scripts → AreCertified line scripts claims →
         IsAccepted line scripts (certificate_text line scripts claims) counts →
         AreCounts (all_verdicts claims) counts }
-    // and what `check` may answer as its fault is want of memory alone.
+    // and it has no fault.
     ensures no_fault { (line : Line) (scripts : List Script) (claims : List Claims)
         (fault : CheckFault) → All (Fits line) scripts → AreCertified line scripts claims →
-        IsCheckFault line scripts (certificate_text line scripts claims) fault →
-        fault ≡ CheckFault.Memory }
+        ¬ (IsCheckFault line scripts (certificate_text line scripts claims) fault) }
 {
     laws_below();
     a_text_has_one_meaning();

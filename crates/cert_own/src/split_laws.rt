@@ -55,12 +55,11 @@ pub fn what_is_searched_is_accepted()
         AllSearched line n scripts parts →
         IsAccepted line scripts (split_text line scripts parts) counts →
         CountResults parts counts }
-    // and what `check_split` may answer as its fault is want of memory alone.
+    // and it has no fault.
     ensures no_fault { (line : Line) (n : ℕ) (scripts : List Script)
         (parts : List (List SplitResult)) (fault : SplitFault) → All (Fits line) scripts →
         n ≤ 8 → AllSearched line n scripts parts →
-        IsSplitFault line scripts (split_text line scripts parts) fault →
-        fault ≡ SplitFault.Memory }
+        ¬ (IsSplitFault line scripts (split_text line scripts parts) fault) }
 {
     deadlines_are_below_the_horizon();
     what_a_search_finds_is_sound();

@@ -5,8 +5,9 @@ use Rattle.std.specs.Bool.{Decides}
 use Rattle.model_line.specs.{declared.line.Line.Line, SetBounds.SameButParams}
 use Rattle.model_line.specs.NamesByNumber.{parameter_name}
 use Rattle.model_logic.specs.Choice.{Box, declared_box}
-use Rattle.model_settle.specs.CaseTrees.{CanSplit, HasCases}
-use Rattle.judge_split.specs.{Leaves.CanSplit as CanSplitPart, Parts.IsPart}
+use Rattle.model_settle.specs.CaseTrees.{HasCases}
+use Rattle.model_logic.specs.Boxes.{CanSplit, CanSplit as CanSplitPart}
+use Rattle.judge_split.specs.{Parts.IsPart}
 use Rattle.judge_cases.specs.declared.node.CaseNode.{CaseNode}
 use Rattle.judge_cases.specs.declared.node.CaseNode.TheVariants as node
 use Rattle.cert_settle.specs.Known.{Known}

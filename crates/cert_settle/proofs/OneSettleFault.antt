@@ -1,5 +1,5 @@
 -- The fault of a text of settled trees is one of the text, or of a script.
-use Rattle.std.proofs.Common.{◌≢◌, inl, inr, ℕ, List, refl}
+use Rattle.std.proofs.Common.{inl, inr, ℕ, List, refl}
 use Rattle.model_line.specs.{declared.line.Line.Line, declared.script.Script.Script}
 use Rattle.cert_claims.specs.declared.check.no.NoFault.TheVariants as no
 use Rattle.cert_claims.specs.check.ScriptLaws.{IsOfEither}
@@ -17,28 +17,21 @@ pub told : (line : Line) (scripts : List Script) (bytes : List ℕ) (i : ℕ) (f
 told line scripts bytes i (wrong.NotShown k n) h = h
 told line scripts bytes i (wrong.No k (no.Outside p value)) h = h
 told line scripts bytes i (wrong.No k (no.Passes t)) h = h
-told line scripts bytes i wrong.Memory h = tt
 
 module _ (line : Line) (scripts : List Script) (bytes : List ℕ) where
   -- the fault is one of the text, or of a script
   abbrev pub IsOne : SettleFault → Type 0
   IsOne =
       IsOfEither (λ parts. IsSettleText line scripts parts bytes) (LeavesGrammar line scripts bytes)
-      (AreSupported line) (IsFirstFault line) (λ f. f ≢ wrong.Memory) scripts settle.Line fault_in
+      (AreSupported line) (IsFirstFault line) scripts settle.Line fault_in
 
-  in_script : (i : ℕ) (f : ResultFault) → f ≢ wrong.Memory → IsScriptFault line scripts bytes i f
+  in_script : (i : ℕ) (f : ResultFault) → IsScriptFault line scripts bytes i f
       → IsOne (fault_in i f)
-  in_script i f some h =
-      inr (record { place = i; fault = f; told = some; first = h; same = refl })
+  in_script i f h = inr (record { place = i; fault = f; first = h; same = refl })
 
-  pub of_text_or_script : (f : SettleFault) → f ≢ settle.Memory → IsSettleFault line scripts bytes f
-      → IsOne f
-  of_text_or_script (settle.Line n) some h =
-      inl (record { number = n; leaves_there = h; same = refl })
-  of_text_or_script (settle.NotShown i k n) some h =
-      in_script i (wrong.NotShown k n) (λ e. cc) h
-  of_text_or_script (settle.Outside i k p value) some h =
-      in_script i (wrong.No k (no.Outside p value)) (λ e. cc) h
-  of_text_or_script (settle.Passes i k t) some h =
-      in_script i (wrong.No k (no.Passes t)) (λ e. cc) h
-  of_text_or_script settle.Memory some h = absurd (some refl)
+  pub of_text_or_script : (f : SettleFault) → IsSettleFault line scripts bytes f → IsOne f
+  of_text_or_script (settle.Line n) h = inl (record { number = n; leaves_there = h; same = refl })
+  of_text_or_script (settle.NotShown i k n) h = in_script i (wrong.NotShown k n) h
+  of_text_or_script (settle.Outside i k p value) h =
+      in_script i (wrong.No k (no.Outside p value)) h
+  of_text_or_script (settle.Passes i k t) h = in_script i (wrong.No k (no.Passes t)) h

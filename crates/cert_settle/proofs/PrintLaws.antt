@@ -1,5 +1,5 @@
 -- Trees printed one after another.
-use Rattle.std.proofs.Common.{◌≡◌, ◌+◌, ◌<◌, ℕ, List, [], ◌∷◌, ◌++◌, length, map, get_or}
+use Rattle.std.proofs.Common.{◌≡◌, ◌<◌, ℕ, List, [], ◌∷◌, ◌++◌, length, map, get_or}
 use Rattle.std.proofs.Common.{sym, ◌∙◌, ap, subst, arith, append_assoc}
 use Rattle.std.proofs.lemmas.List.{length-map}
 use Rattle.std.proofs.lemmas.List.Elements.{All-nil, All-cons, All-append, All-weaker}
@@ -9,8 +9,8 @@ use Rattle.model_line.specs.{declared.line.Line.Line}
 use Rattle.model_logic.specs.Choice.{Box}
 use Rattle.cert_claims.specs.text.Text.{fed}
 use Rattle.model_timing.specs.{declared.step.Step.Step, Inside.IsStepInside}
-use Rattle.model_settle.specs.CaseTrees.{CaseTree, Yes, Undecided, Split, Case, lower_half}
-use Rattle.model_settle.specs.CaseTrees.{upper_half}
+use Rattle.model_settle.specs.CaseTrees.{CaseTree, Yes, Undecided, Split, Case}
+use Rattle.model_logic.specs.Boxes.{lower_half, upper_half}
 use Rattle.judge_cases.specs.declared.node.CaseNode.{CaseNode}
 use Rattle.judge_cases.specs.declared.node.CaseNode.TheVariants as node
 use Rattle.cert_settle.specs.Known.{Known}
@@ -19,31 +19,31 @@ use Rattle.judge_cases.specs.Nodes.{preorder}
 use Rattle.cert_settle.specs.{declared.claim.TreeClaim.TreeClaim, Reading.result_in}
 use Rattle.cert_settle.specs.Grammar.{SettleResult, tree_text}
 use Rattle.judge_cases.specs.Trees.{AreTree}
-use Rattle.cert_settle.specs.Text.{IsKnown, IsKnownStep, result_text, trees_text}
+use Rattle.cert_settle.specs.Text.{IsNodeOfLine, IsKnownStep, result_text, trees_text}
 
 -- the nodes of a tree that can be made in a box name parameters and terminals
 known_preorder : (line : Line) (box : Box) (t : CaseTree) → Branches line box t
-    → All (IsKnown line) (preorder t)
+    → All (IsNodeOfLine line) (preorder t)
 known_preorder line box Yes branches =
-    All-cons (IsKnown line) node.Yes [] tt (All-nil (IsKnown line))
+    All-cons (IsNodeOfLine line) node.Yes [] tt (All-nil (IsNodeOfLine line))
 known_preorder line box Undecided branches =
-    All-cons (IsKnown line) node.Undecided [] tt (All-nil (IsKnown line))
+    All-cons (IsNodeOfLine line) node.Undecided [] tt (All-nil (IsNodeOfLine line))
 known_preorder line box (Split param mid first second) branches =
-    All-cons (IsKnown line) (node.Split param mid) (preorder first ++ preorder second)
+    All-cons (IsNodeOfLine line) (node.Split param mid) (preorder first ++ preorder second)
     branches.0.exists
-    (All-append (IsKnown line) (preorder first) (preorder second)
+    (All-append (IsNodeOfLine line) (preorder first) (preorder second)
     (known_preorder line (lower_half box param mid) first branches.1.0)
     (known_preorder line (upper_half box param mid) second branches.1.1))
 known_preorder line box (Case terminal tick first second) branches =
-    All-cons (IsKnown line) (node.Case terminal tick) (preorder first ++ preorder second)
+    All-cons (IsNodeOfLine line) (node.Case terminal tick) (preorder first ++ preorder second)
     branches.0.exists
-    (All-append (IsKnown line) (preorder first) (preorder second)
+    (All-append (IsNodeOfLine line) (preorder first) (preorder second)
     (known_preorder line box first branches.1.0) (known_preorder line box second branches.1.1))
 
 pub known_nodes : (line : Line) (nodes : List CaseNode) → AreTree line nodes
-    → All (IsKnown line) nodes
+    → All (IsNodeOfLine line) nodes
 known_nodes line nodes is =
-    subst (λ (l : List CaseNode). All (IsKnown line) l) (sym is.are)
+    subst (λ (l : List CaseNode). All (IsNodeOfLine line) l) (sym is.are)
     (known_preorder line _ is.tree is.branches)
 
 -- the steps of a timing name parameters

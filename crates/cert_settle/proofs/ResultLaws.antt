@@ -14,10 +14,10 @@ use Rattle.judge_cases.specs.Trees.{branch_count}
 use Rattle.judge_cases.specs.Nodes.{preorder}
 use Rattle.cert_settle.specs.Grammar.{SettleResult, tree, fails}
 use Rattle.judge_cases.specs.Trees.{AreTree}
-use Rattle.cert_settle.specs.declared.fault.ResultFault.{ResultFault}
-use Rattle.cert_settle.specs.declared.fault.ResultFault.TheVariants as wrong
-use Rattle.cert_settle.specs.Results.{IsSupported, IsTold, IsTreeFault}
-use Rattle.cert_settle.specs.{FirstLeaf.IsFirstNotShown, Walks.IsWalkFault}
+use Rattle.cert_settle.specs.declared.tree.NotShown.{NotShown}
+use Rattle.cert_settle.specs.Results.{IsSupported, IsTold}
+use Rattle.cert_settle.specs.FirstLeaf.{IsFirstNotShown, IsTreeNotShown}
+use Rattle.cert_settle.specs.Walks.{IsNotShownFrom}
 use Rattle.cert_settle.specs.{CaseParts.leaves, CaseParts.whole_part, Counts.is_decided}
 
 -- ---- few nodes
@@ -49,21 +49,18 @@ tree_few line nodes are =
 
 -- ---- a whole tree
 
-pub whole_fault : (line : Line) (script : Script) (k : ℕ) (nodes : List CaseNode) (t : CaseTree)
-    (f : ResultFault) → nodes ≡ preorder t
-    → IsWalkFault line script k (whole_part line) t 0 f → IsTreeFault line script k nodes f
-whole_fault line script k nodes t (wrong.NotShown j n) are h =
-    let place : h.1.place ≡ n = omega (arith, h.1.is) in (
-      h.0,
-      record {
-        tree = t;
-        are = are;
-        first = subst (λ (m : ℕ). IsFirstNotShown line script k (leaves (whole_part line) t) m)
-            place h.1.leaf;
-      },
-    )
-whole_fault line script k nodes t (wrong.No j fault) are h = absurd h
-whole_fault line script k nodes t wrong.Memory are h = tt
+pub whole_not_shown : (line : Line) (script : Script) (k : ℕ) (nodes : List CaseNode) (t : CaseTree)
+    (fault : NotShown) → nodes ≡ preorder t
+    → IsNotShownFrom line script k (whole_part line) t 0 fault
+    → IsTreeNotShown line script k nodes fault.leaf
+whole_not_shown line script k nodes t fault are h =
+    let place : h.place ≡ fault.leaf = omega (arith, h.is) in
+    record {
+      tree = t;
+      are = are;
+      first = subst (λ (m : ℕ). IsFirstNotShown line script k (leaves (whole_part line) t) m) place
+          h.leaf;
+    }
 
 -- ---- what is supported is so
 

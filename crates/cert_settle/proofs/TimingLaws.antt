@@ -11,16 +11,14 @@ use Rattle.model_line.specs.{declared.line.Line.Line, Parameters.param_count}
 use Rattle.model_logic.specs.Choice.{Box}
 use Rattle.model_timing.specs.{declared.step.Step.Step, Inside.IsStepInside}
 use Rattle.model_timing.specs.Timing.{comes_before, ascend}
-use Rattle.base_text.specs.declared.lines.fault.TextFault.{TextFault}
-use Rattle.base_text.specs.{lines.Lines.BeginsWith, lines.Grammar.IsFault, lines.ReadLaws.later_fault}
-use Rattle.base_text.specs.lines.LineLaws.{goes_one, goes_then, refused, absent}
-use Rattle.base_text.specs.declared.lines.fault.TextFault.TheVariants as fault
+use Rattle.base_text.specs.lines.Lines.{BeginsWith, LeavesAt}
+use Rattle.base_text.specs.lines.LineLaws.{goes_one, goes_then, leaves_later, refused, absent}
 use Rattle.cert_claims.specs.text.Grammar.{AreNumbers, no_words}
 use Rattle.cert_settle.specs.Reading.{GoesOn, AreSteps, AreRead, IsNoNode, last_of}
 use Rattle.cert_settle.specs.Reading.{timing_place}
 use Rattle.cert_settle.specs.Grammar.{Place, Said, says_nothing, says_step, says_no, says_node}
 use Rattle.cert_settle.specs.Grammar.{Stands, opens, after_step, result_over, Follows}
-use Rattle.cert_settle.specs.Grammar.{step_text, grammar_of}
+use Rattle.cert_settle.specs.Grammar.{step_text}
 
 -- ---- steps that ascend
 
@@ -164,15 +162,16 @@ module _ (line : Line) (box : Box) (later : List Place) (text : List ℕ) (a : �
         })
 
     -- and no line comes after it
-    pub missing : (step : Step ℕ) (f : TextFault) → IsStepInside line step
-        → Follows (last_of steps) step → bytes ≡ step_text line step → f ≡ fault.Line c
+    pub missing : (step : Step ℕ) (n : ℕ) → IsStepInside line step
+        → Follows (last_of steps) step → bytes ≡ step_text line step → n ≡ c
         → ((other left : List ℕ) → ¬ (BeginsWith rest other left))
-        → IsFault (grammar_of line) (result_over box ∷ later) text a f
-    missing step f inside follows is said never =
-        subst (λ (g : TextFault). IsFault (grammar_of line) (result_over box ∷ later) text a g)
+        → LeavesAt (Stands line) opens (result_over box ∷ later) text a n
+    missing step n inside follows is said never =
+        subst (λ (m : ℕ). LeavesAt (Stands line) opens (result_over box ∷ later) text a m)
         (sym said)
-        (later_fault (grammar_of line) (result_over box ∷ later) (map says_step (steps ++ step ∷ []))
-        text a (after_step step ∷ later) rest c (fault.Line c) (step_read step inside follows is)
+        (leaves_later (Stands line) opens (result_over box ∷ later)
+        (map says_step (steps ++ step ∷ [])) text a (after_step step ∷ later) rest c c
+        (step_read step inside follows is)
         (absent (Stands line) opens (after_step step) later rest c never))
 
     -- the numbers of a `no` were the next
@@ -192,10 +191,10 @@ module _ (line : Line) (box : Box) (later : List Place) (text : List ℕ) (a : �
         → ((step : Step ℕ) → IsStepInside line step → Follows (last_of steps) step
         → bytes ≢ step_text line step)
         → ((numbers : List ℕ) → AreNumbers (param_count line) numbers → bytes ≢ no_words numbers)
-        → IsFault (grammar_of line) (result_over box ∷ later) text a (fault.Line b)
+        → LeavesAt (Stands line) opens (result_over box ∷ later) text a b
     refused_here first fresh none steps_none numbers_none =
-        later_fault (grammar_of line) (result_over box ∷ later) (map says_step steps) text a
-        (timing_place box (last_of steps) ∷ later) read.at b (fault.Line b) read.reads
+        leaves_later (Stands line) opens (result_over box ∷ later) (map says_step steps) text a
+        (timing_place box (last_of steps) ∷ later) read.at b b read.reads
         (refused (Stands line) opens (timing_place box (last_of steps)) later read.at bytes rest b
         read.next
         (not_timing line box (last_of steps) first bytes fresh none steps_none numbers_none))

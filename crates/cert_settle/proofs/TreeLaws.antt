@@ -4,8 +4,9 @@ use Rattle.std.proofs.Common.{◌∙◌, ap}
 use Rattle.std.proofs.Common.{subst, arith, append_assoc}
 use Rattle.std.proofs.lemmas.List.{map-append}
 use Rattle.model_line.specs.declared.line.Line.{Line}
-use Rattle.model_settle.specs.CaseTrees.{CaseTree, Yes, Undecided, Split, Case, lower_half}
-use Rattle.model_settle.specs.CaseTrees.{upper_half}
+use Rattle.model_settle.specs.CaseTrees.{CaseTree, Yes, Undecided, Split, Case}
+use Rattle.model_logic.specs.Boxes.{lower_half, upper_half}
+use Rattle.base_memory.specs.declared.stopped.Stopped.{Stopped}
 use Rattle.base_text.specs.declared.lines.fault.TextFault.{TextFault}
 use Rattle.base_text.specs.{lines.LineLaws.goes_then, lines.Grammar.IsFault}
 use Rattle.judge_cases.specs.declared.node.CaseNode.{CaseNode}
@@ -30,7 +31,7 @@ case_can line room root n terminal tick is may =
 
 -- below a node, what it opens is expected
 pub below_fault : (line : Line) (room : ℕ) (root : Root) (others : List Root) (n m : CaseNode)
-    (later : List Place) (text : List ℕ) (a : ℕ) (f : TextFault) → n ≡ m
+    (later : List Place) (text : List ℕ) (a : ℕ) (f : Stopped TextFault) → n ≡ m
     → IsFault (grammar_of line) (after_node room root others m ++ later) text a f
     → IsFault (grammar_of line) (after_node room root others n ++ later) text a f
 below_fault line room root others n m later text a f is h =

@@ -5,21 +5,22 @@ use Rattle.std.proofs.Common.{append_assoc, Option, None, Some}
 use Rattle.std.proofs.Math.Seq.{drop-append_seam}
 use Rattle.std.proofs.lemmas.List.{drop-drop, get_or-drop, length-drop}
 use Rattle.std.proofs.lemmas.Option.{same_Some}
+use Rattle.base_memory.specs.{Gives.OfFault, declared.stopped.Stopped.Stopped}
+use Rattle.base_memory.specs.declared.stopped.Stopped.TheVariants as stopped
 use Rattle.model_line.specs.{declared.line.Line.Line, declared.script.Script.Script}
 use Rattle.model_history.specs.Rails.{Ends}
-use Rattle.model_settle.specs.CaseTrees.{CaseTree, Yes, Undecided, Split, Case, CanSplit}
+use Rattle.model_settle.specs.CaseTrees.{CaseTree, Yes, Undecided, Split, Case}
+use Rattle.model_logic.specs.Boxes.{CanSplit}
 use Rattle.judge_cases.specs.{declared.view.View.View, Views.view_box}
 use Rattle.judge_cases.specs.declared.node.CaseNode.{CaseNode}
 use Rattle.judge_cases.specs.declared.node.CaseNode.TheVariants as node
 use Rattle.judge_cases.specs.Trees.{Branches}
 use Rattle.judge_cases.specs.Nodes.{preorder}
-use Rattle.cert_settle.specs.declared.fault.ResultFault.{ResultFault}
-use Rattle.cert_settle.specs.declared.fault.ResultFault.TheVariants as wrong
-use Rattle.cert_settle.specs.declared.tree.Passed.{Passed}
+use Rattle.cert_settle.specs.declared.tree.{NotShown.NotShown, Passed.Passed}
 use Rattle.cert_settle.specs.CaseParts.{CasePart, Leaf, leaves, lower_of, upper_of, case_of}
 use Rattle.cert_settle.specs.CaseParts.{parts_below, IsShownOver, AreSoundOver}
 use Rattle.cert_settle.specs.FirstLeaf.{IsFirstNotShown}
-use Rattle.cert_settle.specs.Walks.{IsWalked, IsNotShownFrom, IsWalkFault, IsLeafFault}
+use Rattle.cert_settle.specs.Walks.{IsWalked, IsNotShownFrom, IsLeafFault}
 use Rattle.cert_settle.specs.Walks.{IsViewOf, CanStand}
 use Rattle.cert_settle.proofs.FirstLeafLaws.{sound_shown, not_shown_first, not_shown_second}
 
@@ -194,11 +195,12 @@ module _ (line : Line) (script : Script) (k : ℕ) where
       absurd (let some : Some (case_of part p m false, case_of part p m true) ≡ None =
       subst (λ (r : CaseNode). parts_below part r ≡ None) (sym is) below in cc)
 
-  yes_not_shown : (tree : CaseTree) (part : CasePart) (leaf : ℕ) → root_of tree ≡ node.Yes
-      → ¬ (IsShownOver line script k part) → IsNotShownFrom line script k part tree leaf leaf
-  yes_not_shown Yes part leaf is never = record {
+  yes_not_shown : (tree : CaseTree) (part : CasePart) (leaf : ℕ) (fault : NotShown)
+      → root_of tree ≡ node.Yes → fault.leaf ≡ leaf → ¬ (IsShownOver line script k part)
+      → IsNotShownFrom line script k part tree leaf fault
+  yes_not_shown Yes part leaf fault is at never = record {
     place = 0;
-    is = omega arith;
+    is = omega (arith, at);
     leaf = record {
       leaf = record { part = part; yes = true };
       at = refl;
@@ -207,21 +209,18 @@ module _ (line : Line) (script : Script) (k : ℕ) where
       before = λ i earlier lt at yes. absurd (omega (arith, lt));
     };
   }
-  yes_not_shown Undecided part leaf is never = absurd (cc)
-  yes_not_shown (Split p m first second) part leaf is never = absurd (cc)
-  yes_not_shown (Case p m first second) part leaf is never = absurd (cc)
+  yes_not_shown Undecided part leaf fault is at never = absurd (cc)
+  yes_not_shown (Split p m first second) part leaf fault is at never = absurd (cc)
+  yes_not_shown (Case p m first second) part leaf fault is at never = absurd (cc)
 
   -- what is wrong with a leaf is wrong with the tree that it is
   pub fault_leaf : (tree : CaseTree) (part : CasePart) (root : CaseNode) (leaf : ℕ)
-      (f : ResultFault) → root_of tree ≡ root → IsLeafFault line script k part root leaf f
-      → IsWalkFault line script k part tree leaf f
-  fault_leaf tree part root leaf (wrong.NotShown j n) is h = (
-    h.0,
-    subst (λ (m : ℕ). IsNotShownFrom line script k part tree leaf m) (sym h.1.0)
-        (yes_not_shown tree part leaf (is ∙ h.1.1.0) h.1.1.1),
-  )
-  fault_leaf tree part root leaf (wrong.No j fault) is h = absurd h
-  fault_leaf tree part root leaf wrong.Memory is h = tt
+      (why : Stopped NotShown) → root_of tree ≡ root
+      → OfFault (IsLeafFault line script k part root leaf) why
+      → OfFault (IsNotShownFrom line script k part tree leaf) why
+  fault_leaf tree part root leaf (stopped.Fault fault) is h =
+      yes_not_shown tree part leaf fault (is ∙ h.1.0) h.0 h.1.1
+  fault_leaf tree part root leaf stopped.Memory is h = tt
 
   -- ---- two trees
 
@@ -245,39 +244,30 @@ module _ (line : Line) (script : Script) (k : ℕ) where
       sound = two.sound script k one.sound other.sound;
     }
 
-    pub fault_first : (leaf : ℕ) (f : ResultFault)
-        → IsWalkFault line script k a two.first leaf f
-        → IsWalkFault line script k part tree leaf f
-    fault_first leaf (wrong.NotShown j n) h = (
-      h.0,
-      record {
-        place = h.1.place;
-        is = h.1.is;
-        leaf = subst (λ (l : List Leaf). IsFirstNotShown line script k l h.1.place) (sym two.leaves)
-            (not_shown_first line script k (leaves a two.first) (leaves b two.second) h.1.place
-            h.1.leaf);
-      },
-    )
-    fault_first leaf (wrong.No j fault) h = h
-    fault_first leaf wrong.Memory h = tt
+    pub fault_first : (leaf : ℕ) (why : Stopped NotShown)
+        → OfFault (IsNotShownFrom line script k a two.first leaf) why
+        → OfFault (IsNotShownFrom line script k part tree leaf) why
+    fault_first leaf (stopped.Fault fault) h = record {
+      place = h.place;
+      is = h.is;
+      leaf = subst (λ (l : List Leaf). IsFirstNotShown line script k l h.place) (sym two.leaves)
+          (not_shown_first line script k (leaves a two.first) (leaves b two.second) h.place h.leaf);
+    }
+    fault_first leaf stopped.Memory h = tt
 
-    pub fault_second : (below between : Passed) (f : ResultFault)
+    pub fault_second : (below between : Passed) (why : Stopped NotShown)
         → IsWalked line script k a two.first below between
-        → IsWalkFault line script k b two.second between.leaves f
-        → IsWalkFault line script k part tree below.leaves f
-    fault_second below between (wrong.NotShown j n) one h = (
-      h.0,
-      record {
-        place = length (leaves a two.first) + h.1.place;
-        is = omega (arith, h.1.is, one.leaves);
-        leaf = subst (λ (l : List Leaf). IsFirstNotShown line script k l (length (leaves a two.first) + h.1.place))
-            (sym two.leaves)
-            (not_shown_second line script k (leaves a two.first) (leaves b two.second) h.1.place
-            (sound_shown line script k two.first a one.sound) h.1.leaf);
-      },
-    )
-    fault_second below between (wrong.No j fault) one h = h
-    fault_second below between wrong.Memory one h = tt
+        → OfFault (IsNotShownFrom line script k b two.second between.leaves) why
+        → OfFault (IsNotShownFrom line script k part tree below.leaves) why
+    fault_second below between (stopped.Fault fault) one h = record {
+      place = length (leaves a two.first) + h.place;
+      is = omega (arith, h.is, one.leaves);
+      leaf = subst (λ (l : List Leaf). IsFirstNotShown line script k l (length (leaves a two.first) + h.place))
+          (sym two.leaves)
+          (not_shown_second line script k (leaves a two.first) (leaves b two.second) h.place
+          (sound_shown line script k two.first a one.sound) h.leaf);
+    }
+    fault_second below between stopped.Memory one h = tt
 
 -- ---- what can stand
 

@@ -15,8 +15,8 @@ use Rattle.model_line.specs.{Parameters.param_count, Fits.Fits}
 use Rattle.model_logic.specs.Choice.{Box, declared_box}
 use Rattle.model_timing.specs.{declared.step.Step.Step, Inside.IsStepInside}
 use Rattle.model_timing.specs.Timing.{comes_before, ascend}
-use Rattle.model_settle.specs.CaseTrees.{CaseTree, Yes, Undecided, Split, Case, lower_half}
-use Rattle.model_settle.specs.CaseTrees.{upper_half}
+use Rattle.model_settle.specs.CaseTrees.{CaseTree, Yes, Undecided, Split, Case}
+use Rattle.model_logic.specs.Boxes.{lower_half, upper_half}
 use Rattle.cert_claims.specs.text.Grammar.{script_text, end_text, terminal_names, no_words}
 use Rattle.base_text.specs.lines.SpacedNumbers.{numbers_text}
 use Rattle.cert_claims.specs.text.Grammar.{AreNumbers}

@@ -3,8 +3,9 @@ use Rattle.std.specs.Prelude.{◌++◌, ℕ, Bool, true, false, List, [], ◌∷
 use Rattle.model_line.specs.{declared.line.Line.Line, declared.script.Script.Script}
 use Rattle.model_logic.specs.Choice.{Box, declared_box}
 use Rattle.model_settle.specs.Assumed.{Assumption}
-use Rattle.model_settle.specs.CaseTrees.{CaseTree, Yes, Undecided, Split, Case, lower_half}
-use Rattle.model_settle.specs.CaseTrees.{upper_half, with_case, IsShownUnder, AreSound}
+use Rattle.model_settle.specs.CaseTrees.{CaseTree, Yes, Undecided, Split, Case}
+use Rattle.model_logic.specs.Boxes.{lower_half, upper_half}
+use Rattle.model_settle.specs.CaseTrees.{with_case, IsShownUnder, AreSound}
 use Rattle.judge_cases.specs.declared.node.CaseNode.{CaseNode}
 use Rattle.judge_cases.specs.declared.node.CaseNode.TheVariants as node
 

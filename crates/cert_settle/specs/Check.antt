@@ -9,7 +9,7 @@ use Rattle.cert_settle.specs.declared.fault.ResultFault.{ResultFault}
 use Rattle.cert_settle.specs.declared.fault.ResultFault.TheVariants as wrong
 use Rattle.cert_settle.specs.declared.fault.SettleFault.{SettleFault}
 use Rattle.cert_settle.specs.declared.fault.SettleFault.TheVariants.{Line as Line', NotShown}
-use Rattle.cert_settle.specs.declared.fault.SettleFault.TheVariants.{Outside, Passes, Memory}
+use Rattle.cert_settle.specs.declared.fault.SettleFault.TheVariants.{Outside, Passes}
 use Rattle.cert_settle.specs.Counts.{all_verdicts}
 use Rattle.cert_settle.specs.Results.{AreSupported, AreTold, IsFirstFault}
 
@@ -21,8 +21,8 @@ IsAccepted line scripts bytes counts =
     scripts counts
 
 -- whatever the text says of each script and terminal is so
-abbrev pub IsSound : Line → List Script → List ℕ → Type 0
-IsSound line scripts bytes =
+abbrev pub IsSoundText : Line → List Script → List ℕ → Type 0
+IsSoundText line scripts bytes =
     (parts : List (List SettleResult)) → IsSettleText line scripts parts bytes
     → EachBelow (AreTold line) scripts parts (length scripts)
 
@@ -33,8 +33,7 @@ IsScriptFault line scripts bytes i fault =
     IsFirstWrong (λ parts. IsSettleText line scripts parts bytes) (AreSupported line)
     (IsFirstFault line) scripts i fault
 
--- The first fault: the first line that leaves the grammar, else that of the first script that has
--- one. Want of memory says nothing.
+-- the first fault: the first line that leaves the grammar, else that of the first script that has one
 abbrev pub IsSettleFault : Line → List Script → List ℕ → SettleFault → Type 0
 IsSettleFault line scripts bytes (Line' n) = LeavesGrammar line scripts bytes n
 IsSettleFault line scripts bytes (NotShown i k n) =
@@ -43,7 +42,6 @@ IsSettleFault line scripts bytes (Outside i k p value) =
     IsScriptFault line scripts bytes i (wrong.No k (no.Outside p value))
 IsSettleFault line scripts bytes (Passes i k t) =
     IsScriptFault line scripts bytes i (wrong.No k (no.Passes t))
-IsSettleFault line scripts bytes Memory = Unit {0}
 
 -- ---- as the code tells the fault of a script
 
@@ -51,4 +49,3 @@ abbrev pub fault_in : ℕ → ResultFault → SettleFault
 fault_in i (wrong.NotShown k n) = NotShown i k n
 fault_in i (wrong.No k (no.Outside p value)) = Outside i k p value
 fault_in i (wrong.No k (no.Passes t)) = Passes i k t
-fault_in i wrong.Memory = Memory

@@ -4,11 +4,10 @@ use Rattle.std.specs.Prelude.{Option, None, Some, slice_get, length}
 use Rattle.std.specs.Prelude.{IsTrue}
 use Rattle.std.specs.List.{All}
 use Rattle.std.specs.declared.alloc.Global.{Global}
-use Rattle.model_line.specs.{declared.line.Line.Line, declared.script.Script.Script}
+use Rattle.model_line.specs.declared.line.Line.{Line}
 use Rattle.model_logic.specs.Choice.{Box}
 use Rattle.model_timing.specs.{declared.step.Step.Step, Inside.IsStepInside, Timing.ascend}
 use Rattle.model_settle.specs.CaseTrees.{CaseTree}
-use Rattle.base_text.specs.{declared.lines.fault.TextFault.TextFault, lines.Grammar.IsTextFault}
 use Rattle.base_text.specs.lines.Lines.{Goes, BeginsWith}
 use Rattle.judge_cases.specs.declared.node.CaseNode.{CaseNode}
 use Rattle.cert_settle.specs.declared.claim.TreeClaim.{TreeClaim}
@@ -17,11 +16,10 @@ use Rattle.judge_cases.specs.Trees.{height, branch_count, Branches}
 use Rattle.judge_cases.specs.Nodes.{preorder}
 use Rattle.cert_settle.specs.Grammar.{SettleResult, tree, fails, Place, Said, says_node}
 use Rattle.cert_settle.specs.Grammar.{says_step, Stands, opens, Root, expected, after_node}
-use Rattle.cert_settle.specs.Grammar.{result_over, after_step, script_parts, head_text}
+use Rattle.cert_settle.specs.Grammar.{result_over, after_step}
 use Rattle.cert_settle.specs.Grammar.{MayStand}
 use Rattle.judge_cases.specs.Trees.{most_branches}
 use Rattle.cert_settle.specs.Grammar.{whole_over, node_text}
-use Rattle.cert_claims.specs.text.Grammar.{end_text}
 
 -- a result as the reader answers it, and those of a script
 abbrev pub result_in : TreeClaim → SettleResult
@@ -96,11 +94,6 @@ pub record AreRead (line : Line) (box : Box) (later : List Place) (text : List �
   pub reads : GoesOn line (result_over box ∷ later) (map says_step steps) text first
       (timing_place box (last_of steps) ∷ later) at number
   pub next : BeginsWith at bytes rest
-
--- the fault of a whole text: the first line that leaves the grammar
-abbrev pub IsSettleTextFault : Line → List Script → List ℕ → TextFault → Type 0
-IsSettleTextFault line scripts bytes f =
-    IsTextFault (script_parts line) head_text scripts end_text bytes f
 
 -- no node has this line
 abbrev pub IsNoNode : Line → Box → List ℕ → Type 0

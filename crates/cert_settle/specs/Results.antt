@@ -8,7 +8,7 @@ use Rattle.cert_claims.specs.check.Firsts.{EachOf, IsWrongFirst}
 use Rattle.judge_cases.specs.declared.node.CaseNode.{CaseNode}
 use Rattle.cert_settle.specs.Grammar.{SettleResult, tree, fails}
 use Rattle.cert_settle.specs.declared.fault.ResultFault.{ResultFault}
-use Rattle.cert_settle.specs.declared.fault.ResultFault.TheVariants.{NotShown, No, Memory}
+use Rattle.cert_settle.specs.declared.fault.ResultFault.TheVariants.{NotShown, No}
 use Rattle.cert_settle.specs.{Counts.is_yes_tree, FirstLeaf.IsTreeShown}
 use Rattle.cert_settle.specs.{FirstLeaf.IsTreeNotShown, Timings.IsRefutation}
 use Rattle.cert_settle.specs.Timings.{IsNoFault}
@@ -26,17 +26,15 @@ IsSupported line script k (tree nodes) = IsTreeShown line script k nodes
 IsSupported line script k (fails steps numbers) =
     IsRefutation line script k (timing_of steps numbers)
 
--- what is wrong with a tree of terminal k: a yes leaf is not shown. Want of memory says nothing.
+-- what is wrong with a tree of terminal k: a yes leaf is not shown
 abbrev pub IsTreeFault : Line → Script → ℕ → List CaseNode → ResultFault → Type 0
 IsTreeFault line script k nodes (NotShown j n) = (j ≡ k) × IsTreeNotShown line script k nodes n
 IsTreeFault line script k nodes (No j fault) = ⊥
-IsTreeFault line script k nodes Memory = Unit {0}
 
 -- what is wrong with a `no` of terminal k, which has this timing
 abbrev pub IsFailsFault : Line → Script → ℕ → TimingValues → ResultFault → Type 0
 IsFailsFault line script k timing (NotShown j n) = ⊥
 IsFailsFault line script k timing (No j fault) = (j ≡ k) × IsNoFault line script k timing fault
-IsFailsFault line script k timing Memory = Unit {0}
 
 -- what is wrong with the result of terminal k
 abbrev pub IsFaultOf : Line → Script → ℕ → SettleResult → ResultFault → Type 0

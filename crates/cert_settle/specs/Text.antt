@@ -12,11 +12,11 @@ use Rattle.cert_settle.specs.Grammar.{SettleResult, tree, fails, head_text, tree
 use Rattle.cert_settle.specs.Grammar.{node_text, step_text}
 
 -- a split names a parameter of the line, a pair of cases a terminal, and a step a parameter
-abbrev pub IsKnown : Line → CaseNode → Type 0
-IsKnown line node.Yes = Unit {0}
-IsKnown line node.Undecided = Unit {0}
-IsKnown line (node.Split param mid) = param < param_count line
-IsKnown line (node.Case terminal tick) = terminal < terminal_count line
+abbrev pub IsNodeOfLine : Line → CaseNode → Type 0
+IsNodeOfLine line node.Yes = Unit {0}
+IsNodeOfLine line node.Undecided = Unit {0}
+IsNodeOfLine line (node.Split param mid) = param < param_count line
+IsNodeOfLine line (node.Case terminal tick) = terminal < terminal_count line
 
 abbrev pub IsKnownStep : Line → Step ℕ → Type 0
 IsKnownStep line step = step.param < param_count line

@@ -1,14 +1,14 @@
 -- A walk through the nodes of a tree, as the code does it.
 use Rattle.std.specs.Prelude.{◌≡◌, ◌+◌, ◌++◌, ℕ, List, length, Some}
 use Rattle.model_line.specs.{declared.line.Line.Line, declared.script.Script.Script}
-use Rattle.model_settle.specs.CaseTrees.{CaseTree, CanSplit, HasCases}
+use Rattle.model_settle.specs.CaseTrees.{CaseTree, HasCases}
+use Rattle.model_logic.specs.Boxes.{CanSplit}
 use Rattle.judge_cases.specs.Trees.{Branches}
 use Rattle.judge_cases.specs.{declared.node.CaseNode.CaseNode, Nodes.preorder}
 use Rattle.judge_cases.specs.declared.node.CaseNode.TheVariants as node
 use Rattle.judge_cases.specs.{declared.view.View.View, Views.Views, Views.view_box}
-use Rattle.cert_settle.specs.declared.fault.ResultFault.{ResultFault}
-use Rattle.cert_settle.specs.declared.fault.ResultFault.TheVariants as wrong
-use Rattle.cert_settle.specs.{declared.tree.Passed.Passed, FirstLeaf.IsFirstNotShown}
+use Rattle.cert_settle.specs.declared.tree.{NotShown.NotShown, Passed.Passed}
+use Rattle.cert_settle.specs.FirstLeaf.{IsFirstNotShown}
 use Rattle.cert_settle.specs.CaseParts.{CasePart, parts_below, leaves, IsShownOver}
 use Rattle.cert_settle.specs.CaseParts.{AreSoundOver}
 
@@ -48,23 +48,14 @@ pub record IsWalked (line : Line) (script : Script) (k : ℕ) (part : CasePart) 
   pub leaves : walked.leaves ≡ passed.leaves + length (leaves part tree)
   pub sound : AreSoundOver line script k part tree
 
--- a yes leaf of it is not shown, where its first leaf has number `first`
+-- this yes leaf of it is not shown, where its first leaf has number `first`
 pub record IsNotShownFrom (line : Line) (script : Script) (k : ℕ) (part : CasePart)
-    (tree : CaseTree) (first number : ℕ) : Type 0 where
+    (tree : CaseTree) (first : ℕ) (fault : NotShown) : Type 0 where
   pub place : ℕ
-  pub is : number ≡ first + place
+  pub is : fault.leaf ≡ first + place
   pub leaf : IsFirstNotShown line script k (leaves part tree) place
 
--- what stops a walk; want of memory says nothing
-abbrev pub IsWalkFault : Line → Script → ℕ → CasePart → CaseTree → ℕ → ResultFault → Type 0
-IsWalkFault line script k part tree first (wrong.NotShown j n) =
-    (j ≡ k) × IsNotShownFrom line script k part tree first n
-IsWalkFault line script k part tree first (wrong.No j fault) = ⊥
-IsWalkFault line script k part tree first wrong.Memory = Unit {0}
-
--- what stops a walk at a leaf of this number
-abbrev pub IsLeafFault : Line → Script → ℕ → CasePart → CaseNode → ℕ → ResultFault → Type 0
-IsLeafFault line script k part root leaf (wrong.NotShown j n) =
-    (j ≡ k) × ((n ≡ leaf) × ((root ≡ node.Yes) × ¬ (IsShownOver line script k part)))
-IsLeafFault line script k part root leaf (wrong.No j fault) = ⊥
-IsLeafFault line script k part root leaf wrong.Memory = Unit {0}
+-- a leaf of this number is yes and not shown
+abbrev pub IsLeafFault : Line → Script → ℕ → CasePart → CaseNode → ℕ → NotShown → Type 0
+IsLeafFault line script k part root leaf fault =
+    (fault.leaf ≡ leaf) × ((root ≡ node.Yes) × ¬ (IsShownOver line script k part))

@@ -5,7 +5,7 @@ ghost use Rattle.std.specs.List.{All};
 ghost use Rattle.base_text.specs.lines.Named.{named};
 ghost use Rattle.cert_claims.specs.{text.Grammar.no_words, text.Text.fed};
 ghost use Rattle.cert_settle.specs.Grammar.{node_text, step_text};
-ghost use Rattle.cert_settle.specs.Text.{nodes_text, steps_text, IsKnown, IsKnownStep};
+ghost use Rattle.cert_settle.specs.Text.{nodes_text, steps_text, IsNodeOfLine, IsKnownStep};
 
 use crate::branch_line::param_name_at;
 use cert_claims::text::{name_at, push_no, push_start};
@@ -29,7 +29,7 @@ fn push_number_line(text: &mut Vec<u8>, word: &[u8], name: Name, number: u32) ->
 
 // Appends the line of a node.
 fn push_node(text: &mut Vec<u8>, line: &Line, node: CaseNode) -> Result<(), Memory>
-    requires { IsKnown line.now node }
+    requires { IsNodeOfLine line.now node }
     ensures { OnOk result (text.new.items ≡ text.old.items ++ fed (node_text line.now node)) }
 {
     match node {
@@ -47,7 +47,7 @@ fn push_node(text: &mut Vec<u8>, line: &Line, node: CaseNode) -> Result<(), Memo
 
 /// Appends the lines of a tree, its nodes in preorder.
 pub(crate) fn push_nodes(text: &mut Vec<u8>, line: &Line, nodes: &[CaseNode]) -> Result<(), Memory>
-    requires { All (IsKnown line.now) nodes.now }
+    requires { All (IsNodeOfLine line.now) nodes.now }
     ensures { OnOk result (text.new.items ≡ text.old.items ++ nodes_text line.now nodes.now) }
 {
     for node in nodes {

@@ -2,18 +2,20 @@
 
 ghost use Rattle.std.specs.Prelude.{◌++◌, [], ◌∷◌, List, map, MatchResult};
 ghost use Rattle.model_logic.specs.Choice.{declared_box};
+ghost use Rattle.base_memory.specs.Gives.{OfFault};
 ghost use Rattle.base_text.specs.lines.Grammar.{Reads, IsFault};
 ghost use Rattle.cert_settle.specs.Grammar.{Place, SettleResult, result_over};
 ghost use Rattle.cert_settle.specs.Grammar.{result_said, terminal_parts, script_parts};
 ghost use Rattle.cert_settle.specs.Grammar.{grammar_of};
-ghost use Rattle.cert_settle.specs.Grammar.{IsSettleResult, IsSettleText};
-ghost use Rattle.cert_settle.specs.Reading.{IsSettleTextFault, result_in, results_in};
+ghost use Rattle.cert_settle.specs.Grammar.{IsSettleResult, IsSettleText, LeavesGrammar};
+ghost use Rattle.cert_settle.specs.Reading.{result_in, results_in};
 
 use crate::branch_line::{Limits, node_in};
 use crate::claim::TreeClaim;
 use crate::known::laws_below;
 use crate::read_timing::read_timing;
 use crate::read_tree::read_below;
+use base_memory::Stopped;
 use base_text::lines::{LineCursor, PartReader, TextFault, read_each, read_text};
 use model_line::{Line, Script, Terminal};
 use std::alloc::Global;
@@ -29,14 +31,14 @@ fn read_result(
     alloc: Global,
     line: &Line,
     lines: &mut LineCursor<'_>,
-) -> Result<TreeClaim, TextFault>
+) -> Result<TreeClaim, Stopped<TextFault>>
     ensures { (later : List Place) → MatchResult result
         (λ claim. IsSettleResult line.now (result_in claim)
         × Reads (grammar_of line.now) (result_over (declared_box line.now) ∷ [])
         (result_said (result_in claim)) later
         lines.old.rest.now lines.old.number lines.new.rest.now lines.new.number)
-        (λ fault. IsFault (grammar_of line.now) (result_over (declared_box line.now) ∷ later)
-        lines.old.rest.now lines.old.number fault) }
+        (λ why. IsFault (grammar_of line.now) (result_over (declared_box line.now) ∷ later)
+        lines.old.rest.now lines.old.number why) }
 {
     laws_below();
     let number = lines.number;
@@ -71,7 +73,7 @@ impl<'a> PartReader for TreeReader<'a> {
         alloc: Global,
         terminal: &Terminal,
         lines: &mut LineCursor<'_>,
-    ) -> Result<TreeClaim, TextFault> {
+    ) -> Result<TreeClaim, Stopped<TextFault>> {
         lines.take_named(b"tree ", terminal.name.bytes())?;
         read_result(alloc, self.line, lines)
     }
@@ -99,7 +101,7 @@ impl<'a> PartReader for ScriptReader<'a> {
         alloc: Global,
         script: &Script,
         lines: &mut LineCursor<'_>,
-    ) -> Result<Vec<TreeClaim>, TextFault> {
+    ) -> Result<Vec<TreeClaim>, Stopped<TextFault>> {
         lines.take_named(b"script ", script.name.bytes())?;
         let line = self.line;
         read_each(
@@ -119,10 +121,10 @@ pub fn read_settle_text(
     line: &Line,
     scripts: &[Script],
     bytes: &[u8],
-) -> Result<Vec<Vec<TreeClaim>>, TextFault>
+) -> Result<Vec<Vec<TreeClaim>>, Stopped<TextFault>>
     ensures { MatchResult result
         (λ parts. IsSettleText line.now scripts.now (map results_in parts.items) bytes.now)
-        (λ fault. IsSettleTextFault line.now scripts.now bytes.now fault) }
+        (OfFault (λ fault. LeavesGrammar line.now scripts.now bytes.now fault.line)) }
 {
     read_text(
         alloc,

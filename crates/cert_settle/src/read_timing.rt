@@ -12,6 +12,7 @@ ghost use Rattle.cert_settle.specs.Reading.{GoesOn, IsNoNode, last_of, result_in
 use crate::claim::TreeClaim;
 use crate::known::laws_below;
 use crate::step_line::{follows, step_in};
+use base_memory::Stopped;
 use base_text::lines::{LineCursor, TextFault};
 use cert_claims::text::read_no;
 use model_line::Line;
@@ -43,7 +44,7 @@ pub(crate) fn read_timing(
     first: &[u8],
     number: usize,
     lines: &mut LineCursor<'_>,
-) -> Result<TreeClaim, TextFault>
+) -> Result<TreeClaim, Stopped<TextFault>>
     requires { lines.old.number ≡ number + 1 }
     ensures { (box : Box) (later : List Place) (text : List ℕ) →
         BeginsWith text first.now lines.old.rest.now → IsNoNode line.now box first.now →
@@ -51,7 +52,7 @@ pub(crate) fn read_timing(
         (λ claim. IsSettleResult line.now (result_in claim)
         × GoesOn line.now (result_over box ∷ later) (result_said (result_in claim))
         text number later lines.new.rest.now lines.new.number)
-        (λ fault. IsFault (grammar_of line.now) (result_over box ∷ later) text number fault) }
+        (λ why. IsFault (grammar_of line.now) (result_over box ∷ later) text number why) }
 {
     let mut steps = Vec::new(alloc);
     let mut bytes = first;
@@ -63,6 +64,6 @@ pub(crate) fn read_timing(
     }
     match read_no(alloc, line, bytes)? {
         Some(numbers) => Ok(TreeClaim::Fails { steps, numbers }),
-        None => Err(TextFault::Line(at)),
+        None => Err(Stopped::Fault(TextFault { line: at })),
     }
 }

@@ -3,14 +3,15 @@
 ghost use Rattle.std.specs.Prelude.{◌≡◌, ◌++◌, ◌-◌, [], ◌∷◌, List, MatchResult};
 ghost use Rattle.model_line.specs.SetBounds.{SameButParams};
 ghost use Rattle.model_logic.specs.Choice.{Box, declared_box};
-ghost use Rattle.base_text.specs.lines.Grammar.{IsFault};
+ghost use Rattle.base_text.specs.{lines.Grammar.IsFault, lines.Lines.LeavesAt};
 ghost use Rattle.judge_split.specs.Parts.{IsPart};
 ghost use Rattle.cert_settle.specs.Grammar.{Place, Root, roots, says_node, MayStand, expected};
-ghost use Rattle.cert_settle.specs.Grammar.{after_node, grammar_of};
+ghost use Rattle.cert_settle.specs.Grammar.{after_node, grammar_of, Stands, opens};
 ghost use Rattle.cert_settle.specs.Reading.{GoesOn, IsBelow, IsOver, AreTwo};
 
 use crate::branch_line::{Limits, node_in};
 use crate::known::laws_below;
+use base_memory::Stopped;
 use base_text::lines::{LineCursor, TextFault};
 use judge_cases::CaseNode;
 use judge_split::{lower_part, upper_part};
@@ -33,15 +34,15 @@ fn next_node(
         (says_node node ∷ []) lines.old.rest.now lines.old.number
         (after_node limits.room (record { depth = limits.depth; box = box }) others node ++ later)
         lines.new.rest.now lines.new.number)
-        (λ fault. IsFault (grammar_of line.now)
+        (λ fault. LeavesAt (Stands line.now) opens
         (expected limits.room (record { depth = limits.depth; box = box } ∷ others) ++ later)
-        lines.old.rest.now lines.old.number fault) }
+        lines.old.rest.now lines.old.number fault.line) }
 {
     let number = lines.number;
     let bytes = lines.take_line()?;
     match node_in(line, part, limits, bytes) {
         Some(node) => Ok(node),
-        None => Err(TextFault::Line(number)),
+        None => Err(TextFault { line: number }),
     }
 }
 
@@ -55,16 +56,16 @@ fn read_tree(
     limits: Limits,
     lines: &mut LineCursor<'_>,
     nodes: &mut Vec<CaseNode>,
-) -> Result<u32, TextFault>
+) -> Result<u32, Stopped<TextFault>>
     requires { SameButParams line.now part.now }
     ensures { (box : Box) (others : List Root) (later : List Place) → IsPart line.now box part.now →
         MatchResult result
         (λ left. IsOver line.now (record { depth = limits.depth; box = box }) limits.room left
         nodes.old.items nodes.new.items others lines.old.rest.now lines.old.number later
         lines.new.rest.now lines.new.number)
-        (λ fault. IsFault (grammar_of line.now)
+        (λ why. IsFault (grammar_of line.now)
         (expected limits.room (record { depth = limits.depth; box = box } ∷ others) ++ later)
-        lines.old.rest.now lines.old.number fault) }
+        lines.old.rest.now lines.old.number why) }
 {
     laws_below();
     let node = next_node(line, part, limits, lines)?;
@@ -81,7 +82,7 @@ fn read_two(
     limits: Limits,
     lines: &mut LineCursor<'_>,
     nodes: &mut Vec<CaseNode>,
-) -> Result<u32, TextFault>
+) -> Result<u32, Stopped<TextFault>>
     requires first { SameButParams line.now first.now }
     requires second { SameButParams line.now second.now }
     ensures { (lower upper : Box) (others : List Root) (later : List Place) →
@@ -90,10 +91,10 @@ fn read_two(
         (record { depth = limits.depth; box = upper }) limits.room left
         nodes.old.items nodes.new.items others lines.old.rest.now lines.old.number later
         lines.new.rest.now lines.new.number)
-        (λ fault. IsFault (grammar_of line.now)
+        (λ why. IsFault (grammar_of line.now)
         (expected limits.room (record { depth = limits.depth; box = lower }
         ∷ (record { depth = limits.depth; box = upper } ∷ others)) ++ later)
-        lines.old.rest.now lines.old.number fault) }
+        lines.old.rest.now lines.old.number why) }
 {
     let room = read_tree(alloc, line, first, limits, lines, nodes)?;
     let depth = limits.depth;
@@ -111,7 +112,7 @@ pub(crate) fn read_below(
     root: CaseNode,
     lines: &mut LineCursor<'_>,
     nodes: &mut Vec<CaseNode>,
-) -> Result<u32, TextFault>
+) -> Result<u32, Stopped<TextFault>>
     requires part { SameButParams line.now part.now }
     requires root { MayStand line.now limits.room
         (record { depth = limits.depth; box = declared_box part.now }) root }
@@ -120,9 +121,9 @@ pub(crate) fn read_below(
         (λ left. IsBelow line.now (record { depth = limits.depth; box = box }) root limits.room left
         nodes.old.items nodes.new.items others lines.old.rest.now lines.old.number later
         lines.new.rest.now lines.new.number)
-        (λ fault. IsFault (grammar_of line.now)
+        (λ why. IsFault (grammar_of line.now)
         (after_node limits.room (record { depth = limits.depth; box = box }) others root ++ later)
-        lines.old.rest.now lines.old.number fault) }
+        lines.old.rest.now lines.old.number why) }
 {
     laws_below();
     nodes.push(root)?;

@@ -1,6 +1,7 @@
 //! The check of what is said of a script.
 
 ghost use Rattle.std.specs.Prelude.{◌<◌, map, IfOk, MatchResult};
+ghost use Rattle.base_memory.specs.Gives.{OfFault};
 ghost use Rattle.model_line.specs.{Fits.Fits, Parameters.terminal_count};
 ghost use Rattle.judge_cases.specs.Trees.{AreTree};
 ghost use Rattle.cert_settle.specs.Grammar.{IsSettleResult, HasOneEach};
@@ -13,6 +14,7 @@ use crate::claim::TreeClaim;
 use crate::fault::ResultFault;
 use crate::timing::check_timing;
 use crate::tree::{Obligation, Passed, walk};
+use base_memory::Stopped;
 use judge_cases::{CaseNode, declared_view};
 use model_line::Script;
 use model_line::laws::deadlines_are_below_the_horizon;
@@ -27,12 +29,12 @@ pub(crate) fn check_results(
     compiled: &Compiled<'_>,
     script: &Script,
     results: &[TreeClaim],
-) -> Result<(), ResultFault>
+) -> Result<(), Stopped<ResultFault>>
     requires fits { Fits compiled.now.line.now script.now }
     requires one_each { HasOneEach compiled.now.line.now (map result_in results.now) }
     ensures exact { MatchResult result
         (λ _. AreSupported compiled.now.line.now script.now (map result_in results.now))
-        (λ fault. IsFirstFault compiled.now.line.now script.now (map result_in results.now) fault) }
+        (OfFault (IsFirstFault compiled.now.line.now script.now (map result_in results.now))) }
     // What is said of each terminal is so.
     ensures told { IfOk result (λ _. AreTold compiled.now.line.now script.now
         (map result_in results.now)) }
@@ -53,13 +55,13 @@ fn check_result(
     script: &Script,
     terminal: u32,
     claim: &TreeClaim,
-) -> Result<(), ResultFault>
+) -> Result<(), Stopped<ResultFault>>
     requires fits { Fits compiled.now.line.now script.now }
     requires terminal { terminal < terminal_count compiled.now.line.now }
     requires said { IsSettleResult compiled.now.line.now (result_in claim.now) }
     ensures { MatchResult result
         (λ _. IsSupported compiled.now.line.now script.now terminal (result_in claim.now))
-        (λ fault. IsFaultOf compiled.now.line.now script.now terminal (result_in claim.now) fault) }
+        (OfFault (IsFaultOf compiled.now.line.now script.now terminal (result_in claim.now))) }
 {
     match claim {
         TreeClaim::Tree(nodes) => {
@@ -73,7 +75,7 @@ fn check_result(
         TreeClaim::Fails { steps, numbers } => {
             let (steps, numbers) = (steps.as_slice(), numbers.as_slice());
             match check_timing(alloc, compiled, script, terminal, steps, numbers)? {
-                Some(fault) => Err(ResultFault::No { terminal, fault }),
+                Some(fault) => Err(Stopped::Fault(ResultFault::No { terminal, fault })),
                 None => Ok(()),
             }
         }
@@ -81,20 +83,30 @@ fn check_result(
 }
 
 // Checks a tree over the declared box.
-fn check_tree(alloc: Global, of: &Obligation<'_>, nodes: &[CaseNode]) -> Result<(), ResultFault>
+fn check_tree(
+    alloc: Global,
+    of: &Obligation<'_>,
+    nodes: &[CaseNode],
+) -> Result<(), Stopped<ResultFault>>
     requires fits { Fits of.now.compiled.line.now of.now.script.now }
     requires terminal { of.now.terminal < terminal_count of.now.compiled.line.now }
     requires tree { AreTree of.now.compiled.line.now nodes.now }
     ensures { MatchResult result
         (λ _. IsTreeShown of.now.compiled.line.now of.now.script.now of.now.terminal nodes.now)
-        (λ fault. IsTreeFault of.now.compiled.line.now of.now.script.now of.now.terminal nodes.now
-        fault) }
+        (OfFault (IsTreeFault of.now.compiled.line.now of.now.script.now of.now.terminal
+        nodes.now)) }
 {
     let view = declared_view(alloc, of.compiled.line)?;
     let none = Passed {
         nodes: 0,
         leaves: 0,
     };
-    walk(alloc, of, &view, nodes, none)?;
-    Ok(())
+    match walk(alloc, of, &view, nodes, none) {
+        Ok(_) => Ok(()),
+        Err(Stopped::Fault(not_shown)) => Err(Stopped::Fault(ResultFault::NotShown {
+            terminal: of.terminal,
+            leaf: not_shown.leaf,
+        })),
+        Err(Stopped::Memory) => Err(Stopped::Memory),
+    }
 }

@@ -3,6 +3,7 @@
 
 ghost use Rattle.std.specs.Prelude.{◌≡◌, ◌≤◌, ◌<◌, ◌+◌, ◌++◌, ◌^◌, List, length, drop, MatchResult};
 ghost use Rattle.std.specs.Prelude.{IfOk, MatchOption, None};
+ghost use Rattle.base_memory.specs.Gives.{OfFault};
 ghost use Rattle.model_line.specs.{Fits.Fits, Parameters.terminal_count};
 ghost use Rattle.model_settle.specs.CaseTrees.{CaseTree};
 ghost use Rattle.judge_cases.specs.Views.{IsView};
@@ -10,10 +11,10 @@ ghost use Rattle.judge_cases.specs.declared.node.CaseNode.{CaseNode};
 ghost use Rattle.judge_cases.specs.Trees.{Branches};
 ghost use Rattle.judge_cases.specs.Nodes.{preorder};
 ghost use Rattle.cert_settle.specs.CaseParts.{CasePart, parts_below, IsShownOver};
-ghost use Rattle.cert_settle.specs.Walks.{BeginWithTree, IsWalked, IsWalkFault, IsLeafFault};
+ghost use Rattle.cert_settle.specs.Walks.{BeginWithTree, IsWalked, IsLeafFault, IsNotShownFrom};
 ghost use Rattle.cert_settle.specs.Walks.{IsViewOf, CanStand, AreViewsBelow};
 
-use crate::fault::ResultFault;
+use base_memory::Stopped;
 use judge_cases::{CaseNode, View, case_view, is_shown, lower_view, upper_view};
 use model_line::laws::deadlines_are_below_the_horizon;
 use model_line::{Line, Memory, Script};
@@ -25,6 +26,12 @@ use std::alloc::Global;
 pub(crate) struct Passed {
     pub nodes: usize,
     pub leaves: u32,
+}
+
+/// The number of a yes leaf that is not shown.
+#[derive(Clone, Copy, Drop)]
+pub(crate) struct NotShown {
+    pub leaf: u32,
 }
 
 /// An obligation: a script at a terminal of a line, and the line's net.
@@ -43,7 +50,7 @@ pub(crate) fn walk(
     view: &View,
     nodes: &[CaseNode],
     passed: Passed,
-) -> Result<Passed, ResultFault>
+) -> Result<Passed, Stopped<NotShown>>
     requires fits { Fits of.now.compiled.line.now of.now.script.now }
     requires terminal { of.now.terminal < terminal_count of.now.compiled.line.now }
     requires few { length nodes.now < 2 ^ 32 }
@@ -55,8 +62,8 @@ pub(crate) fn walk(
         drop passed.nodes nodes.now ≡ preorder tree ++ after → MatchResult result
         (λ walked. IsWalked of.now.compiled.line.now of.now.script.now of.now.terminal part tree
         passed walked)
-        (λ fault. IsWalkFault of.now.compiled.line.now of.now.script.now of.now.terminal
-        part tree passed.leaves fault) }
+        (OfFault (IsNotShownFrom of.now.compiled.line.now of.now.script.now of.now.terminal
+        part tree passed.leaves)) }
 {
     let root = nodes[passed.nodes];
     let Some((first, second)) = views_below(alloc, of.compiled.line, view, root)? else {
@@ -126,7 +133,7 @@ fn check_leaf(
     view: &View,
     root: CaseNode,
     leaf: u32,
-) -> Result<(), ResultFault>
+) -> Result<(), Stopped<NotShown>>
     requires fits { Fits of.now.compiled.line.now of.now.script.now }
     requires terminal { of.now.terminal < terminal_count of.now.compiled.line.now }
     requires view { (part : CasePart) × IsViewOf of.now.compiled.line.now part view.now }
@@ -134,17 +141,16 @@ fn check_leaf(
         result
         (λ _. root ≡ CaseNode.Yes → IsShownOver of.now.compiled.line.now of.now.script.now
         of.now.terminal part)
-        (λ fault. IsLeafFault of.now.compiled.line.now of.now.script.now of.now.terminal part root
-        leaf fault) }
+        (OfFault (IsLeafFault of.now.compiled.line.now of.now.script.now of.now.terminal part root
+        leaf)) }
 {
     deadlines_are_below_the_horizon();
     if root != CaseNode::Yes {
         return Ok(());
     }
-    let terminal = of.terminal;
-    if is_shown(alloc, &of.compiled, of.script, terminal, view)? {
+    if is_shown(alloc, &of.compiled, of.script, of.terminal, view)? {
         Ok(())
     } else {
-        Err(ResultFault::NotShown { terminal, leaf })
+        Err(Stopped::Fault(NotShown { leaf }))
     }
 }

@@ -2,11 +2,12 @@
 
 ghost use Rattle.std.specs.Prelude.{◌≡◌, ◌≤◌, ℕ, List, length, map, IfOk, MatchResult};
 ghost use Rattle.std.specs.List.{All};
+ghost use Rattle.base_memory.specs.Gives.{OfFault};
 ghost use Rattle.model_line.specs.Fits.{Fits};
 ghost use Rattle.cert_claims.specs.check.Scripts.{EachBelow};
 ghost use Rattle.cert_settle.specs.Grammar.{HasOneEach, IsSettleText};
-ghost use Rattle.cert_settle.specs.Reading.{results_in, IsSettleTextFault};
-ghost use Rattle.cert_settle.specs.Check.{IsAccepted, IsSettleFault, IsSound};
+ghost use Rattle.cert_settle.specs.Reading.{results_in};
+ghost use Rattle.cert_settle.specs.Check.{IsAccepted, IsSettleFault, IsSoundText};
 ghost use Rattle.cert_settle.specs.Results.{AreTold};
 
 use crate::claim::TreeClaim;
@@ -15,9 +16,9 @@ use crate::fault::{SettleFault, in_script};
 use crate::laws::a_settle_text_has_one_meaning;
 use crate::read::read_settle_text;
 use crate::result::check_results;
-use base_text::lines::TextFault;
+use base_memory::Stopped;
 use cert_claims::check::Counts;
-use model_line::{Line, Script};
+use model_line::Script;
 use net_gates::Compiled;
 use std::alloc::Global;
 
@@ -30,31 +31,21 @@ pub fn check_settle(
     compiled: &Compiled<'_>,
     scripts: &[Script],
     cert: &[u8],
-) -> Result<Counts, SettleFault>
+) -> Result<Counts, Stopped<SettleFault>>
     requires fits { All (Fits compiled.now.line.now) scripts.now }
     requires few { length scripts.now ≤ 64 }
     ensures exact { MatchResult result
         (λ counts. IsAccepted compiled.now.line.now scripts.now cert.now counts)
-        (λ fault. IsSettleFault compiled.now.line.now scripts.now cert.now fault) }
+        (OfFault (IsSettleFault compiled.now.line.now scripts.now cert.now)) }
     // Whatever the trees are: each history of each choice inside meets an obligation whose tree has
     // yes leaves alone; the timing of a `no` is inside, and its history fails it.
-    ensures sound { IfOk result (λ _. IsSound compiled.now.line.now scripts.now cert.now) }
+    ensures sound { IfOk result (λ _. IsSoundText compiled.now.line.now scripts.now cert.now) }
 {
     a_settle_text_has_one_meaning();
     match read_settle_text(alloc, compiled.line, scripts, cert) {
         Ok(parts) => check_scripts(alloc, compiled, scripts, parts.as_slice()),
-        Err(fault) => Err(of_text(compiled.line, scripts, cert, fault)),
-    }
-}
-
-// The fault of the text.
-fn of_text(line: &Line, scripts: &[Script], cert: &[u8], fault: TextFault) -> SettleFault
-    requires { IsSettleTextFault line.now scripts.now cert.now fault }
-    ensures { IsSettleFault line.now scripts.now cert.now result }
-{
-    match fault {
-        TextFault::Line(number) => SettleFault::Line(number),
-        TextFault::Memory => SettleFault::Memory,
+        Err(Stopped::Fault(fault)) => Err(Stopped::Fault(SettleFault::Line(fault.line))),
+        Err(Stopped::Memory) => Err(Stopped::Memory),
     }
 }
 
@@ -64,7 +55,7 @@ fn check_scripts(
     compiled: &Compiled<'_>,
     scripts: &[Script],
     parts: &[Vec<TreeClaim>],
-) -> Result<Counts, SettleFault>
+) -> Result<Counts, Stopped<SettleFault>>
     requires fits { All (Fits compiled.now.line.now) scripts.now }
     requires few { length scripts.now ≤ 64 }
     requires many { length parts.now ≡ length scripts.now }
@@ -73,13 +64,15 @@ fn check_scripts(
         IsSettleText compiled.now.line.now scripts.now (map results_in parts.now) bytes →
         MatchResult result
         (λ counts. IsAccepted compiled.now.line.now scripts.now bytes counts)
-        (λ fault. IsSettleFault compiled.now.line.now scripts.now bytes fault) }
+        (OfFault (IsSettleFault compiled.now.line.now scripts.now bytes)) }
     ensures told { IfOk result (λ _. EachBelow (AreTold compiled.now.line.now) scripts.now
         (map results_in parts.now) (length scripts.now)) }
 {
     for i in 0..scripts.len() {
-        if let Err(fault) = check_results(alloc, compiled, &scripts[i], parts[i].as_slice()) {
-            return Err(in_script(i as u32, fault));
+        match check_results(alloc, compiled, &scripts[i], parts[i].as_slice()) {
+            Ok(()) => {}
+            Err(Stopped::Fault(fault)) => return Err(Stopped::Fault(in_script(i as u32, fault))),
+            Err(Stopped::Memory) => return Err(Stopped::Memory),
         }
     }
     Ok(counts_of(parts))

@@ -4,7 +4,7 @@ ghost use Rattle.std.specs.Prelude.{◌≡◌, ◌≤◌, ◌<◌, ◌==◌, IfS
 ghost use Rattle.std.specs.List.{list_all};
 ghost use Rattle.model_line.specs.Parameters.{declared_ends};
 ghost use Rattle.judge_margins.specs.{map.Axes.IsAxis, map.Axes.IsSecond, map.Axes.count_along, map.Axes.rows_of};
-ghost use Rattle.judge_margins.specs.map.Placed.{AreParams};
+ghost use Rattle.judge_margins.specs.map.Placed.{AreOfLine};
 ghost use Rattle.draw_map.specs.Beyond.{least_if as least_if_of, least_of};
 ghost use Rattle.draw_map.specs.Beyond.{number_by as number_by_of, number_of as number_for};
 ghost use Rattle.draw_map.specs.Beyond.{row_of as row_for};
@@ -14,7 +14,7 @@ use model_line::Line;
 
 /// The least end that is declared of each of these parameters, if it is one.
 pub fn least(line: &Line, params: &[u32]) -> Option<u32>
-    requires { AreParams line.now params.now }
+    requires { AreOfLine line.now params.now }
     ensures is { result ≡ least_of line.now params.now }
     ensures few { IfSome result (λ least. least ≤ 4000) }
 {
@@ -29,7 +29,7 @@ pub fn least(line: &Line, params: &[u32]) -> Option<u32>
 
 // This number, if it is the least end of each of these parameters.
 fn least_if(line: &Line, params: &[u32], least: u32) -> Option<u32>
-    requires exist { AreParams line.now params.now }
+    requires exist { AreOfLine line.now params.now }
     requires least { least ≤ 4000 }
     ensures is { result ≡ least_if_of line.now params.now least }
     ensures few { IfSome result (λ least. least ≤ 4000) }
@@ -43,7 +43,7 @@ fn least_if(line: &Line, params: &[u32], least: u32) -> Option<u32>
 
 // Whether this is the least end of each.
 fn all_at(line: &Line, params: &[u32], least: u32) -> bool
-    requires { AreParams line.now params.now }
+    requires { AreOfLine line.now params.now }
     ensures { result ≡ list_all (λ p. (declared_ends line.now p).least == least) params.now }
 {
     match params {

@@ -4,7 +4,7 @@ use Rattle.std.specs.Prelude.{List, [], ◌∷◌, ◌++◌, length, map, fold}
 use Rattle.std.specs.Prelude.{Option, option_map, Result, Ok, if◌then◌else◌}
 use Rattle.std.specs.List.{slice_get}
 use Rattle.std.specs.Option.{ok_or}
-use Rattle.base_records.specs.Gives.{◌>>=◌, passes_or}
+use Rattle.base_memory.specs.Gives.{◌>>=◌, passes_or}
 use Rattle.file_comtrade.specs.ConfigLines.{Counts, counts_in, factor_in, form_in, id_in, moment_in}
 use Rattle.file_comtrade.specs.ConfigLines.{natural_in, order_of, rate_in, revision_in, unit_in}
 use Rattle.file_comtrade.specs.{Steps.steps, Text.fields_of, Text.lines_of}

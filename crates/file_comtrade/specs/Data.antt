@@ -4,7 +4,8 @@ use Rattle.std.specs.Prelude.{nat_le, List, [], ◌∷◌, ◌++◌, length, dro
 use Rattle.std.specs.Prelude.{Option, Some, None, Ok, if◌then◌else◌}
 use Rattle.std.specs.List.{slice_get, list_all, before_first}
 use Rattle.std.specs.Option.{ok_or}
-use Rattle.base_records.specs.{Fields.is_empty, Gives.◌>>=◌, Gives.passes_or}
+use Rattle.base_memory.specs.Gives.{◌>>=◌, passes_or}
+use Rattle.base_records.specs.Fields.{is_empty}
 use Rattle.file_comtrade.specs.{Config.ConfigValues, Steps.steps, Text.lines_of, Text.trimmed}
 use Rattle.file_comtrade.specs.{Times.has_time, Times.time_of}
 use Rattle.file_comtrade.specs.RawSample.{Said, RawSample, chunk_at, raw_in_bytes, raw_in_line}

@@ -3,7 +3,7 @@ use Rattle.std.specs.Prelude.{◌≡◌, ◌≤◌, ◌<◌, ◌+◌, ℕ, List,
 use Rattle.std.specs.Prelude.{slice_index}
 use Rattle.std.proofs.Common.{arith, inl, inr, subst, sym, zero, suc}
 use Rattle.std.proofs.lemmas.Bool.{cases_lt}
-use Rattle.file_comtrade.specs.{Ticks.Holds}
+use Rattle.file_comtrade.specs.{Ticks.IsHolding}
 use Rattle.file_comtrade.specs.Levels.{NeverFalls}
 
 -- then an earlier sample's time is not later
@@ -30,7 +30,7 @@ never_falls times never j (suc k) upto inside = elim (cases_lt j (suc k)) [
 ]
 
 one_before : (times : List ℕ) (instant a b : ℕ) → NeverFalls times → a < b
-    → Holds times instant a → Holds times instant b → ⊥
+    → IsHolding times instant a → IsHolding times instant b → ⊥
 one_before times instant a b never less first second =
     let inside = second.inside in
     let upto = never_falls times never (a + 1) b (omega arith) inside in
@@ -39,8 +39,8 @@ one_before times instant a b never less first second =
     omega (arith, last, begun, upto)
 
 -- so one sample alone holds at an instant
-pub holds_once : (times : List ℕ) (instant i j : ℕ) → NeverFalls times → Holds times instant i
-    → Holds times instant j → i ≡ j
+pub holds_once : (times : List ℕ) (instant i j : ℕ) → NeverFalls times → IsHolding times instant i
+    → IsHolding times instant j → i ≡ j
 holds_once times instant i j never here there = elim (cases_lt i j) [
   | inl less ↦ absurd (one_before times instant i j never less here there)
   | inr more ↦ elim (cases_lt j i) [

@@ -2,8 +2,6 @@ pub mod Calendar
 pub mod Config
 pub mod ConfigLines
 pub mod Data
-pub mod DataGives
-pub mod Gives
 pub mod Levels
 pub mod LevelLaws
 pub mod Named

@@ -21,7 +21,7 @@ alone_at ids id (Some i) = if list_any (has_id id) (drop (i + 1) ids) then More 
 abbrev pub named_in : List (List ℕ) → List ℕ → Named
 named_in ids id = alone_at ids id (position (has_id id) ids)
 
-abbrev pub IsInside : ℕ → Named → Type 0
-IsInside n Nothing = Unit {0}
-IsInside n (One i) = i < n
-IsInside n More = Unit {0}
+abbrev pub IsNamedBelow : ℕ → Named → Type 0
+IsNamedBelow n Nothing = Unit {0}
+IsNamedBelow n (One i) = i < n
+IsNamedBelow n More = Unit {0}

@@ -8,7 +8,7 @@ use Rattle.std.specs.Int.{bit_at}
 use Rattle.std.specs.Option.{ok_or}
 use Rattle.std.specs.Str.{bytes_eq}
 use Rattle.byteorder.specs.Endian.{little_number}
-use Rattle.base_records.specs.Gives.{◌>>=◌, passes_or}
+use Rattle.base_memory.specs.Gives.{◌>>=◌, passes_or}
 use Rattle.file_comtrade.specs.Options as option
 use Rattle.file_comtrade.specs.{Number.natural_of, Number.whole_of, Steps.steps, Text.fields_of}
 use Rattle.file_comtrade.specs.declared.config.Form.{Form}

@@ -1,6 +1,6 @@
 -- Steps one after another, up to the first fault.
 use Rattle.std.specs.Prelude.{ℕ, zero, suc, Result, Ok}
-use Rattle.base_records.specs.Gives.{◌>>=◌}
+use Rattle.base_memory.specs.Gives.{◌>>=◌}
 
 -- what steps number 0 to n - 1 make of a start
 abbrev pub steps : {S F : Type 0} → (S → ℕ → Result S F) → S → ℕ → Result S F

@@ -3,11 +3,10 @@ use Rattle.std.specs.Prelude.{◌≡◌, ◌≤◌, ◌<◌, ◌+◌, ◌-◌, �
 use Rattle.std.specs.Prelude.{Some, None}
 use Rattle.file_comtrade.specs.declared.ticks.Ticks.{Ticks}
 use Rattle.file_comtrade.specs.declared.ticks.TickFault.{TickFault}
-use Rattle.file_comtrade.specs.declared.ticks.TickFault.TheVariants as fault
 
 -- the last sample that is not after an instant, by the samples' times; both are counted from one
 -- origin
-pub record Holds (times : List ℕ) (instant i : ℕ) : Type 0 where
+pub record IsHolding (times : List ℕ) (instant i : ℕ) : Type 0 where
   pub inside : i < length times
   pub begun : slice_index times i ≤ instant
   pub last : i + 1 < length times → instant < slice_index times (i + 1)
@@ -33,7 +32,7 @@ pub record AreAtTicks (origin : ℕ) (times : List ℕ) (ticks : Ticks) (at : Li
   pub covered : IsCovered origin times ticks
   pub many : length at ≡ ticks.count
   pub each : (t : ℕ) → t < ticks.count
-      → Holds times (instant_of ticks t - origin) (slice_index at t)
+      → IsHolding times (instant_of ticks t - origin) (slice_index at t)
 
 -- the first tick that is not before the first sample
 pub record IsFirstTick (origin : ℕ) (times : List ℕ) (ticks : Ticks) (t : ℕ) : Type 0 where
@@ -47,8 +46,8 @@ IsLastTick origin times ticks (Some t) =
     (instant_of ticks t ≤ last_instant origin times)
     × (last_instant origin times < instant_of ticks (t + 1))
 
+-- not each tick has a sample; those that have are from one to another, if any has
 abbrev pub IsTickFault : ℕ → List ℕ → Ticks → TickFault → Type 0
-IsTickFault origin times ticks (fault.Gap from to) =
-    (¬ IsCovered origin times ticks) × IsFirstTick origin times ticks from
-    × IsLastTick origin times ticks to
-IsTickFault origin times ticks fault.Memory = Unit {0}
+IsTickFault origin times ticks f =
+    (¬ IsCovered origin times ticks) × IsFirstTick origin times ticks f.from
+    × IsLastTick origin times ticks f.to

@@ -1,15 +1,17 @@
 //! One sample of ASCII data.
 
 ghost use Rattle.std.specs.Prelude.{◌≡◌, ◌<◌, [], length};
+ghost use Rattle.base_memory.specs.Gives.{Gives};
 ghost use Rattle.file_comtrade.specs.RawSample.{level_named, level_field, level_after, stamp_of};
 ghost use Rattle.file_comtrade.specs.RawSample.{numbers_in, raw_in_line};
-ghost use Rattle.file_comtrade.specs.{Steps.steps, Views.texts, Views.raw_of, DataGives.Gives};
+ghost use Rattle.file_comtrade.specs.{Steps.steps, Views.texts, Views.raw_of};
 
 use crate::fault::DataFault;
 use crate::number::{natural, whole};
 use crate::raw_sample::RawSample;
 use crate::shape::Shape;
 use crate::text::fields;
+use base_memory::Stopped;
 use base_records::is;
 use std::alloc::Global;
 
@@ -44,7 +46,7 @@ fn level_after(
     k: u32,
     levels: Vec<bool>,
     j: usize,
-) -> Result<Vec<bool>, DataFault>
+) -> Result<Vec<bool>, Stopped<DataFault>>
     requires { j < length chosen.now }
     ensures { Gives (λ v. v.items) result
         (level_after shape chosen.now (texts fields.now) k levels.items j) }
@@ -52,10 +54,10 @@ fn level_after(
     let mut levels = levels;
     let channel = chosen[j];
     let Some(level) = level_field(shape, fields, channel) else {
-        return Err(DataFault::Level {
+        return Err(Stopped::Fault(DataFault::Level {
             sample: k as usize + 1,
             channel: channel as usize + 1,
-        });
+        }));
     };
     levels.push(level)?;
     Ok(levels)
@@ -67,7 +69,7 @@ fn levels_in_fields(
     chosen: &[u32],
     fields: &[&[u8]],
     k: u32,
-) -> Result<Vec<bool>, DataFault>
+) -> Result<Vec<bool>, Stopped<DataFault>>
     ensures { Gives (λ v. v.items) result
         (steps (level_after shape chosen.now (texts fields.now) k) [] (length chosen.now)) }
 {
@@ -115,7 +117,7 @@ pub fn raw_in_line(
     chosen: &[u32],
     k: u32,
     line: &[u8],
-) -> Result<RawSample, DataFault>
+) -> Result<RawSample, Stopped<DataFault>>
     ensures { Gives raw_of result (raw_in_line shape chosen.now k line.now) }
 {
     let fields = fields(alloc, line)?;

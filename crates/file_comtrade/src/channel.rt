@@ -2,7 +2,7 @@
 
 ghost use Rattle.std.specs.Prelude.{◌≡◌, ◌<◌, length, position, IfSome};
 ghost use Rattle.std.specs.List.{list_any};
-ghost use Rattle.file_comtrade.specs.{Named.named_in, Named.is_it, Named.IsInside, Views.texts};
+ghost use Rattle.file_comtrade.specs.{Named.named_in, Named.is_it, Named.IsNamedBelow, Views.texts};
 
 use base_records::is;
 
@@ -20,7 +20,7 @@ pub enum Named {
 /// The channel with this id.
 pub fn channel_named(ids: &[&[u8]], id: &[u8]) -> Named
     ensures value { result ≡ named_in (texts ids.now) id.now }
-    ensures inside { IsInside (length ids.now) result }
+    ensures inside { IsNamedBelow (length ids.now) result }
 {
     match first_named(ids, id) {
         None => Named::Nothing,

@@ -1,15 +1,22 @@
 //! The lines of the channels.
 
 ghost use Rattle.std.specs.Prelude.{◌≡◌, ◌<◌, ◌+◌, ◌^◌, IfOk, [], length};
+ghost use Rattle.base_memory.specs.Gives.{Gives};
 ghost use Rattle.file_comtrade.specs.Config.{analog_after, digital_after};
-ghost use Rattle.file_comtrade.specs.{Steps.steps, Views.texts, Gives.Gives};
+ghost use Rattle.file_comtrade.specs.{Steps.steps, Views.texts};
 
 use crate::config_lines::{id_in, line_at};
 use crate::fault::ConfigFault;
+use base_memory::Stopped;
 use std::alloc::Global;
 
 /// The lines of the analog channels, from this index on.
-pub fn analogs(alloc: Global, lines: &[&[u8]], at: usize, count: u32) -> Result<(), ConfigFault>
+pub fn analogs(
+    alloc: Global,
+    lines: &[&[u8]],
+    at: usize,
+    count: u32,
+) -> Result<(), Stopped<ConfigFault>>
     requires { at < 2 ^ 34 }
     ensures { Gives (λ u. u) result (steps (analog_after (texts lines.now) at) tt count) }
 {
@@ -20,7 +27,12 @@ pub fn analogs(alloc: Global, lines: &[&[u8]], at: usize, count: u32) -> Result<
 }
 
 #[tactic(auto, unfolding(crate::specs::Config::analog_after))]
-fn analog_after(alloc: Global, lines: &[&[u8]], at: usize, k: u32) -> Result<(), ConfigFault>
+fn analog_after(
+    alloc: Global,
+    lines: &[&[u8]],
+    at: usize,
+    k: u32,
+) -> Result<(), Stopped<ConfigFault>>
     requires { at < 2 ^ 34 }
     ensures { Gives (λ u. u) result (analog_after (texts lines.now) at tt k) }
 {
@@ -28,7 +40,7 @@ fn analog_after(alloc: Global, lines: &[&[u8]], at: usize, k: u32) -> Result<(),
     if 10 <= fields.len() {
         Ok(())
     } else {
-        Err(ConfigFault::Analog(at + k as usize + 1))
+        Err(Stopped::Fault(ConfigFault::Analog(at + k as usize + 1)))
     }
 }
 
@@ -38,7 +50,7 @@ pub fn digitals<'a>(
     lines: &[&'a [u8]],
     at: usize,
     count: u32,
-) -> Result<Vec<&'a [u8]>, ConfigFault>
+) -> Result<Vec<&'a [u8]>, Stopped<ConfigFault>>
     requires { at < 2 ^ 34 }
     ensures said { Gives (λ v. texts v.items) result
         (steps (digital_after (texts lines.now) at) [] count) }
@@ -58,7 +70,7 @@ fn digital_after<'a>(
     at: usize,
     ids: Vec<&'a [u8]>,
     k: u32,
-) -> Result<Vec<&'a [u8]>, ConfigFault>
+) -> Result<Vec<&'a [u8]>, Stopped<ConfigFault>>
     requires { at < 2 ^ 34 }
     ensures said { Gives (λ v. texts v.items) result
         (digital_after (texts lines.now) at (texts ids.entry.items) k) }
@@ -67,7 +79,7 @@ fn digital_after<'a>(
     let mut ids = ids;
     let fields = line_at(alloc, lines, at + k as usize)?;
     let Some(id) = id_in(fields.as_slice()) else {
-        return Err(ConfigFault::Digital(at + k as usize + 1));
+        return Err(Stopped::Fault(ConfigFault::Digital(at + k as usize + 1)));
     };
     ids.push(id)?;
     Ok(ids)

@@ -1,18 +1,19 @@
 //! What single lines of a configuration say.
 
 ghost use Rattle.std.specs.Prelude.{◌≡◌, ◌<◌, ◌^◌, IfOk, IfSome, option_map};
+ghost use Rattle.base_memory.specs.Gives.{Gives};
 ghost use Rattle.file_comtrade.specs.Config.{line_at};
 ghost use Rattle.file_comtrade.specs.ConfigLines.{revision_named, revision_in, counted, counts_in};
 ghost use Rattle.file_comtrade.specs.ConfigLines.{id_in, rate_in, moment_in, form_named, form_in};
 ghost use Rattle.file_comtrade.specs.ConfigLines.{factor_in, natural_in, order_of, unit_by, unit_in};
 ghost use Rattle.file_comtrade.specs.Views.{texts, counts_of_channels};
-ghost use Rattle.file_comtrade.specs.Gives.{Gives};
 
 use crate::calendar::moment;
 use crate::config::{DateOrder, Form, Rate, Revision, StampUnit};
 use crate::fault::ConfigFault;
 use crate::number::{decimals, natural, scaled};
 use crate::text::fields;
+use base_memory::Stopped;
 use base_records::{is, is_nothing};
 use std::alloc::{AllocError, Global};
 
@@ -22,13 +23,13 @@ pub fn line_at<'a>(
     alloc: Global,
     lines: &[&'a [u8]],
     k: usize,
-) -> Result<Vec<&'a [u8]>, ConfigFault>
+) -> Result<Vec<&'a [u8]>, Stopped<ConfigFault>>
     requires { k < 2 ^ 40 }
     ensures { Gives (λ v. texts v.items) result (line_at (texts lines.now) k) }
 {
     match lines.get(k) {
         Some(line) => Ok(fields(alloc, line)?),
-        None => Err(ConfigFault::Absent(k + 1)),
+        None => Err(Stopped::Fault(ConfigFault::Absent(k + 1))),
     }
 }
 

@@ -1,9 +1,9 @@
 //! Reading a configuration.
 
 ghost use Rattle.std.specs.Prelude.{◌<◌, ◌-◌, ◌^◌, IfOk, length};
+ghost use Rattle.base_memory.specs.Gives.{Gives};
 ghost use Rattle.file_comtrade.specs.Config.{body_of, config_in, config_of, tail_at, values_of};
 ghost use Rattle.file_comtrade.specs.Views.{texts, counts_of_channels, tail_of};
-ghost use Rattle.file_comtrade.specs.Gives.{Gives};
 
 use crate::channel_lines::{analogs, digitals};
 use crate::config::{Config, DateOrder, Manner, Sampling};
@@ -12,6 +12,7 @@ use crate::ending::{Ending, end_at};
 use crate::fault::ConfigFault;
 use crate::rate_lines::{rate_lines, sampling_at};
 use crate::text::lines;
+use base_memory::Stopped;
 use std::alloc::Global;
 
 /// What a configuration says, or its first fault. Its dates have the order that its revision gives,
@@ -20,7 +21,7 @@ pub fn read_config(
     alloc: Global,
     text: &[u8],
     dates: Option<DateOrder>,
-) -> Result<Config<'_>, ConfigFault>
+) -> Result<Config<'_>, Stopped<ConfigFault>>
     ensures said { Gives values_of result (config_of dates text.now) }
     ensures few { IfOk result (λ c. length c.digital.items < 2 ^ 32) }
     ensures early { IfOk result (λ c. c.first < 2 ^ 80) }
@@ -35,7 +36,7 @@ fn config_in<'a>(
     alloc: Global,
     lines: &[&'a [u8]],
     dates: Option<DateOrder>,
-) -> Result<Config<'a>, ConfigFault>
+) -> Result<Config<'a>, Stopped<ConfigFault>>
     ensures said { Gives values_of result (config_in dates (texts lines.now)) }
     ensures few { IfOk result (λ c. length c.digital.items < 2 ^ 32) }
     ensures early { IfOk result (λ c. c.first < 2 ^ 80) }
@@ -43,11 +44,11 @@ fn config_in<'a>(
 {
     let head = line_at(alloc, lines, 0)?;
     let Some(revision) = revision_in(head.as_slice()) else {
-        return Err(ConfigFault::BadRevision);
+        return Err(Stopped::Fault(ConfigFault::BadRevision));
     };
     let second = line_at(alloc, lines, 1)?;
     let Some(channels) = counts_in(second.as_slice()) else {
-        return Err(ConfigFault::Counts);
+        return Err(Stopped::Fault(ConfigFault::Counts));
     };
     let order = order_of(dates, revision);
     body(alloc, Manner { revision, order }, channels, lines)
@@ -59,7 +60,7 @@ fn body<'a>(
     manner: Manner,
     channels: Channels,
     lines: &[&'a [u8]],
-) -> Result<Config<'a>, ConfigFault>
+) -> Result<Config<'a>, Stopped<ConfigFault>>
     ensures said { Gives values_of result
         (body_of manner (counts_of_channels channels) (texts lines.now)) }
     ensures few { IfOk result (λ c. length c.digital.items < 2 ^ 32) }
@@ -90,7 +91,12 @@ struct Tail {
 }
 
 #[tactic(auto, unfolding(crate::specs::Config::tail_at))]
-fn tail_at(alloc: Global, manner: Manner, lines: &[&[u8]], at: usize) -> Result<Tail, ConfigFault>
+fn tail_at(
+    alloc: Global,
+    manner: Manner,
+    lines: &[&[u8]],
+    at: usize,
+) -> Result<Tail, Stopped<ConfigFault>>
     requires { at < 2 ^ 34 - 2 }
     ensures said { Gives tail_of result (tail_at manner (texts lines.now) at) }
     ensures early { IfOk result (λ t. t.ending.first < 2 ^ 80) }
@@ -99,10 +105,10 @@ fn tail_at(alloc: Global, manner: Manner, lines: &[&[u8]], at: usize) -> Result<
     line_at(alloc, lines, at)?;
     let row = line_at(alloc, lines, at + 1)?;
     let Some(count) = natural_in(row.as_slice()) else {
-        return Err(ConfigFault::Rates(at + 2));
+        return Err(Stopped::Fault(ConfigFault::Rates(at + 2)));
     };
     if count > 64 {
-        return Err(ConfigFault::Rates(at + 2));
+        return Err(Stopped::Fault(ConfigFault::Rates(at + 2)));
     }
     let sampling = sampling_at(alloc, lines, at + 2, count)?;
     let ending = end_at(alloc, manner, lines, at + 2 + rate_lines(count) as usize)?;

@@ -3,10 +3,11 @@
 ghost use Rattle.std.specs.Prelude.{◌≡◌, ◌<◌, ◌-◌, ◌^◌, [], IfOk, map, length};
 ghost use Rattle.std.specs.List.{list_all};
 ghost use Rattle.std.specs.Bool.{OnTrue};
+ghost use Rattle.base_memory.specs.Gives.{Gives};
 ghost use Rattle.file_comtrade.specs.Config.{values_of};
 ghost use Rattle.file_comtrade.specs.Data.{samples_of, samples_in, sample_after, follows, not_before};
 ghost use Rattle.file_comtrade.specs.Data.{is_done, last_in, shape_of, sample_lines, is_ascii};
-ghost use Rattle.file_comtrade.specs.{Steps.steps, Text.trimmed, Views.texts, DataGives.Gives};
+ghost use Rattle.file_comtrade.specs.{Steps.steps, Text.trimmed, Views.texts};
 ghost use Rattle.file_comtrade.specs.SampleViews.{sample_values, is_blank, times_in, IsAfter, OneLater};
 ghost use Rattle.file_comtrade.specs.Levels.{NeverFalls};
 
@@ -16,6 +17,7 @@ use crate::raw_sample::raw_at;
 use crate::shape::{Shape, sample_bytes};
 use crate::text::{before_byte, lines, trimmed};
 use crate::time::{has_time, time_of};
+use base_memory::Stopped;
 use std::alloc::{AllocError, Global};
 
 /// A sample of the chosen channels.
@@ -35,7 +37,7 @@ pub fn read_samples(
     config: &Config,
     chosen: &[u32],
     bytes: &[u8],
-) -> Result<Vec<Sample>, DataFault>
+) -> Result<Vec<Sample>, Stopped<DataFault>>
     requires { length config.now.digital.items < 2 ^ 32 }
     ensures said { Gives (λ v. map sample_values v.items) result
         (samples_of (values_of config.now) chosen.now bytes.now) }
@@ -66,7 +68,7 @@ fn samples_in(
     chosen: &[u32],
     lines: &[&[u8]],
     bytes: &[u8],
-) -> Result<Vec<Sample>, DataFault>
+) -> Result<Vec<Sample>, Stopped<DataFault>>
     requires { length config.now.digital.items < 2 ^ 32 }
     ensures said { Gives (λ v. map sample_values v.items) result
         (samples_in (values_of config.now) chosen.now (texts lines.now) bytes.now) }
@@ -77,7 +79,7 @@ fn samples_in(
     if is_done(config, lines, bytes) {
         Ok(samples)
     } else {
-        Err(DataFault::Surplus)
+        Err(Stopped::Fault(DataFault::Surplus))
     }
 }
 
@@ -87,7 +89,7 @@ fn all_samples(
     chosen: &[u32],
     lines: &[&[u8]],
     bytes: &[u8],
-) -> Result<Vec<Sample>, DataFault>
+) -> Result<Vec<Sample>, Stopped<DataFault>>
     requires { length config.now.digital.items < 2 ^ 32 }
     ensures many { IfOk result (λ v. length v.items ≡ config.now.sampling.samples) }
     ensures later { IfOk result (λ v. NeverFalls (times_in v.items)) }
@@ -111,7 +113,7 @@ fn sample_after(
     bytes: &[u8],
     samples: Vec<Sample>,
     k: u32,
-) -> Result<Vec<Sample>, DataFault>
+) -> Result<Vec<Sample>, Stopped<DataFault>>
     requires few { length config.now.digital.items < 2 ^ 32 }
     requires one_more { k < 2 ^ 32 - 1 }
     ensures more { IfOk result (λ v. OneLater (times_in samples.items) (times_in v.items)) }
@@ -123,16 +125,16 @@ fn sample_after(
     let shape = shape_of(config);
     let raw = raw_at(alloc, shape, chosen, lines, bytes, k)?;
     if !follows(samples.as_slice(), raw.number) {
-        return Err(DataFault::Number(k as usize + 1));
+        return Err(Stopped::Fault(DataFault::Number(k as usize + 1)));
     }
     if !has_time(config, raw.stamp) {
-        return Err(DataFault::NoStamp(k as usize + 1));
+        return Err(Stopped::Fault(DataFault::NoStamp(k as usize + 1)));
     }
     let Some(time) = time_of(config, k + 1, raw.stamp) else {
-        return Err(DataFault::TooLate(k as usize + 1));
+        return Err(Stopped::Fault(DataFault::TooLate(k as usize + 1)));
     };
     if !not_before(samples.as_slice(), time) {
-        return Err(DataFault::Earlier(k as usize + 1));
+        return Err(Stopped::Fault(DataFault::Earlier(k as usize + 1)));
     }
     samples.push(Sample {
         number: raw.number,

@@ -1,12 +1,14 @@
 //! The lines behind the rates.
 
 ghost use Rattle.std.specs.Prelude.{◌<◌, ◌^◌, IfOk};
+ghost use Rattle.base_memory.specs.Gives.{Gives};
 ghost use Rattle.file_comtrade.specs.Config.{factor_later, factor_at, end_at};
-ghost use Rattle.file_comtrade.specs.{Views.texts, Views.end_of, Gives.Gives};
+ghost use Rattle.file_comtrade.specs.{Views.texts, Views.end_of};
 
 use crate::config::{Form, Manner, Revision, StampUnit};
 use crate::config_lines::{factor_in, form_in, line_at, moment_in, unit_in};
 use crate::fault::ConfigFault;
+use base_memory::Stopped;
 use std::alloc::Global;
 
 /// What the last lines say.
@@ -24,19 +26,19 @@ pub fn end_at(
     manner: Manner,
     lines: &[&[u8]],
     at: usize,
-) -> Result<Ending, ConfigFault>
+) -> Result<Ending, Stopped<ConfigFault>>
     requires { at < 2 ^ 35 }
     ensures said { Gives end_of result (end_at manner (texts lines.now) at) }
     ensures early { IfOk result (λ e. e.first < 2 ^ 80) }
 {
     let date = line_at(alloc, lines, at)?;
     let Some(first) = moment_in(manner.order, date.as_slice()) else {
-        return Err(ConfigFault::Moment(at + 1));
+        return Err(Stopped::Fault(ConfigFault::Moment(at + 1)));
     };
     line_at(alloc, lines, at + 1)?;
     let word = line_at(alloc, lines, at + 2)?;
     let Some(form) = form_in(alloc, word.as_slice())? else {
-        return Err(ConfigFault::BadForm(at + 3));
+        return Err(Stopped::Fault(ConfigFault::BadForm(at + 3)));
     };
     let factor = factor_at(alloc, manner.revision, lines, at + 3)?;
     Ok(Ending {
@@ -52,7 +54,7 @@ fn factor_at(
     revision: Revision,
     lines: &[&[u8]],
     at: usize,
-) -> Result<u64, ConfigFault>
+) -> Result<u64, Stopped<ConfigFault>>
     requires { at < 2 ^ 36 }
     ensures { Gives (λ n. n) result (factor_at revision (texts lines.now) at) }
 {
@@ -63,13 +65,13 @@ fn factor_at(
 }
 
 #[tactic(auto, unfolding(crate::specs::Config::factor_later))]
-fn factor_later(alloc: Global, lines: &[&[u8]], at: usize) -> Result<u64, ConfigFault>
+fn factor_later(alloc: Global, lines: &[&[u8]], at: usize) -> Result<u64, Stopped<ConfigFault>>
     requires { at < 2 ^ 36 }
     ensures { Gives (λ n. n) result (factor_later (texts lines.now) at) }
 {
     let fields = line_at(alloc, lines, at)?;
     match factor_in(fields.as_slice()) {
         Some(factor) => Ok(factor),
-        None => Err(ConfigFault::Factor(at + 1)),
+        None => Err(Stopped::Fault(ConfigFault::Factor(at + 1))),
     }
 }

@@ -1,9 +1,9 @@
 //! Why a record is refused.
 
-use std::alloc::{AllocError, AllocFailed};
+use base_memory::Stopped;
 
 /// Why a configuration is refused. Lines are counted from 1.
-#[derive(Clone, Copy)]
+#[derive(Clone, Copy, Drop)]
 pub enum ConfigFault {
     /// The line is missing.
     Absent(usize),
@@ -25,34 +25,10 @@ pub enum ConfigFault {
     BadForm(usize),
     /// Not a factor of the stamps.
     Factor(usize),
-    /// Memory ran out.
-    Memory,
-}
-
-impl From<AllocError> for ConfigFault {
-    ghost use Rattle.std.specs.Prelude.{◌≡◌};
-    ghost use Rattle.file_comtrade.specs.declared.fault.ConfigFault.TheVariants as fault;
-
-    ghost from_gives = { λ _ e. e ≡ fault.Memory };
-
-    fn from(_: AllocError) -> Self {
-        ConfigFault::Memory
-    }
-}
-
-impl<T: Drop> From<AllocFailed<T>> for ConfigFault {
-    ghost use Rattle.std.specs.Prelude.{◌≡◌};
-    ghost use Rattle.file_comtrade.specs.declared.fault.ConfigFault.TheVariants as fault;
-
-    ghost from_gives = { λ _ e. e ≡ fault.Memory };
-
-    fn from(_: AllocFailed<T>) -> Self {
-        ConfigFault::Memory
-    }
 }
 
 /// Why data are refused. Samples are counted from 1.
-#[derive(Clone, Copy)]
+#[derive(Clone, Copy, Drop)]
 pub enum DataFault {
     /// The sample is missing.
     Absent(usize),
@@ -72,28 +48,15 @@ pub enum DataFault {
     TooLate(usize),
     /// The time is before that of the sample before.
     Earlier(usize),
-    /// Memory ran out.
-    Memory,
 }
 
-impl From<AllocError> for DataFault {
+impl From<DataFault> for Stopped<DataFault> {
     ghost use Rattle.std.specs.Prelude.{◌≡◌};
-    ghost use Rattle.file_comtrade.specs.declared.fault.DataFault.TheVariants as fault;
+    ghost use Rattle.base_memory.specs.declared.stopped.Stopped.TheVariants as stopped;
 
-    ghost from_gives = { λ _ e. e ≡ fault.Memory };
+    ghost from_gives = { λ fault why. why ≡ stopped.Fault fault };
 
-    fn from(_: AllocError) -> Self {
-        DataFault::Memory
-    }
-}
-
-impl<T: Drop> From<AllocFailed<T>> for DataFault {
-    ghost use Rattle.std.specs.Prelude.{◌≡◌};
-    ghost use Rattle.file_comtrade.specs.declared.fault.DataFault.TheVariants as fault;
-
-    ghost from_gives = { λ _ e. e ≡ fault.Memory };
-
-    fn from(_: AllocFailed<T>) -> Self {
-        DataFault::Memory
+    fn from(fault: DataFault) -> Self {
+        Stopped::Fault(fault)
     }
 }

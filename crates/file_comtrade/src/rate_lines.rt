@@ -1,13 +1,15 @@
 //! The lines of the rates.
 
 ghost use Rattle.std.specs.Prelude.{◌≡◌, ◌<◌, ◌^◌, IfOk, []};
+ghost use Rattle.base_memory.specs.Gives.{Gives};
 ghost use Rattle.file_comtrade.specs.Config.{rate_after, sampling_at, last_of, can_stand, rate_lines};
 ghost use Rattle.file_comtrade.specs.Config.{sampling_values};
-ghost use Rattle.file_comtrade.specs.{Steps.steps, Views.texts, Gives.Gives};
+ghost use Rattle.file_comtrade.specs.{Steps.steps, Views.texts};
 
 use crate::config::{Rate, Sampling};
 use crate::config_lines::{line_at, rate_in};
 use crate::fault::ConfigFault;
+use base_memory::Stopped;
 use std::alloc::Global;
 
 /// So many rates, in the lines from this index on.
@@ -17,7 +19,7 @@ pub fn sampling_at(
     lines: &[&[u8]],
     at: usize,
     count: u32,
-) -> Result<Sampling, ConfigFault>
+) -> Result<Sampling, Stopped<ConfigFault>>
     requires { at < 2 ^ 34 }
     ensures said { Gives sampling_values result (sampling_at (texts lines.now) at count) }
     ensures some { IfOk result (λ s. 0 < s.samples) }
@@ -34,7 +36,7 @@ fn rates(
     at: usize,
     count: u32,
     many: u32,
-) -> Result<Vec<Rate>, ConfigFault>
+) -> Result<Vec<Rate>, Stopped<ConfigFault>>
     requires at { at < 2 ^ 34 }
     requires some { 0 < many }
     ensures said { Gives (λ v. v.items) result
@@ -56,7 +58,7 @@ fn rate_after(
     count: u32,
     rates: Vec<Rate>,
     k: u32,
-) -> Result<Vec<Rate>, ConfigFault>
+) -> Result<Vec<Rate>, Stopped<ConfigFault>>
     requires { at < 2 ^ 34 }
     ensures said { Gives (λ v. v.items) result
         (rate_after (texts lines.now) at count rates.items k) }
@@ -65,13 +67,13 @@ fn rate_after(
     let mut rates = rates;
     let fields = line_at(alloc, lines, at + k as usize)?;
     let Some(rate) = rate_in(fields.as_slice()) else {
-        return Err(ConfigFault::BadRate(at + k as usize + 1));
+        return Err(Stopped::Fault(ConfigFault::BadRate(at + k as usize + 1)));
     };
     if can_stand(count, rate.microhertz) && last_of(rates.as_slice()) < rate.last {
         rates.push(rate)?;
         Ok(rates)
     } else {
-        Err(ConfigFault::BadRate(at + k as usize + 1))
+        Err(Stopped::Fault(ConfigFault::BadRate(at + k as usize + 1)))
     }
 }
 

@@ -1,13 +1,15 @@
 //! One sample of the data, as it is written.
 
+ghost use Rattle.base_memory.specs.Gives.{Gives};
 ghost use Rattle.file_comtrade.specs.Data.{raw_at};
-ghost use Rattle.file_comtrade.specs.{Views.texts, Views.raw_of, DataGives.Gives};
+ghost use Rattle.file_comtrade.specs.{Views.texts, Views.raw_of};
 
 use crate::ascii_sample::raw_in_line;
 use crate::binary_sample::{chunk_at, raw_in_bytes};
 use crate::config::Form;
 use crate::fault::DataFault;
 use crate::shape::{Shape, sample_bytes};
+use base_memory::Stopped;
 use std::alloc::Global;
 
 /// A sample as it is written.
@@ -27,13 +29,13 @@ pub fn raw_at(
     lines: &[&[u8]],
     bytes: &[u8],
     k: u32,
-) -> Result<RawSample, DataFault>
+) -> Result<RawSample, Stopped<DataFault>>
     ensures { Gives raw_of result (raw_at shape chosen.now (texts lines.now) bytes.now k) }
 {
     match shape.form {
         Form::Ascii => match lines.get(k as usize) {
             Some(line) => raw_in_line(alloc, shape, chosen, k, line),
-            None => Err(DataFault::Absent(k as usize + 1)),
+            None => Err(Stopped::Fault(DataFault::Absent(k as usize + 1))),
         },
         Form::Binary | Form::Binary32 | Form::Float32 => {
             match chunk_at(sample_bytes(shape), bytes, k as usize) {
@@ -41,7 +43,7 @@ pub fn raw_at(
                     let raw = raw_in_bytes(alloc, shape, chosen, row)?;
                     Ok(raw)
                 }
-                None => Err(DataFault::Absent(k as usize + 1)),
+                None => Err(Stopped::Fault(DataFault::Absent(k as usize + 1))),
             }
         }
     }

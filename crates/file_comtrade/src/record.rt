@@ -3,7 +3,7 @@
 use crate::config::DateOrder;
 use crate::fault::{ConfigFault, DataFault};
 use crate::ticks::TickFault;
-use std::alloc::AllocError;
+use base_memory::Stopped;
 
 /// The bytes of a record's two files.
 #[derive(Clone, Copy)]
@@ -15,7 +15,7 @@ pub struct Files<'a> {
 }
 
 /// Why a record has no levels at the ticks.
-#[derive(Clone, Copy)]
+#[derive(Clone, Copy, Drop)]
 pub enum RecordFault {
     Config(ConfigFault),
     /// No digital channel has the id.
@@ -24,50 +24,51 @@ pub enum RecordFault {
     ManyChannels,
     Data(DataFault),
     Ticks(TickFault),
-    /// Memory ran out.
-    Memory,
 }
 
-impl From<ConfigFault> for RecordFault {
+impl RecordFault {
     ghost use Rattle.std.specs.Prelude.{◌≡◌};
+    ghost use Rattle.file_comtrade.specs.Record.{seen_as};
     ghost use Rattle.file_comtrade.specs.declared.record.RecordFault.TheVariants as fault;
 
-    ghost from_gives = { λ f e. e ≡ fault.Config f };
+    /// Why a record has none, where that of its configuration is known.
+    pub fn of_config(why: Stopped<ConfigFault>) -> Stopped<RecordFault>
+        ensures { result ≡ seen_as (λ f. fault.Config f) why }
+    {
+        match why {
+            Stopped::Fault(fault) => Stopped::Fault(RecordFault::Config(fault)),
+            Stopped::Memory => Stopped::Memory,
+        }
+    }
 
-    fn from(fault: ConfigFault) -> Self {
-        RecordFault::Config(fault)
+    /// The same of its data.
+    pub fn of_data(why: Stopped<DataFault>) -> Stopped<RecordFault>
+        ensures { result ≡ seen_as (λ f. fault.Data f) why }
+    {
+        match why {
+            Stopped::Fault(fault) => Stopped::Fault(RecordFault::Data(fault)),
+            Stopped::Memory => Stopped::Memory,
+        }
+    }
+
+    /// The same of its samples at the ticks.
+    pub fn of_ticks(why: Stopped<TickFault>) -> Stopped<RecordFault>
+        ensures { result ≡ seen_as (λ f. fault.Ticks f) why }
+    {
+        match why {
+            Stopped::Fault(fault) => Stopped::Fault(RecordFault::Ticks(fault)),
+            Stopped::Memory => Stopped::Memory,
+        }
     }
 }
 
-impl From<DataFault> for RecordFault {
+impl From<RecordFault> for Stopped<RecordFault> {
     ghost use Rattle.std.specs.Prelude.{◌≡◌};
-    ghost use Rattle.file_comtrade.specs.declared.record.RecordFault.TheVariants as fault;
+    ghost use Rattle.base_memory.specs.declared.stopped.Stopped.TheVariants as stopped;
 
-    ghost from_gives = { λ f e. e ≡ fault.Data f };
+    ghost from_gives = { λ fault why. why ≡ stopped.Fault fault };
 
-    fn from(fault: DataFault) -> Self {
-        RecordFault::Data(fault)
-    }
-}
-
-impl From<TickFault> for RecordFault {
-    ghost use Rattle.std.specs.Prelude.{◌≡◌};
-    ghost use Rattle.file_comtrade.specs.declared.record.RecordFault.TheVariants as fault;
-
-    ghost from_gives = { λ f e. e ≡ fault.Ticks f };
-
-    fn from(fault: TickFault) -> Self {
-        RecordFault::Ticks(fault)
-    }
-}
-
-impl From<AllocError> for RecordFault {
-    ghost use Rattle.std.specs.Prelude.{◌≡◌};
-    ghost use Rattle.file_comtrade.specs.declared.record.RecordFault.TheVariants as fault;
-
-    ghost from_gives = { λ _ e. e ≡ fault.Memory };
-
-    fn from(_: AllocError) -> Self {
-        RecordFault::Memory
+    fn from(fault: RecordFault) -> Self {
+        Stopped::Fault(fault)
     }
 }

@@ -2,12 +2,13 @@
 
 ghost use Rattle.std.specs.Prelude.{◌≡◌, ◌<◌, ◌≤◌, ◌^◌, IfOk, MatchResult, IsTrue, ◌↔◌};
 ghost use Rattle.std.specs.Prelude.{length, map, slice_index};
-ghost use Rattle.file_comtrade.specs.Ticks.{Holds, IsCovered, AreAtTicks, IsFirstTick, IsLastTick};
+ghost use Rattle.base_memory.specs.Gives.{OfFault};
+ghost use Rattle.file_comtrade.specs.Ticks.{IsHolding, IsCovered, AreAtTicks, IsFirstTick, IsLastTick};
 ghost use Rattle.file_comtrade.specs.Ticks.{IsTickFault};
-ghost use Rattle.file_comtrade.specs.declared.ticks.TickFault.TheVariants as fault;
 
 use crate::data_reader::Sample;
-use std::alloc::{AllocError, AllocFailed, Global};
+use base_memory::{Memory, Stopped};
+use std::alloc::{AllocError, Global};
 
 /// The ticks of a play, in the recorder's clock.
 #[derive(Clone, Copy)]
@@ -19,24 +20,13 @@ pub struct Ticks {
     pub count: u32,
 }
 
-/// Why the ticks have no samples.
-#[derive(Clone, Copy)]
-pub enum TickFault {
-    /// The first tick with a sample, and the last, where there is one.
-    Gap { from: u128, to: Option<u128> },
-    /// Memory ran out.
-    Memory,
-}
-
-impl<T: Drop> From<AllocFailed<T>> for TickFault {
-    ghost use Rattle.std.specs.Prelude.{◌≡◌};
-    ghost use Rattle.file_comtrade.specs.declared.ticks.TickFault.TheVariants as fault;
-
-    ghost from_gives = { λ _ e. e ≡ fault.Memory };
-
-    fn from(_: AllocFailed<T>) -> Self {
-        TickFault::Memory
-    }
+/// Not each tick has a sample: those that have are from one to another, if any has.
+#[derive(Clone, Copy, Drop)]
+pub struct TickFault {
+    /// The first tick that is not before the first sample.
+    pub from: u128,
+    /// The last tick that is not after the last sample, if there is one.
+    pub to: Option<u128>,
 }
 
 /// The times of samples.
@@ -52,37 +42,31 @@ pub fn samples_at(
     origin: u128,
     times: &[u64],
     ticks: Ticks,
-) -> Result<Vec<usize>, TickFault>
+) -> Result<Vec<usize>, Stopped<TickFault>>
     requires early { origin < 2 ^ 100 }
     requires start { ticks.start < 2 ^ 100 }
     requires some { 0 < length times.now }
     requires ticks { 0 < ticks.count }
     requires tick { 0 < ticks.tick }
     ensures { MatchResult result (λ v. AreAtTicks origin times.now ticks v.items)
-        (λ f. IsTickFault origin times.now ticks f) }
+        (OfFault (IsTickFault origin times.now ticks)) }
 {
     if is_covered(origin, times, ticks) {
-        held_at(alloc, origin, times, ticks)
+        Ok(held_at(alloc, origin, times, ticks)?)
     } else {
-        Err(TickFault::Gap {
+        Err(Stopped::Fault(TickFault {
             from: first_tick(origin, times, ticks),
             to: last_tick(origin, times, ticks),
-        })
+        }))
     }
 }
 
 // The sample that holds at each tick, where there is one for each.
-fn held_at(
-    alloc: Global,
-    origin: u128,
-    times: &[u64],
-    ticks: Ticks,
-) -> Result<Vec<usize>, TickFault>
+fn held_at(alloc: Global, origin: u128, times: &[u64], ticks: Ticks) -> Result<Vec<usize>, Memory>
     requires start { ticks.start < 2 ^ 100 }
     requires some { 0 < length times.now }
     requires covered { IsCovered origin times.now ticks }
-    ensures { MatchResult result (λ v. AreAtTicks origin times.now ticks v.items)
-        (λ f. f ≡ fault.Memory) }
+    ensures { IfOk result (λ v. AreAtTicks origin times.now ticks v.items) }
 {
     let mut at = Vec::new(alloc);
     for t in 0..ticks.count {
@@ -138,7 +122,7 @@ fn last_tick(origin: u128, times: &[u64], ticks: Ticks) -> Option<u128>
 fn holding(times: &[u64], instant: u128) -> usize
     requires some { 0 < length times.now }
     requires begun { slice_index times.now 0 ≤ instant }
-    ensures { Holds times.now instant result }
+    ensures { IsHolding times.now instant result }
 {
     let mut low = 0;
     let mut high = times.len();

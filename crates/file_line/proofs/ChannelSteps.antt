@@ -18,7 +18,7 @@ use Rattle.file_line.specs.ChannelTables.{receiver, from_at, to_at, ends_at}
 use Rattle.file_line.specs.ChannelTables.{channel_at}
 use Rattle.file_line.specs.{Times.time_at, Times.required_times}
 use Rattle.file_line.specs.Lines.{LineValues}
-use Rattle.file_line.proofs.Binds.{bind_ok, guard_ok, same_ok}
+use Rattle.base_memory.specs.CheckLaws.{passed, refusal_passed, same_ok}
 use Rattle.file_line.proofs.TimeLaws.{IsTime, Grew, grew_one, grew_more, grew_as}
 use Rattle.file_line.proofs.TimeLaws.{any_fewest, time_ok, required_ok}
 
@@ -44,7 +44,7 @@ other_ok :
     → (o ≡ Some k) × (from ≢ k)
 other_ok path from None k e = absurd (cc)
 other_ok path from (Some n) k e =
-    let g = guard_ok (n == from) _ (Ok n) k e in
+    let g = refusal_passed (n == from) (Ok n) _ k e in
     let same : n ≡ k = (let f = g.1 in cc) in
     (ap Some same, λ equal. eqb-false n from g.0 (same ∙ sym equal))
 
@@ -54,11 +54,13 @@ pub ends_at-ok :
     → ends_at path ts before ms ≡ Ok x → AreNewEnds ts before x
 unfolding ends_at from_at to_at
 ends_at-ok path ts before ms x e =
-    let (from, from_is, e1) = bind_ok (from_at path ts ms) _ x e in
-    let (to, to_is, e2) = bind_ok (to_at path ts from ms) _ x e1 in
-    let (new, made) = guard_ok (list_any (is_pair from to) before) _ _ x e2 in
-    let (name, name_is, from_ok) = bind_ok (text_at path (codes "from") ms) _ from from_is in
-    let (other, other_is, to_ok) = bind_ok (text_at path (codes "to") ms) _ to to_is in
+    let record { value = from; was = from_is; rest = e1 } = passed (from_at path ts ms) _ x e in
+    let record { value = to; was = to_is; rest = e2 } = passed (to_at path ts from ms) _ x e1 in
+    let (new, made) = refusal_passed (list_any (is_pair from to) before) _ _ x e2 in
+    let record { value = name; was = name_is; rest = from_ok } =
+    passed (text_at path (codes "from") ms) _ from from_is in
+    let record { value = other; was = other_is; rest = to_ok } =
+    passed (text_at path (codes "to") ms) _ to to_is in
     let from_called = sender_ok _ (terminal_called ts name) from from_ok in
     let to_called = other_ok _ from (terminal_called ts other) to to_ok in
     let same : record { from = from; to = to } ≡ x = cc in
@@ -112,12 +114,15 @@ pub channel_at-ok :
     → channel_at unit path d line ≡ Ok more → IsOneMoreChannel line more
 unfolding channel_at
 channel_at-ok unit path d line more some e =
-    let (ms, ms_is, e1) = bind_ok (table_in path d) _ more e in
-    let (known, known_is, e2) = bind_ok (all_known path (channel_keys line.scheme) ms) _ more e1 in
-    let (x, x_is, e3) = bind_ok (ends_at path line.terminals line.channels ms) _ more e2 in
-    let (delay, delay_is, e4) = bind_ok (time_at path (time_key Delay) unit 1 ms) _ more e3 in
-    let (whole, whole_is, e5) =
-    bind_ok (required_times path (receiver_settings line.scheme) unit ms
+    let record { value = ms; was = ms_is; rest = e1 } = passed (table_in path d) _ more e in
+    let record { value = known; was = known_is; rest = e2 } =
+    passed (all_known path (channel_keys line.scheme) ms) _ more e1 in
+    let record { value = x; was = x_is; rest = e3 } =
+    passed (ends_at path line.terminals line.channels ms) _ more e2 in
+    let record { value = delay; was = delay_is; rest = e4 } =
+    passed (time_at path (time_key Delay) unit 1 ms) _ more e3 in
+    let record { value = whole; was = whole_is; rest = e5 } =
+    passed (required_times path (receiver_settings line.scheme) unit ms
     (line.intervals ++ delay ∷ [])) _ more e4 in
     let time = time_ok path (time_key Delay) unit 1 ms delay some delay_is in
     let grown =

@@ -5,10 +5,12 @@ use Rattle.std.proofs.lemmas.List.{drop_more}
 use Rattle.toml.specs.Data.{Data, table, Members, Items, no_items, item}
 use Rattle.toml.specs.{View.view, View.items_of, View.items_view, declared.value.Value.Value}
 use Rattle.toml.proofs.Views.{items_view-drop}
+use Rattle.base_memory.specs.Gives.{◌>>=◌}
+use Rattle.base_memory.specs.CheckLaws.{passed, same_ok}
 use Rattle.file_line.specs.declared.fault.LineFault.{LineFault}
-use Rattle.file_line.specs.{Paths.item_path, Reading.◌>>=◌, Lines.LineValues, Lines.items_at}
+use Rattle.file_line.specs.{Paths.item_path, Lines.LineValues, Lines.items_at}
 use Rattle.file_line.specs.Canonical.{tables_from}
-use Rattle.file_line.proofs.Binds.{ok_of, bind_ok, same_ok}
+use Rattle.file_line.proofs.Binds.{ok_of}
 
 module _
     (read : List ℕ → Data → LineValues → Result LineValues LineFault) (array : List ℕ) where
@@ -31,7 +33,8 @@ module _
   unfolding items_at
   items_kept Kept each i no_items line more e kept = subst Kept (same_ok line more e) kept
   items_kept Kept each i (item d ds) line more e kept =
-      let (mid, mid_is, rest) = bind_ok (read (item_path array i) d line) _ more e in
+      let record { value = mid; was = mid_is; rest = rest } =
+      passed (read (item_path array i) d line) _ more e in
       items_kept Kept each (i + 1) ds mid more rest (each _ d line mid mid_is kept)
 
 -- Printed tables are read back, where each of them is: `done k` is what is read of the first k.

@@ -1,4 +1,3 @@
-pub mod Readings
 pub mod TimesSteps
 pub mod TerminalCounts
 pub mod ItemSteps

@@ -19,7 +19,7 @@ use Rattle.file_line.specs.TerminalTables.{elements_times, permissive_times, sch
 use Rattle.file_line.specs.TerminalTables.{terminal_named, terminal_at}
 use Rattle.file_line.specs.{Keys.all_known, Keys.table_in, Keys.text_at, Lines.LineValues}
 use Rattle.file_line.specs.Times.{group_key}
-use Rattle.file_line.proofs.Binds.{bind_ok, guard_ok, same_ok}
+use Rattle.base_memory.specs.CheckLaws.{passed, refusal_passed, same_ok}
 use Rattle.file_line.proofs.TimeLaws.{IsTime, AreTimes, Grew, grew_more, grew_as}
 use Rattle.file_line.proofs.TimeLaws.{required_ok, optional_ok}
 
@@ -35,9 +35,12 @@ elements_ok :
     → elements_times path unit ms done ≡ Ok more → Grew 8 done more
 unfolding elements_times
 elements_ok path unit ms done more some e =
-    let (z1, z1_is, e1) = bind_ok (element_times path zone1_settings unit ms done) _ more e in
-    let (z2, z2_is, e2) = bind_ok (element_times path zone2_settings unit ms z1) _ more e1 in
-    let (rv, rv_is, e3) = bind_ok (element_times path reverse_settings unit ms z2) _ more e2 in
+    let record { value = z1; was = z1_is; rest = e1 } =
+    passed (element_times path zone1_settings unit ms done) _ more e in
+    let record { value = z2; was = z2_is; rest = e2 } =
+    passed (element_times path zone2_settings unit ms z1) _ more e1 in
+    let record { value = rv; was = rv_is; rest = e3 } =
+    passed (element_times path reverse_settings unit ms z2) _ more e2 in
     grew_more 6 2 done rv more
     (grew_more 4 2 done z2 rv
     (grew_more 2 2 done z1 z2 (one zone1_settings refl done z1 z1_is)
@@ -71,7 +74,7 @@ unfolding permissive_times
 permissive_ok path unit ms done more some e =
     let reversal : Option Data = get_member (group_key (guard_settings true)) ms in
     let echo : Option Data = get_member (group_key (weak_settings true)) ms in
-    let (mid, mid_is, e1) = bind_ok _ _ more e in
+    let record { value = mid; was = mid_is; rest = e1 } = passed _ _ more e in
     let g = guard_count reversal in
     let w = weak_count echo in
     grew_more (length (guard_settings (is_some reversal))) (length (weak_settings (is_some echo)))
@@ -132,9 +135,10 @@ name_ok :
     → (is_plain_name name ≡ true) × (list_any (λ t. bytes_eq t.name name) before ≡ false)
 unfolding name_at
 name_ok path before ms name e =
-    let (text, text_is, e1) = bind_ok (text_at path (codes "name") ms) _ name e in
-    let (plain, e2) = guard_ok (not (is_plain_name text)) _ _ name e1 in
-    let (new, e3) = guard_ok (list_any (λ t. bytes_eq t.name text) before) _ (Ok text) name e2 in
+    let record { value = text; was = text_is; rest = e1 } =
+    passed (text_at path (codes "name") ms) _ name e in
+    let (plain, e2) = refusal_passed (not (is_plain_name text)) _ _ name e1 in
+    let (new, e3) = refusal_passed (list_any (λ t. bytes_eq t.name text) before) (Ok text) _ name e2 in
     let same : text ≡ name = same_ok text name e3 in
     subst
     (λ n. (is_plain_name n ≡ true) × (list_any (λ t. bytes_eq t.name n) before ≡ false)) same
@@ -154,14 +158,15 @@ pub terminal_at-ok :
     → terminal_at unit path d line ≡ Ok more → IsOneMoreTerminal line more
 unfolding terminal_at
 terminal_at-ok unit path d line more some e =
-    let (ms, ms_is, e1) = bind_ok (table_in path d) _ more e in
-    let (known, known_is, e2) =
-    bind_ok (all_known path (terminal_keys line.scheme) ms) _ more e1 in
-    let (name, name_is, e3) = bind_ok (name_at path line.terminals ms) _ more e2 in
-    let (elements, elements_are, e4) =
-    bind_ok (elements_times path unit ms line.intervals) _ more e3 in
-    let (whole, whole_is, e5) =
-    bind_ok (scheme_times line.scheme path unit ms elements) _ more e4 in
+    let record { value = ms; was = ms_is; rest = e1 } = passed (table_in path d) _ more e in
+    let record { value = known; was = known_is; rest = e2 } =
+    passed (all_known path (terminal_keys line.scheme) ms) _ more e1 in
+    let record { value = name; was = name_is; rest = e3 } =
+    passed (name_at path line.terminals ms) _ more e2 in
+    let record { value = elements; was = elements_are; rest = e4 } =
+    passed (elements_times path unit ms line.intervals) _ more e3 in
+    let record { value = whole; was = whole_is; rest = e5 } =
+    passed (scheme_times line.scheme path unit ms elements) _ more e4 in
     let t : Terminal = terminal_named line.scheme ms name in
     let named = name_ok path line.terminals ms name name_is in
     record {

@@ -16,7 +16,7 @@ use Rattle.file_line.specs.Times.{in_ticks, interval_in, two_ends, ends_in, time
 use Rattle.file_line.specs.Times.{times_at, times_in, group_key, required_times, times_or}
 use Rattle.file_line.specs.Times.{optional_times}
 use Rattle.file_line.specs.{Keys.all_known, Keys.value_at, Keys.table_in}
-use Rattle.file_line.proofs.Binds.{bind_ok, taken_ok, same_ok}
+use Rattle.base_memory.specs.CheckLaws.{passed, test_passed, same_ok}
 
 -- an interval of times, the least of which is not below `fewest`
 pub record IsTime (fewest : ℕ) (b : Bounds) : Type 0 where
@@ -87,12 +87,12 @@ interval_ok :
     (path : List ℕ) (unit fewest : ℕ) (a b : ℤ) (t : Bounds) → 0 < unit
     → interval_in path unit fewest a b ≡ Ok t → IsTime fewest t
 interval_ok path unit fewest (pos a) (pos b) t some e =
-    let (tests, made) = taken_ok
+    let (tests, made) = test_passed
     (nat_le a b && (nat_le b (4000 * unit) && nat_le fewest (a / unit)))
-    _ (Ok (in_ticks unit a b)) t e in
+    (in_ticks unit a b) _ t e in
     let (ordered, more) = and_parts (nat_le a b) _ tests in
     let (within, enough) = and_parts (nat_le b (4000 * unit)) _ more in
-    subst (λ x. IsTime fewest x) (same_ok _ t made)
+    subst (λ x. IsTime fewest x) made
     (ticks_ok unit fewest a b some (leb-true a b ordered) (leb-true b (4000 * unit) within)
     (leb-true fewest (a / unit) enough))
 interval_ok path unit fewest (pos a) (negsuc b) t some e = absurd (cc)
@@ -132,7 +132,7 @@ pub time_ok :
     → time_at path key unit fewest ms ≡ Ok t → IsTime fewest t
 unfolding time_at
 time_ok path key unit fewest ms t some e =
-    let (d, d_is, made) = bind_ok (value_at path key ms) _ t e in
+    let record { value = d; was = d_is; rest = made } = passed (value_at path key ms) _ t e in
     time_in_ok (key_path path key) unit fewest d t some made
 
 -- times that are read
@@ -143,7 +143,8 @@ unfolding times_at
 times_ok path [] unit ms done more some e =
     subst (λ x. Grew 0 done x) (same_ok done more e) (grew_none done)
 times_ok path (x ∷ xs) unit ms done more some e =
-    let (t, t_is, rest) = bind_ok (time_at path (time_key x) unit 0 ms) _ more e in
+    let record { value = t; was = t_is; rest = rest } =
+    passed (time_at path (time_key x) unit 0 ms) _ more e in
     let one = grew_one done t (time_ok path (time_key x) unit 0 ms t some t_is) in
     grew_as (1 + length xs) (length (x ∷ xs)) done more (omega arith)
     (grew_more 1 (length xs) done (done ++ t ∷ []) more one
@@ -154,8 +155,9 @@ times_in_ok :
     → 0 < unit → times_in path xs unit d done ≡ Ok more → Grew (length xs) done more
 unfolding times_in
 times_in_ok path xs unit d done more some e =
-    let (ms, ms_is, e1) = bind_ok (table_in path d) _ more e in
-    let (known, known_is, e2) = bind_ok (all_known path (map time_key xs) ms) _ more e1 in
+    let record { value = ms; was = ms_is; rest = e1 } = passed (table_in path d) _ more e in
+    let record { value = known; was = known_is; rest = e2 } =
+    passed (all_known path (map time_key xs) ms) _ more e1 in
     times_ok path xs unit ms done more some e2
 
 -- those of a required table
@@ -166,7 +168,8 @@ unfolding required_times
 required_ok path [] unit ms done more some e =
     subst (λ x. Grew 0 done x) (same_ok done more e) (grew_none done)
 required_ok path (x ∷ xs) unit ms done more some e =
-    let (d, d_is, made) = bind_ok (value_at path (table_key x) ms) _ more e in
+    let record { value = d; was = d_is; rest = made } =
+    passed (value_at path (table_key x) ms) _ more e in
     times_in_ok (key_path path (table_key x)) (x ∷ xs) unit d done more some made
 
 times_or_ok :

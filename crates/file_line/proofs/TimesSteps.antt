@@ -5,8 +5,9 @@ use Rattle.std.proofs.lemmas.List.{drop_more}
 use Rattle.toml.specs.{Data.Members, View.items_view, declared.value.Value.Value}
 use Rattle.model_line.specs.{declared.bounds.Bounds.Bounds, declared.line.Setting.Setting}
 use Rattle.model_line.specs.Settings.{time_key}
+use Rattle.base_memory.specs.Gives.{◌>>=◌}
 use Rattle.file_line.specs.declared.fault.LineFault.TheVariants as fault
-use Rattle.file_line.specs.{Reading.◌>>=◌, Times.ends_in, Times.time_at, Times.times_at}
+use Rattle.file_line.specs.{Times.ends_in, Times.time_at, Times.times_at}
 
 -- an array of other than two items is no time
 pub ends_not_two :

@@ -14,7 +14,7 @@ use Rattle.model_line.specs.Channels.{AreChannelsBelow, AreFoundBelow, channels_
 use Rattle.model_line.specs.FirstPositionLaws.{is_some-position}
 use Rattle.model_line.specs.{declared.line.Terminal.Terminal, declared.line.Channel.Channel}
 use Rattle.file_line.specs.LineFiles.{two_pairs, three_pairs, pair_joined, all_joined, whole}
-use Rattle.file_line.proofs.Binds.{bind_ok, taken_ok}
+use Rattle.base_memory.specs.CheckLaws.{passed, test_passed}
 use Rattle.file_line.proofs.ChannelPairs.{pair_code, pair_code-at, codes_distinct}
 
 eqb_laws : IsEquivalence eqb
@@ -42,7 +42,7 @@ targets n = cond (n == 2) (1 ∷ 3 ∷ []) (1 ∷ 2 ∷ 3 ∷ 5 ∷ 6 ∷ 7 ∷ 
 pair_found :
     (ts : List Terminal) (cs : List Channel) (j k : ℕ) (u : Unit {0})
     → pair_joined ts cs j k ≡ Ok u → list_any (is_pair j k) cs ≡ true
-pair_found ts cs j k u e = (taken_ok (list_any (is_pair j k) cs) _ (Ok tt) u e).0
+pair_found ts cs j k u e = (test_passed (list_any (is_pair j k) cs) tt _ u e).0
 
 -- a channel from j to k has their number
 code_found :
@@ -71,8 +71,8 @@ pub record AllFound (n : ℕ) (cs : List Channel) : Type 0 where
 two_found : (ts : List Terminal) (cs : List Channel) (u : Unit {0})
     → all_joined ts cs two_pairs ≡ Ok u → AllFound 2 cs
 two_found ts cs u e =
-    let (a, a_is, e1) = bind_ok (pair_joined ts cs 0 1) _ u e in
-    let (b, b_is, e2) = bind_ok (pair_joined ts cs 1 0) _ u e1 in
+    let record { value = a; was = a_is; rest = e1 } = passed (pair_joined ts cs 0 1) _ u e in
+    let record { value = b; was = b_is; rest = e2 } = passed (pair_joined ts cs 1 0) _ u e1 in
     record { found = by_cases (pair_found ts cs 0 1 a a_is) (pair_found ts cs 1 0 b b_is) }
   where
     by_cases :
@@ -89,12 +89,12 @@ two_found ts cs u e =
 three_found : (ts : List Terminal) (cs : List Channel) (u : Unit {0})
     → all_joined ts cs three_pairs ≡ Ok u → AllFound 3 cs
 three_found ts cs u e =
-    let (a, a_is, e1) = bind_ok (pair_joined ts cs 0 1) _ u e in
-    let (b, b_is, e2) = bind_ok (pair_joined ts cs 0 2) _ u e1 in
-    let (c, c_is, e3) = bind_ok (pair_joined ts cs 1 0) _ u e2 in
-    let (d, d_is, e4) = bind_ok (pair_joined ts cs 1 2) _ u e3 in
-    let (f, f_is, e5) = bind_ok (pair_joined ts cs 2 0) _ u e4 in
-    let (g, g_is, e6) = bind_ok (pair_joined ts cs 2 1) _ u e5 in
+    let record { value = a; was = a_is; rest = e1 } = passed (pair_joined ts cs 0 1) _ u e in
+    let record { value = b; was = b_is; rest = e2 } = passed (pair_joined ts cs 0 2) _ u e1 in
+    let record { value = c; was = c_is; rest = e3 } = passed (pair_joined ts cs 1 0) _ u e2 in
+    let record { value = d; was = d_is; rest = e4 } = passed (pair_joined ts cs 1 2) _ u e3 in
+    let record { value = f; was = f_is; rest = e5 } = passed (pair_joined ts cs 2 0) _ u e4 in
+    let record { value = g; was = g_is; rest = e6 } = passed (pair_joined ts cs 2 1) _ u e5 in
     record {
       found =
           by_cases (pair_found ts cs 0 1 a a_is) (pair_found ts cs 0 2 b b_is)

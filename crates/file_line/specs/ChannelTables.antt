@@ -4,6 +4,7 @@ use Rattle.std.specs.Prelude.{Err, codes, if◌then◌else◌}
 use Rattle.std.specs.Str.{bytes_eq}
 use Rattle.std.specs.List.{list_any, position_from}
 use Rattle.toml.specs.Data.{Data, Members, Items}
+use Rattle.base_memory.specs.Gives.{◌>>=◌}
 use Rattle.model_line.specs.Settings.{time_key, receiver_settings}
 use Rattle.model_line.specs.ParamNames.{key_path}
 use Rattle.model_line.specs.{declared.line.Scheme.Scheme, declared.line.Scheme.TheVariants.Dcub}
@@ -13,7 +14,7 @@ use Rattle.file_line.specs.declared.fault.LineFault.{LineFault}
 use Rattle.file_line.specs.declared.fault.LineFault.TheVariants as fault
 use Rattle.file_line.specs.Keys.{all_known, text_at, table_in}
 use Rattle.file_line.specs.Times.{group_key, time_at, required_times}
-use Rattle.file_line.specs.{Reading.◌>>=◌, Lines.LineValues, Lines.items_at}
+use Rattle.file_line.specs.{Lines.LineValues, Lines.items_at}
 
 -- the keys of a channel
 abbrev pub channel_keys : Scheme → List (List ℕ)

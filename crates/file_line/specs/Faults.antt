@@ -12,7 +12,6 @@ fault_name (fault.Range path) = codes "Range"
 fault_name (fault.BadName path) = codes "BadName"
 fault_name (fault.Twice path) = codes "Twice"
 fault_name (fault.Channels from to) = codes "Channels"
-fault_name fault.Memory = codes "Memory"
 
 abbrev pub fault_number : LineFault → ℕ
 fault_number fault.NotToml = 1
@@ -23,4 +22,3 @@ fault_number (fault.Range path) = 5
 fault_number (fault.BadName path) = 6
 fault_number (fault.Twice path) = 7
 fault_number (fault.Channels from to) = 8
-fault_number fault.Memory = 9

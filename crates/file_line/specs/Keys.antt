@@ -6,10 +6,11 @@ use Rattle.std.specs.List.{list_any}
 use Rattle.toml.specs.Data.{Data, string, integer, boolean, array, table, Members, no_members}
 use Rattle.toml.specs.Data.{member, Items, get_member}
 use Rattle.toml.specs.Parse.{parse_document}
+use Rattle.base_memory.specs.Gives.{◌>>=◌}
 use Rattle.model_line.specs.ParamNames.{key_path}
 use Rattle.file_line.specs.declared.fault.LineFault.{LineFault}
 use Rattle.file_line.specs.declared.fault.LineFault.TheVariants as fault
-use Rattle.file_line.specs.{Paths.shown_key, Reading.◌>>=◌}
+use Rattle.file_line.specs.{Paths.shown_key}
 
 -- the table that the bytes stand for, where they are a TOML document
 abbrev pub document_of : List ℕ → Option Members

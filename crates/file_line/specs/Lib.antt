@@ -1,7 +1,6 @@
 pub mod Paths
 pub mod PathBytes
 pub mod Faults
-pub mod Reading
 pub mod Keys
 pub mod Times
 pub mod Lines

@@ -2,6 +2,7 @@
 use Rattle.std.specs.Prelude.{◌==◌, ℕ, List, [], ◌∷◌, Result, Ok, Err, length, codes, if◌then◌else◌}
 use Rattle.std.specs.List.{list_any}
 use Rattle.toml.specs.Data.{Members}
+use Rattle.base_memory.specs.Gives.{◌>>=◌}
 use Rattle.model_line.specs.{declared.line.Terminal.Terminal, declared.line.Channel.Channel}
 use Rattle.model_line.specs.{Channels.is_pair, ParamNames.name_at}
 use Rattle.file_line.specs.declared.fault.LineFault.{LineFault}
@@ -9,7 +10,7 @@ use Rattle.file_line.specs.declared.fault.LineFault.TheVariants as fault
 use Rattle.file_line.specs.Keys.{document_of, opened, all_known, number_at}
 use Rattle.file_line.specs.Lines.{LineValues, head_of, terminal_items, channel_items}
 use Rattle.file_line.specs.TerminalTables.{terminals_at}
-use Rattle.file_line.specs.{Reading.◌>>=◌, Times.units_per_tick, ChannelTables.channels_at}
+use Rattle.file_line.specs.{Times.units_per_tick, ChannelTables.channels_at}
 
 -- the keys at the top of the file
 abbrev pub top_keys : List (List ℕ)

@@ -4,13 +4,14 @@ use Rattle.std.specs.Prelude.{Some}
 use Rattle.std.specs.Prelude.{if◌then◌else◌}
 use Rattle.std.specs.Str.{bytes_eq}
 use Rattle.toml.specs.Data.{Data, Members, Items, no_items, item, get_member}
+use Rattle.base_memory.specs.Gives.{◌>>=◌}
 use Rattle.model_line.specs.declared.line.Scheme.TheVariants.{Pott, Putt, Dcb, Dcub, Dtt}
 use Rattle.model_line.specs.{declared.bounds.Bounds.Bounds, declared.line.Line.Line}
 use Rattle.model_line.specs.{declared.line.Scheme.Scheme, declared.line.Param.Param}
 use Rattle.model_line.specs.{declared.line.Terminal.Terminal, declared.line.Channel.Channel}
 use Rattle.file_line.specs.{declared.draft.Draft.Draft, declared.fault.LineFault.LineFault}
 use Rattle.file_line.specs.declared.fault.LineFault.TheVariants as fault
-use Rattle.file_line.specs.{Paths.item_path, Reading.◌>>=◌}
+use Rattle.file_line.specs.{Paths.item_path}
 use Rattle.file_line.specs.Keys.{number_at, text_at, flag_or_false, array_at}
 
 -- The values of a line, or of the part of it that was read: the intervals are those of its

@@ -4,6 +4,7 @@ use Rattle.std.specs.Prelude.{is_some, if◌then◌else◌, map}
 use Rattle.std.specs.Str.{bytes_eq}
 use Rattle.std.specs.List.{list_any}
 use Rattle.toml.specs.Data.{Data, Members, Items, get_member}
+use Rattle.base_memory.specs.Gives.{◌>>=◌}
 use Rattle.model_line.specs.declared.line.Scheme.TheVariants.{Pott, Putt, Dcb, Dcub, Dtt}
 use Rattle.model_line.specs.Settings.{zone1_settings, zone2_settings, reverse_settings}
 use Rattle.model_line.specs.Settings.{undervoltage_settings, guard_settings, weak_settings}
@@ -13,7 +14,7 @@ use Rattle.model_line.specs.{declared.bounds.Bounds.Bounds, declared.line.Termin
 use Rattle.model_line.specs.{PlainNames.is_plain_name, Terminals.has_flags, ParamNames.key_path}
 use Rattle.file_line.specs.declared.fault.LineFault.{LineFault}
 use Rattle.file_line.specs.declared.fault.LineFault.TheVariants as fault
-use Rattle.file_line.specs.{Reading.◌>>=◌, Keys.all_known, Keys.text_at, Keys.table_in}
+use Rattle.file_line.specs.{Keys.all_known, Keys.text_at, Keys.table_in}
 use Rattle.file_line.specs.Times.{group_key, optional_times, required_times}
 use Rattle.file_line.specs.Lines.{LineValues, items_at}
 

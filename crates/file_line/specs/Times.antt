@@ -3,12 +3,13 @@ use Rattle.std.specs.Prelude.{◌+◌, ◌-◌, ◌*◌, ◌/◌, ◌&&◌, ◌=
 use Rattle.std.specs.Prelude.{◌∷◌, Option, None, Some, Result, Ok, Err, if◌then◌else◌, nat_le, map}
 use Rattle.toml.specs.Data.{Data, integer, array, Members, Items, no_items, item, as_integer}
 use Rattle.toml.specs.Data.{get_member}
+use Rattle.base_memory.specs.Gives.{◌>>=◌}
 use Rattle.model_line.specs.Settings.{table_key, time_key}
 use Rattle.model_line.specs.ParamNames.{key_path}
 use Rattle.model_line.specs.{declared.bounds.Bounds.Bounds, declared.line.Setting.Setting}
 use Rattle.file_line.specs.declared.fault.LineFault.{LineFault}
 use Rattle.file_line.specs.declared.fault.LineFault.TheVariants as fault
-use Rattle.file_line.specs.{Reading.◌>>=◌, Keys.all_known, Keys.value_at, Keys.table_in}
+use Rattle.file_line.specs.{Keys.all_known, Keys.value_at, Keys.table_in}
 
 -- How many units of time a tick has: version 1 writes ticks, version 2 microseconds.
 abbrev pub units_per_tick : ℕ → ℕ → ℕ

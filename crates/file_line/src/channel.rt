@@ -3,16 +3,18 @@
 ghost use Rattle.std.specs.Prelude.{◌≡◌, ◌<◌, ◌≤◌, [], IfSome, OnOk, map, length};
 ghost use Rattle.std.specs.List.{list_any};
 ghost use Rattle.toml.specs.View.{view, table_view, items_view};
+ghost use Rattle.base_memory.specs.Gives.{Becomes};
 ghost use Rattle.model_line.specs.Channels.{is_pair};
 ghost use Rattle.file_line.specs.ChannelTables.{channel_keys, terminal_called, from_at, to_at};
 ghost use Rattle.file_line.specs.ChannelTables.{ends_at, channel_at, channels_at};
-ghost use Rattle.file_line.specs.{Reading.Becomes, Lines.values_of};
+ghost use Rattle.file_line.specs.{Lines.values_of};
 
 use crate::draft::Draft;
 use crate::fault::LineFault;
 use crate::keys::{only, table_of, text};
 use crate::path::Path;
 use crate::times::TableTimes;
+use base_memory::Stopped;
 use model_line::{Channel, Scheme, Setting, Terminal, receiver_settings};
 use toml::{Table, Value};
 
@@ -89,7 +91,12 @@ fn ends(
 
 /// The line with one more channel, from the table at the path.
 #[tactic(auto, unfolding(crate::specs::ChannelTables::channel_at))]
-pub fn channel(unit: u32, path: Path, value: &Value, line: &mut Draft) -> Result<(), LineFault>
+pub fn channel(
+    unit: u32,
+    path: Path,
+    value: &Value,
+    line: &mut Draft,
+) -> Result<(), Stopped<LineFault>>
     requires some { 0 < unit }
     requires few { unit ≤ 1000000 }
     requires path { length path ≤ 11 }
@@ -109,7 +116,7 @@ pub fn channel(unit: u32, path: Path, value: &Value, line: &mut Draft) -> Result
 }
 
 /// The line with these channels.
-pub fn channels(unit: u32, values: &[Value], line: &mut Draft) -> Result<(), LineFault>
+pub fn channels(unit: u32, values: &[Value], line: &mut Draft) -> Result<(), Stopped<LineFault>>
     requires some { 0 < unit }
     requires few { unit ≤ 1000000 }
     requires terminals { length line.old.terminals.items ≤ 3 }

@@ -1,15 +1,14 @@
 //! Why a line file is refused.
 
 ghost use Rattle.std.specs.Prelude.{◌≡◌};
-ghost use Rattle.file_line.specs.declared.fault.LineFault.TheVariants.{Memory};
 ghost use Rattle.file_line.specs.Faults.{fault_name, fault_number};
 
 use crate::path::Path;
+use base_memory::Stopped;
 use model_line::Name;
-use std::alloc::{AllocError, AllocFailed};
 use std::fmt;
 
-/// The first fault of a line file, with its place, or want of memory.
+/// The first fault of a line file, with its place.
 #[derive(Clone, Copy, Drop)]
 pub enum LineFault {
     /// The bytes are no TOML document.
@@ -28,8 +27,6 @@ pub enum LineFault {
     Twice(Path),
     /// No channel leads from the first terminal to the second.
     Channels(Name, Name),
-    /// Memory ran out.
-    Memory,
 }
 
 impl LineFault {
@@ -46,7 +43,6 @@ impl LineFault {
             LineFault::BadName(_) => "BadName",
             LineFault::Twice(_) => "Twice",
             LineFault::Channels(_, _) => "Channels",
-            LineFault::Memory => "Memory",
         }
     }
 
@@ -63,7 +59,6 @@ impl LineFault {
             LineFault::BadName(_) => 6,
             LineFault::Twice(_) => 7,
             LineFault::Channels(_, _) => 8,
-            LineFault::Memory => 9,
         }
     }
 }
@@ -72,7 +67,7 @@ impl fmt::Display for LineFault {
     fn fmt<W: fmt::Write>(&self, f: &mut fmt::Formatter<W>) -> fmt::Result {
         f.write_str(self.name())?;
         match self {
-            LineFault::NotToml | LineFault::Memory => Ok(()),
+            LineFault::NotToml => Ok(()),
             LineFault::Unknown(path)
             | LineFault::Missing(path)
             | LineFault::WrongKind(path)
@@ -96,26 +91,12 @@ fn write_bytes<W: fmt::Write>(f: &mut fmt::Formatter<W>, bytes: &[u8]) -> fmt::R
     Ok(())
 }
 
-impl From<AllocError> for LineFault {
-    ghost from_gives = { λ _ e. e ≡ Memory };
+impl From<LineFault> for Stopped<LineFault> {
+    ghost use Rattle.base_memory.specs.declared.stopped.Stopped.TheVariants as stopped;
 
-    fn from(_: AllocError) -> Self {
-        LineFault::Memory
-    }
-}
+    ghost from_gives = { λ fault why. why ≡ stopped.Fault fault };
 
-impl<T: Drop> From<AllocFailed<T>> for LineFault {
-    ghost from_gives = { λ _ e. e ≡ Memory };
-
-    fn from(_: AllocFailed<T>) -> Self {
-        LineFault::Memory
-    }
-}
-
-impl From<model_line::Memory> for LineFault {
-    ghost from_gives = { λ _ e. e ≡ Memory };
-
-    fn from(_: model_line::Memory) -> Self {
-        LineFault::Memory
+    fn from(fault: LineFault) -> Self {
+        Stopped::Fault(fault)
     }
 }

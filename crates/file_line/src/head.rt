@@ -2,7 +2,7 @@
 
 ghost use Rattle.std.specs.Prelude.{◌≡◌, ◌≤◌, [], IfOk, length};
 ghost use Rattle.toml.specs.View.{table_view, items_view};
-ghost use Rattle.file_line.specs.Reading.{seen};
+ghost use Rattle.base_memory.specs.Gives.{seen};
 ghost use Rattle.file_line.specs.Lines.{values_of, scheme_named, scheme_of, zone1_trip_of, head_of};
 ghost use Rattle.file_line.specs.Lines.{two_or_three, terminal_items, channel_items};
 

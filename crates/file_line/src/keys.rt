@@ -4,32 +4,33 @@ ghost use Rattle.std.specs.Prelude.{◌≡◌, ◌≤◌, ◌+◌, ◌++◌, IfO
 ghost use Rattle.std.specs.Str.{bytes_eq};
 ghost use Rattle.std.specs.List.{list_any};
 ghost use Rattle.toml.specs.{Data.get_member, View.view, View.table_view, View.items_view};
+ghost use Rattle.base_memory.specs.Gives.{Gives, seen};
 ghost use Rattle.model_line.specs.Settings.{time_key};
-ghost use Rattle.file_line.specs.Reading.{Gives, seen};
 ghost use Rattle.file_line.specs.Keys.{document_of, opened, first_unknown, all_known, value_at};
 ghost use Rattle.file_line.specs.Keys.{number_in, number_at, text_in, text_at, flag_or_false};
 ghost use Rattle.file_line.specs.Keys.{array_in, array_at, table_in};
 
 use crate::fault::LineFault;
 use crate::path::Path;
+use base_memory::Stopped;
 use model_line::Setting;
 use std::alloc::Global;
 use toml::{Table, Value};
 
 /// The document's table.
-pub fn open(alloc: Global, bytes: &[u8]) -> Result<Table, LineFault>
+pub fn open(alloc: Global, bytes: &[u8]) -> Result<Table, Stopped<LineFault>>
     ensures { Gives table_view result (opened (document_of bytes.now)) }
 {
     let Ok(text) = std::str::from_utf8(bytes) else {
-        return Err(LineFault::NotToml);
+        return Err(Stopped::Fault(LineFault::NotToml));
     };
     match toml::table_from_str(alloc, text) {
         Ok(table) => Ok(table),
         Err(error) => {
             if error.is_memory() {
-                return Err(LineFault::Memory);
+                return Err(Stopped::Memory);
             }
-            Err(LineFault::NotToml)
+            Err(Stopped::Fault(LineFault::NotToml))
         }
     }
 }

@@ -2,9 +2,9 @@
 
 ghost use Rattle.std.specs.Prelude.{◌≡◌, ◌<◌, ◌≤◌, [], Ok, IfOk, OnOk};
 ghost use Rattle.toml.specs.View.{table_view};
+ghost use Rattle.base_memory.specs.Gives.{Gives, Becomes};
 ghost use Rattle.model_line.specs.Making.{MakesLine};
 ghost use Rattle.file_line.specs.Lines.{line_values, values_of};
-ghost use Rattle.file_line.specs.Reading.{Gives, Becomes};
 ghost use Rattle.file_line.specs.LineFiles.{tables_in, line_in, line_of};
 
 use crate::channel::channels;
@@ -16,6 +16,7 @@ use crate::pairs::all_joined;
 use crate::path::Path;
 use crate::terminal::terminals;
 use crate::times::units;
+use base_memory::Stopped;
 use model_line::Line;
 use model_line::laws::settings_are_counted;
 use std::alloc::Global;
@@ -33,7 +34,7 @@ const TOP_KEYS: &[&str] = &[
 
 // The tables of the terminals and channels, read into a line that has its head alone.
 #[tactic(auto, unfolding(crate::specs::LineFiles::tables_in))]
-fn read_tables(unit: u32, table: &Table, line: &mut Draft) -> Result<(), LineFault>
+fn read_tables(unit: u32, table: &Table, line: &mut Draft) -> Result<(), Stopped<LineFault>>
     requires some { 0 < unit }
     requires few { unit ≤ 1000000 }
     requires no_terminal { line.old.terminals.items ≡ [] }
@@ -54,7 +55,7 @@ fn read_tables(unit: u32, table: &Table, line: &mut Draft) -> Result<(), LineFau
 }
 
 #[tactic(auto, unfolding(crate::specs::LineFiles::line_in))]
-fn read_table(alloc: Global, table: &Table) -> Result<Draft, LineFault>
+fn read_table(alloc: Global, table: &Table) -> Result<Draft, Stopped<LineFault>>
     ensures values { Gives values_of result (line_in (table_view table.now)) }
     ensures makes { IfOk result
         (λ d. MakesLine d.tick_us d.horizon d.scheme d.terminals.items d.channels.items
@@ -68,7 +69,7 @@ fn read_table(alloc: Global, table: &Table) -> Result<Draft, LineFault>
 }
 
 #[tactic(auto, unfolding(crate::specs::LineFiles::line_of))]
-fn read(alloc: Global, bytes: &[u8]) -> Result<Draft, LineFault>
+fn read(alloc: Global, bytes: &[u8]) -> Result<Draft, Stopped<LineFault>>
     ensures values { Gives values_of result (line_of bytes.now) }
     ensures makes { IfOk result
         (λ d. MakesLine d.tick_us d.horizon d.scheme d.terminals.items d.channels.items
@@ -79,7 +80,7 @@ fn read(alloc: Global, bytes: &[u8]) -> Result<Draft, LineFault>
 }
 
 // The line of what was read.
-fn made(alloc: Global, draft: Draft) -> Result<Line, LineFault>
+fn made(alloc: Global, draft: Draft) -> Result<Line, Stopped<LineFault>>
     requires { MakesLine draft.tick_us draft.horizon draft.scheme draft.terminals.items
         draft.channels.items draft.intervals.items }
     ensures { Gives line_values result (Ok (values_of draft)) }
@@ -99,9 +100,9 @@ fn made(alloc: Global, draft: Draft) -> Result<Line, LineFault>
 
 /// The line of a line file, of version 1 or 2, or the first fault of the file.
 ///
-/// `NotToml` comes where the bytes are no TOML document. Every other fault but `Memory` tells the
-/// first place in the file, in the order in which a line is read, that is not as it has to be.
-pub fn read_line(alloc: Global, bytes: &[u8]) -> Result<Line, LineFault>
+/// `NotToml` comes where the bytes are no TOML document. Every other fault tells the first place in
+/// the file, in the order in which a line is read, that is not as it has to be.
+pub fn read_line(alloc: Global, bytes: &[u8]) -> Result<Line, Stopped<LineFault>>
     ensures { Gives line_values result (line_of bytes.now) }
 {
     let draft = read(alloc, bytes)?;

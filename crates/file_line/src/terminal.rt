@@ -4,17 +4,19 @@ ghost use Rattle.std.specs.Prelude.{◌≡◌, ◌<◌, ◌≤◌, ◌+◌, OnOk
 ghost use Rattle.std.specs.Str.{bytes_eq};
 ghost use Rattle.std.specs.List.{list_any};
 ghost use Rattle.toml.specs.View.{view, table_view, items_view};
+ghost use Rattle.base_memory.specs.Gives.{Becomes};
 ghost use Rattle.model_line.specs.Terminals.{has_flags};
 ghost use Rattle.file_line.specs.TerminalTables.{terminal_keys, name_in, name_at, element_times};
 ghost use Rattle.file_line.specs.TerminalTables.{elements_times, permissive_times, scheme_times};
 ghost use Rattle.file_line.specs.TerminalTables.{terminal_named, terminal_at, terminals_at};
-ghost use Rattle.file_line.specs.{Reading.Becomes, Lines.values_of};
+ghost use Rattle.file_line.specs.{Lines.values_of};
 
 use crate::draft::Draft;
 use crate::fault::LineFault;
 use crate::keys::{find, only, table_of, text};
 use crate::path::Path;
 use crate::times::{TableTimes, group_key};
+use base_memory::Stopped;
 use model_line::{
     Bounds, Name, REVERSE_SETTINGS, Scheme, Setting, Terminal, UNDERVOLTAGE_SETTINGS,
     ZONE1_SETTINGS, ZONE2_SETTINGS, guard_settings, is_plain, scheme_settings, weak_settings,
@@ -65,7 +67,7 @@ fn element(
     times: &TableTimes,
     settings: &[Setting],
     intervals: &mut Vec<Bounds>,
-) -> Result<(), LineFault>
+) -> Result<(), Stopped<LineFault>>
     requires { length times.now.path ≤ 11 }
     ensures { Becomes result intervals.new.items
         (element_times times.now.path settings.now times.now.unit (table_view times.now.table.now)
@@ -79,7 +81,7 @@ fn element(
 }
 
 #[tactic(auto, unfolding(crate::specs::TerminalTables::elements_times))]
-fn elements(times: &TableTimes, intervals: &mut Vec<Bounds>) -> Result<(), LineFault>
+fn elements(times: &TableTimes, intervals: &mut Vec<Bounds>) -> Result<(), Stopped<LineFault>>
     requires { length times.now.path ≤ 11 }
     ensures { Becomes result intervals.new.items
         (elements_times times.now.path times.now.unit (table_view times.now.table.now)
@@ -92,7 +94,7 @@ fn elements(times: &TableTimes, intervals: &mut Vec<Bounds>) -> Result<(), LineF
 }
 
 #[tactic(auto, unfolding(crate::specs::TerminalTables::permissive_times))]
-fn permissive(times: &TableTimes, intervals: &mut Vec<Bounds>) -> Result<(), LineFault>
+fn permissive(times: &TableTimes, intervals: &mut Vec<Bounds>) -> Result<(), Stopped<LineFault>>
     requires { length times.now.path ≤ 11 }
     ensures { Becomes result intervals.new.items
         (permissive_times times.now.path times.now.unit (table_view times.now.table.now)
@@ -106,7 +108,7 @@ fn by_scheme(
     scheme: Scheme,
     times: &TableTimes,
     intervals: &mut Vec<Bounds>,
-) -> Result<(), LineFault>
+) -> Result<(), Stopped<LineFault>>
     requires { length times.now.path ≤ 11 }
     ensures { Becomes result intervals.new.items
         (scheme_times scheme times.now.path times.now.unit (table_view times.now.table.now)
@@ -137,7 +139,12 @@ fn named(scheme: Scheme, table: &Table, name: Name) -> Terminal
 
 /// The line with one more terminal, from the table at the path.
 #[tactic(auto, unfolding(crate::specs::TerminalTables::terminal_at))]
-pub fn terminal(unit: u32, path: Path, value: &Value, line: &mut Draft) -> Result<(), LineFault>
+pub fn terminal(
+    unit: u32,
+    path: Path,
+    value: &Value,
+    line: &mut Draft,
+) -> Result<(), Stopped<LineFault>>
     requires some { 0 < unit }
     requires few { unit ≤ 1000000 }
     requires path { length path ≤ 11 }
@@ -155,7 +162,7 @@ pub fn terminal(unit: u32, path: Path, value: &Value, line: &mut Draft) -> Resul
 }
 
 /// The line with these terminals.
-pub fn terminals(unit: u32, values: &[Value], line: &mut Draft) -> Result<(), LineFault>
+pub fn terminals(unit: u32, values: &[Value], line: &mut Draft) -> Result<(), Stopped<LineFault>>
     requires some { 0 < unit }
     requires few { unit ≤ 1000000 }
     requires three { length values.now ≤ 3 }

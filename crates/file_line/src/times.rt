@@ -2,15 +2,16 @@
 
 ghost use Rattle.std.specs.Prelude.{◌≡◌, ◌<◌, ◌≤◌, length};
 ghost use Rattle.toml.specs.View.{view, table_view, items_view};
+ghost use Rattle.base_memory.specs.Gives.{Becomes};
 ghost use Rattle.file_line.specs.Times.{units_per_tick, in_ticks, interval_in, ends_in, time_in};
 ghost use Rattle.file_line.specs.Times.{time_at, times_at, times_in, group_key, required_times};
 ghost use Rattle.file_line.specs.Times.{optional_times};
-ghost use Rattle.file_line.specs.{Reading.Becomes};
 ghost use Rattle.model_line.specs.{Settings.time_key, ParamNames.key_path};
 
 use crate::fault::LineFault;
 use crate::keys::{find, only_settings, table_of, value};
 use crate::path::Path;
+use base_memory::Stopped;
 use model_line::{Bounds, Setting};
 use toml::{Table, Value};
 
@@ -111,7 +112,11 @@ impl<'a> TableTimes<'a> {
     }
 
     // The times of these settings.
-    fn times(&self, settings: &[Setting], intervals: &mut Vec<Bounds>) -> Result<(), LineFault>
+    fn times(
+        &self,
+        settings: &[Setting],
+        intervals: &mut Vec<Bounds>,
+    ) -> Result<(), Stopped<LineFault>>
         ensures { Becomes result intervals.new.items
             (times_at self.now.path settings.now self.now.unit (table_view self.now.table.now)
             intervals.old.items) }
@@ -131,7 +136,7 @@ impl<'a> TableTimes<'a> {
         value: &Value,
         settings: &[Setting],
         intervals: &mut Vec<Bounds>,
-    ) -> Result<(), LineFault>
+    ) -> Result<(), Stopped<LineFault>>
         requires outer { length self.now.path ≤ 11 }
         requires key { length key.now ≤ 8 }
         ensures { Becomes result intervals.new.items
@@ -155,7 +160,7 @@ impl<'a> TableTimes<'a> {
         &self,
         settings: &[Setting],
         intervals: &mut Vec<Bounds>,
-    ) -> Result<(), LineFault>
+    ) -> Result<(), Stopped<LineFault>>
         requires { length self.now.path ≤ 11 }
         ensures { Becomes result intervals.new.items
             (required_times self.now.path settings.now self.now.unit
@@ -176,7 +181,7 @@ impl<'a> TableTimes<'a> {
         absent: &[Bounds],
         settings: &[Setting],
         intervals: &mut Vec<Bounds>,
-    ) -> Result<(), LineFault>
+    ) -> Result<(), Stopped<LineFault>>
         requires { length self.now.path ≤ 11 }
         ensures { Becomes result intervals.new.items
             (optional_times absent.now self.now.path settings.now self.now.unit

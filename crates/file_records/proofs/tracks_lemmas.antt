@@ -4,3 +4,4 @@ pub mod InOrder
 pub mod Loops
 pub mod Items
 pub mod Joined
+pub mod Refused

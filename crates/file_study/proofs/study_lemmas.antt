@@ -1,6 +1,5 @@
 pub mod Named
 pub mod Quotients
-pub mod Ends
 pub mod Flat
 pub mod Texts
 pub mod Steps

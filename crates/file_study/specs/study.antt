@@ -1,6 +1,5 @@
 pub mod PathBytes
 pub mod Paths
-pub mod Reading
 pub mod Keys
 pub mod Rounding
 pub mod Moments

@@ -1,4 +1,3 @@
-pub mod Gives
 pub mod Values
 pub mod SoFar
 pub mod Row

@@ -1,5 +1,4 @@
 pub mod Table
-pub mod Gives
 pub mod Row
 pub mod SoFar
 pub mod Checks

@@ -2,8 +2,8 @@
 use Rattle.std.specs.Prelude.{◌≡◌, ◌≤◌, ◌+◌, ℕ, List, max}
 use Rattle.model_line.specs.declared.line.Line.{Line}
 use Rattle.model_logic.specs.Choice.{Box, declared_box}
-use Rattle.model_settle.specs.CaseTrees.{CaseTree, Yes, Undecided, Split, Case, CanSplit, HasCases}
-use Rattle.model_settle.specs.CaseTrees.{lower_half, upper_half}
+use Rattle.model_settle.specs.CaseTrees.{CaseTree, Yes, Undecided, Split, Case, HasCases}
+use Rattle.model_logic.specs.Boxes.{CanSplit, lower_half, upper_half}
 use Rattle.judge_cases.specs.declared.node.CaseNode.{CaseNode}
 use Rattle.judge_cases.specs.Nodes.{preorder}
 

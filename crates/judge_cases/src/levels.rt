@@ -8,7 +8,7 @@ ghost use Rattle.model_settle.specs.Assumed.{Assumption};
 ghost use Rattle.model_settle.specs.CaseTrees.{HasCases};
 ghost use Rattle.run_ticks.specs.cases.Masks.{HaveRows, IsMask};
 ghost use Rattle.run_ticks.specs.cases.Runs.{PutUnder};
-ghost use Rattle.judge_verdict.specs.boxes.Terns.{terns_rails};
+ghost use Rattle.judge_verdict.specs.boxes.Terns.{terns_rails, terns_signal};
 ghost use Rattle.judge_cases.specs.Views.{AreViews, AreCases};
 ghost use Rattle.judge_cases.specs.{Rows.AreRows, Puts.PutIn, Puts.views_level};
 
@@ -36,7 +36,7 @@ pub fn masks_of(
     ensures rows { IfOk result (λ masks.
         HaveRows (length compiled.now.net.now.gates) compiled.now.line.now.horizon masks) }
     ensures put { IfOk result (λ masks.
-        PutUnder terns_rails 64 (views_level compiled.now.line.now views.now)
+        PutUnder terns_signal (views_level compiled.now.line.now views.now)
         compiled.now.line.now compiled.now.net.now masks) }
 {
     same_trees_are_equal();

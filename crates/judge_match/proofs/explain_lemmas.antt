@@ -6,3 +6,4 @@ pub mod PairedLaws
 pub mod PartLaws
 pub mod PlayLaws
 pub mod TreeLaws
+pub mod FoundLaws

@@ -4,7 +4,6 @@ pub mod Clash
 pub mod Match
 pub mod Candidates
 pub mod MatchText
-pub mod Gives
 pub mod Heads
 pub mod Row
 pub mod Checks

@@ -5,10 +5,10 @@ use Rattle.model_line.specs.Parameters.{param_count, is_delay, declared_ends}
 use Rattle.model_line.specs.{declared.line.Line.Line, declared.script.Script.Script}
 use Rattle.model_line.specs.{SetBounds.SameButParams, WithBounds.IsWithBounds}
 use Rattle.model_logic.specs.Choice.{Box, declared_box}
-use Rattle.model_logic.specs.Boxes.{box_with, IsSameBox}
+use Rattle.model_logic.specs.Boxes.{CanSplit, IsSameBox, box_with, lower_half, upper_half}
 use Rattle.model_logic.specs.HeldOver.{IsHeldOver}
 use Rattle.judge_split.specs.Known.{Known}
-use Rattle.judge_split.specs.{Leaves.CanSplit, Leaves.lower_half, Leaves.upper_half, Parts.IsPart}
+use Rattle.judge_split.specs.{Parts.IsPart}
 use Rattle.judge_split.proofs.EndsWith.{exchanged, on_from}
 use Rattle.judge_split.proofs.SoundLaws.{same_lower, same_upper, can_split_same, can_split_kept}
 

@@ -9,12 +9,12 @@ use Rattle.model_line.specs.declared.script.Script.{Script}
 use Rattle.model_line.specs.{SetBounds.SameButParams, declared.line.Line.Line}
 use Rattle.model_logic.specs.Choice.{Choice, Box, IsWithin, LeastFromOne, declared_box}
 use Rattle.model_logic.specs.Histories.{History, IsLineHistory, Meets}
-use Rattle.model_logic.specs.Boxes.{box_with, IsSameBox}
+use Rattle.model_logic.specs.Boxes.{CanSplit, IsSameBox, box_with, lower_half, upper_half}
 use Rattle.model_logic.specs.HeldOver.{IsHeldOver}
 use Rattle.judge_verdict.specs.declared.verdict.verdict.Verdict.TheVariants as verdict
 use Rattle.judge_split.specs.Trees.{SplitTree, Yes, Undecided, Split, are_yes}
-use Rattle.judge_split.specs.Leaves.{Leaf, lower_half, upper_half, leaves, CanSplit, Splits}
-use Rattle.judge_split.specs.Leaves.{AreSound}
+use Rattle.judge_split.specs.Leaves.{Leaf, leaves, Splits}
+use Rattle.judge_split.specs.Leaves.{IsSoundSplit}
 use Rattle.judge_split.specs.Search.{Found, Tree, Fails, IsVerdictOf, IsSplitAt, IsLower, IsUpper}
 use Rattle.judge_split.specs.Search.{IsSearch, yes, no, deepest, narrow, first_fails, second_fails}
 use Rattle.judge_split.specs.Search.{split}
@@ -72,7 +72,7 @@ can_split_same line a b param mid same can = record {
 -- a tree splits both of two boxes that are the same, and its yes leaves are held in both
 module _ (known : Known) (line : Line) (script : Script) (k : ℕ) where
   pub sound_same : (tree : SplitTree) (a b : Box) → IsSameBox line a b
-      → AreSound line script k a tree → AreSound line script k b tree
+      → IsSoundSplit line script k a tree → IsSoundSplit line script k b tree
   sound_same Yes a b same held =
       known.held.same line script k a b (turned a b same) held where
         turned : (a b : Box) → IsSameBox line a b → IsSameBox line b a
@@ -103,8 +103,8 @@ can_split_kept known old new same box param mid can = record {
 }
 
 pub sound_kept : Known → (old new : Line) → SameButParams old new → (script : Script) (k : ℕ)
-    (tree : SplitTree) (box : Box) → AreSound old script k box tree
-    → AreSound new script k box tree
+    (tree : SplitTree) (box : Box) → IsSoundSplit old script k box tree
+    → IsSoundSplit new script k box tree
 sound_kept known old new same script k Yes box held =
     known.held.lines old new script k box same held
 sound_kept known old new same script k Undecided box held = tt
@@ -156,7 +156,7 @@ module _ (known : Known) (script : Script) (k : ℕ) where
       (split_no_delay line param at.widest.free) is
 
   abbrev SoundIfTree : Line → Found → Type 0
-  SoundIfTree line (Tree tree) = AreSound line script k (declared_box line) tree
+  SoundIfTree line (Tree tree) = IsSoundSplit line script k (declared_box line) tree
   SoundIfTree line (Fails timing) = Unit {0}
 
   sound : (n : ℕ) (line : Line) (found : Found) → IsSearch script k n line found
@@ -185,13 +185,13 @@ module _ (known : Known) (script : Script) (k : ℕ) where
   )
 
   pub search_sound : (n : ℕ) (line : Line) (tree : SplitTree) → IsSearch script k n line (Tree tree)
-      → AreSound line script k (declared_box line) tree
+      → IsSoundSplit line script k (declared_box line) tree
   search_sound n line tree found = sound n line (Tree tree) found
 
 -- ---- what a sound tree says
 
 pub sound_splits : (line : Line) (script : Script) (k : ℕ) (tree : SplitTree) (box : Box)
-    → AreSound line script k box tree → Splits line box tree
+    → IsSoundSplit line script k box tree → Splits line box tree
 sound_splits line script k Yes box held = tt
 sound_splits line script k Undecided box held = tt
 sound_splits line script k (Split param mid first second) box sound = (
@@ -203,7 +203,7 @@ sound_splits line script k (Split param mid first second) box sound = (
 )
 
 pub sound_leaves : (line : Line) (script : Script) (k : ℕ) (tree : SplitTree) (box : Box)
-    → AreSound line script k box tree → IsTrue (are_yes tree)
+    → IsSoundSplit line script k box tree → IsTrue (are_yes tree)
     → (i : ℕ) (leaf : Leaf) → slice_get (leaves box tree) i ≡ Some leaf
     → IsHeldOver line script k leaf.box
 sound_leaves line script k Yes box held all zero leaf at =
@@ -223,7 +223,7 @@ sound_leaves line script k (Split param mid first second) box sound all i leaf a
 
 pub sound_yes_meets : Known → (line : Line) (script : Script) (k : ℕ) (box : Box) (tree : SplitTree)
     → script.deadline < line.horizon → k < terminal_count line → LeastFromOne line box
-    → AreSound line script k box tree → IsTrue (are_yes tree)
+    → IsSoundSplit line script k box tree → IsTrue (are_yes tree)
     → (choice : Choice) (h : History) → IsWithin line choice box
     → IsLineHistory line script choice h → Meets line script k h
 sound_yes_meets known line script k box tree early kn d sound all choice h within is_h =

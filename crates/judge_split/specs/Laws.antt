@@ -4,7 +4,8 @@ use Rattle.model_line.specs.{declared.line.Line.Line, declared.script.Script.Scr
 use Rattle.model_line.specs.SetBounds.{SameButParams}
 use Rattle.model_logic.specs.Choice.{Box, declared_box}
 use Rattle.model_logic.specs.HeldOver.{IsHeldOver}
-use Rattle.judge_split.specs.{Leaves.CanSplit, Parts.IsPart}
+use Rattle.judge_split.specs.{Parts.IsPart}
+use Rattle.model_logic.specs.Boxes.{CanSplit}
 
 -- a line that differs in its intervals alone is a part; a part can be split where its box can, and
 -- the rule of an obligation is held over the one where it is over the other

@@ -10,7 +10,7 @@ ghost use Rattle.model_timing.specs.Timing.{TimingValues};
 ghost use Rattle.judge_verdict.specs.verdict.Verdicts.{IsRefutation};
 ghost use Rattle.judge_split.specs.Trees.{SplitTree, height, are_yes};
 ghost use Rattle.judge_split.specs.Search.{Tree, Fails, IsSearch};
-ghost use Rattle.judge_split.specs.Leaves.{leaves, Splits, LiesInOne, AllHeld, AreSound};
+ghost use Rattle.judge_split.specs.Leaves.{leaves, Splits, LiesInOne, AllHeld, IsSoundSplit};
 ghost use Rattle.judge_split.specs.Laws.{APartStandsForItsBox, MiddlesAreBelowTheGreatestInterval};
 
 use crate::known::laws_below;
@@ -63,7 +63,7 @@ pub fn what_fails_in_a_part_fails()
 pub fn what_a_search_finds_is_sound()
     ensures { (line : Line) (script : Script) (k n : ℕ) (tree : SplitTree) →
         IsSearch script k n line (Tree tree) →
-        AreSound line script k (declared_box line) tree }
+        IsSoundSplit line script k (declared_box line) tree }
 {
     laws_below();
 }
@@ -73,7 +73,7 @@ pub fn what_a_search_finds_is_sound()
 pub fn a_sound_tree_that_is_yes_speaks_for_every_choice()
     ensures { (line : Line) (script : Script) (k : ℕ) (box : Box) (tree : SplitTree) →
         script.deadline < line.horizon → k < terminal_count line → LeastFromOne line box →
-        AreSound line script k box tree → IsTrue (are_yes tree) →
+        IsSoundSplit line script k box tree → IsTrue (are_yes tree) →
         (choice : Choice) (h : History) → IsWithin line choice box →
         IsLineHistory line script choice h → Meets line script k h }
 {
@@ -89,7 +89,7 @@ pub fn what_a_search_finds_is_as_deep()
 /// Each split of a sound tree can be made.
 pub fn a_sound_tree_splits_its_box()
     ensures { (line : Line) (script : Script) (k : ℕ) (box : Box) (tree : SplitTree) →
-        AreSound line script k box tree → Splits line box tree }
+        IsSoundSplit line script k box tree → Splits line box tree }
 {}
 
 /// A line that differs in its intervals alone is a part. A part can be split where its box can,

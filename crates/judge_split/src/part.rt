@@ -5,7 +5,7 @@ ghost use Rattle.std.specs.Bool.{Decides};
 ghost use Rattle.model_line.specs.Parameters.{param_count, declared_ends};
 ghost use Rattle.model_line.specs.{declared.line.Line.Line, WithBounds.IsWithBounds};
 ghost use Rattle.model_logic.specs.Choice.{Box, declared_box};
-ghost use Rattle.judge_split.specs.Leaves.{CanSplit, lower_half, upper_half};
+ghost use Rattle.model_logic.specs.Boxes.{CanSplit, lower_half, upper_half};
 ghost use Rattle.judge_split.specs.Parts.{IsPart};
 
 use crate::known::laws_below;

@@ -1,7 +1,8 @@
 -- Boxes with another interval for one parameter.
-use Rattle.std.specs.Prelude.{◌≡◌, ◌<◌, ◌==◌, ℕ, if◌then◌else◌}
+use Rattle.std.specs.Prelude.{◌≡◌, ◌≤◌, ◌<◌, ◌+◌, ◌==◌, ℕ, IsTrue, if◌then◌else◌}
 use Rattle.model_history.specs.Rails.{Ends}
 use Rattle.model_line.specs.Parameters.{param_count, channel_count, delay_param, declared_ends}
+use Rattle.model_line.specs.Parameters.{is_delay}
 use Rattle.model_line.specs.declared.line.Line.{Line}
 use Rattle.model_logic.specs.Choice.{Box}
 
@@ -26,3 +27,20 @@ box_with box param new = record { ends = ends_with box.ends param new; delay = b
 pub record IsSameBox (line : Line) (a b : Box) : Type 0 where
   pub numbers : (i : ℕ) → i < param_count line → a.ends i ≡ b.ends i
   pub delays : (c t : ℕ) → c < channel_count line → t < line.horizon → a.delay c t ≡ b.delay c t
+
+-- the lower half of a box, up to `mid` of a parameter, and the upper half, from `mid + 1` on
+abbrev pub lower_half : Box → ℕ → ℕ → Box
+lower_half box param mid =
+    box_with box param (record { least = (box.ends param).least; greatest = mid })
+
+abbrev pub upper_half : Box → ℕ → ℕ → Box
+upper_half box param mid =
+    box_with box param (record { least = mid + 1; greatest = (box.ends param).greatest })
+
+-- the box can be split there: at a parameter of the line that is no delay, so that neither half is
+-- empty
+pub record CanSplit (line : Line) (box : Box) (param mid : ℕ) : Type 0 where
+  pub exists : param < param_count line
+  pub number : ¬ (IsTrue (is_delay line param))
+  pub above : (box.ends param).least ≤ mid
+  pub below : mid < (box.ends param).greatest

@@ -3,6 +3,7 @@ use Rattle.std.specs.Prelude.{◌≡◌, ◌<◌, ℕ}
 use Rattle.model_history.specs.Rails.{RailsCover, IsPartOf}
 use Rattle.model_line.specs.Parameters.{terminal_count, channel_count}
 use Rattle.model_line.specs.{declared.line.Line.Line, declared.script.Place.Place}
+use Rattle.model_logic.specs.Histories.{Everywhere}
 use Rattle.model_logic.specs.PairMean.{PairWorld, PairSignals, pair_mean}
 use Rattle.model_logic.specs.{declared.time.Time.Time, Names.HasTime, Tree.Tree}
 
@@ -31,5 +32,4 @@ CoverBefore line wide narrow t =
 -- claimed keys cover, at each tick, the pairs that their trees have over the claims themselves
 abbrev pub CoverOwn : Line → PairWorld → (ℕ → Tree) → PairSignals → Type 0
 CoverOwn line w trees claims =
-    (k t : ℕ) → k < terminal_count line → t < line.horizon
-    → RailsCover (claims k t) (pair_mean w claims (trees k) t)
+    Everywhere line (λ k t. RailsCover (claims k t) (pair_mean w claims (trees k) t))

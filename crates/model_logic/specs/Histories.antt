@@ -9,6 +9,10 @@ use Rattle.model_logic.specs.PairMean.{PairSignals, pair_mean}
 use Rattle.model_logic.specs.Choice.{Choice, Box, world_of, pair_world_of}
 use Rattle.model_logic.specs.Logic.{key_tree, trip_tree}
 
+-- at each terminal and each tick of the line
+abbrev pub Everywhere : Line → (ℕ → ℕ → Type 0) → Type 0
+Everywhere line Holds = (k t : ℕ) → k < terminal_count line → t < line.horizon → Holds k t
+
 -- what each terminal keys, and whether it trips, at each tick
 pub record History : Type 0 where
   pub key : Signals
@@ -18,15 +22,15 @@ pub record History : Type 0 where
 -- value of its tree over the keys of the history itself
 pub record IsLineHistory (line : Line) (script : Script) (choice : Choice) (h : History)
     : Type 0 where
-  pub keys : (k t : ℕ) → k < terminal_count line → t < line.horizon
-      → h.key k t ≡ mean (world_of line script choice) h.key (key_tree line k) t
-  pub trips : (k t : ℕ) → k < terminal_count line → t < line.horizon
-      → h.trip k t ≡ mean (world_of line script choice) h.key (trip_tree line k) t
+  pub keys : Everywhere line (λ k t.
+      h.key k t ≡ mean (world_of line script choice) h.key (key_tree line k) t)
+  pub trips : Everywhere line (λ k t.
+      h.trip k t ≡ mean (world_of line script choice) h.key (trip_tree line k) t)
 
 -- two histories are the same at every terminal and tick of the line
 pub record IsSameHistory (line : Line) (g h : History) : Type 0 where
-  pub keys : (k t : ℕ) → k < terminal_count line → t < line.horizon → g.key k t ≡ h.key k t
-  pub trips : (k t : ℕ) → k < terminal_count line → t < line.horizon → g.trip k t ≡ h.trip k t
+  pub keys : Everywhere line (λ k t. g.key k t ≡ h.key k t)
+  pub trips : Everywhere line (λ k t. g.trip k t ≡ h.trip k t)
 
 -- the obligation of a terminal is met. Internal fault: it trips at some tick up to the deadline.
 -- External fault: it trips at no tick.
@@ -50,44 +54,39 @@ must_history w = record { key = λ k t. (w.key k t).must; trip = λ k t. (w.trip
 -- the interval history of a line under a script over a box: the same equations with pairs
 pub record IsPairHistory (line : Line) (script : Script) (box : Box) (w : PairHistory)
     : Type 0 where
-  pub keys : (k t : ℕ) → k < terminal_count line → t < line.horizon
-      → w.key k t ≡ pair_mean (pair_world_of line script box) w.key (key_tree line k) t
-  pub trips : (k t : ℕ) → k < terminal_count line → t < line.horizon
-      → w.trip k t ≡ pair_mean (pair_world_of line script box) w.key (trip_tree line k) t
+  pub keys : Everywhere line (λ k t.
+      w.key k t ≡ pair_mean (pair_world_of line script box) w.key (key_tree line k) t)
+  pub trips : Everywhere line (λ k t.
+      w.trip k t ≡ pair_mean (pair_world_of line script box) w.key (trip_tree line k) t)
 
 -- two interval histories are the same at every terminal and tick of the line
 pub record IsSamePairHistory (line : Line) (v w : PairHistory) : Type 0 where
-  pub keys : (k t : ℕ) → k < terminal_count line → t < line.horizon → v.key k t ≡ w.key k t
-  pub trips : (k t : ℕ) → k < terminal_count line → t < line.horizon → v.trip k t ≡ w.trip k t
+  pub keys : Everywhere line (λ k t. v.key k t ≡ w.key k t)
+  pub trips : Everywhere line (λ k t. v.trip k t ≡ w.trip k t)
 
 -- both rails of the interval history are the history
 pub record IsBothRails (line : Line) (w : PairHistory) (h : History) : Type 0 where
-  pub keys : (k t : ℕ) → k < terminal_count line → t < line.horizon → w.key k t ≡ both (h.key k t)
-  pub trips : (k t : ℕ) → k < terminal_count line → t < line.horizon
-      → w.trip k t ≡ both (h.trip k t)
+  pub keys : Everywhere line (λ k t. w.key k t ≡ both (h.key k t))
+  pub trips : Everywhere line (λ k t. w.trip k t ≡ both (h.trip k t))
 
 -- the interval history covers a history, and a narrower interval history
 pub record CoversHistory (line : Line) (w : PairHistory) (h : History) : Type 0 where
-  pub keys : (k t : ℕ) → k < terminal_count line → t < line.horizon
-      → Covers (w.key k t) (h.key k t)
-  pub trips : (k t : ℕ) → k < terminal_count line → t < line.horizon
-      → Covers (w.trip k t) (h.trip k t)
+  pub keys : Everywhere line (λ k t. Covers (w.key k t) (h.key k t))
+  pub trips : Everywhere line (λ k t. Covers (w.trip k t) (h.trip k t))
 
 pub record CoversPairHistory (line : Line) (wide narrow : PairHistory) : Type 0 where
-  pub keys : (k t : ℕ) → k < terminal_count line → t < line.horizon
-      → RailsCover (wide.key k t) (narrow.key k t)
-  pub trips : (k t : ℕ) → k < terminal_count line → t < line.horizon
-      → RailsCover (wide.trip k t) (narrow.trip k t)
+  pub keys : Everywhere line (λ k t. RailsCover (wide.key k t) (narrow.key k t))
+  pub trips : Everywhere line (λ k t. RailsCover (wide.trip k t) (narrow.trip k t))
 
 -- what must be may be, of each key and each trip
 pub record IsSoundHistory (line : Line) (w : PairHistory) : Type 0 where
-  pub keys : (k t : ℕ) → k < terminal_count line → t < line.horizon → IsSound (w.key k t)
-  pub trips : (k t : ℕ) → k < terminal_count line → t < line.horizon → IsSound (w.trip k t)
+  pub keys : Everywhere line (λ k t. IsSound (w.key k t))
+  pub trips : Everywhere line (λ k t. IsSound (w.trip k t))
 
 -- claimed keys are covered over a box: each covers the pair that its key tree has over the claims
 abbrev pub AreCovered : Line → Script → Box → PairSignals → Type 0
-AreCovered line script box claims = (k t : ℕ) → k < terminal_count line → t < line.horizon
-    → RailsCover (claims k t) (pair_mean (pair_world_of line script box) claims (key_tree line k) t)
+AreCovered line script box claims = Everywhere line (λ k t.
+    RailsCover (claims k t) (pair_mean (pair_world_of line script box) claims (key_tree line k) t))
 
 -- the claims with the trips that are derived from them
 abbrev pub with_derived_trips : Line → Script → Box → PairSignals → PairHistory

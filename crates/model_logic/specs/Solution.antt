@@ -3,20 +3,18 @@ use Rattle.std.specs.Prelude.{◌≡◌, ◌≤◌, ◌<◌, ◌==◌, ℕ, zero
 use Rattle.model_history.specs.Rails.{both}
 use Rattle.model_line.specs.Parameters.{terminal_count, channel_count}
 use Rattle.model_line.specs.declared.line.Line.{Line}
+use Rattle.model_logic.specs.Histories.{Everywhere}
 use Rattle.model_logic.specs.PairMean.{PairWorld, PairSignals, pair_mean}
 use Rattle.model_logic.specs.Mean.{World, Signals, mean}
 use Rattle.model_logic.specs.Tree.{Tree}
 
 -- the keys of the line's terminals solve the equations of their trees at each tick
 abbrev pub Solves : Line → PairWorld → (ℕ → Tree) → PairSignals → Type 0
-Solves line w trees keys =
-    (k t : ℕ) → k < terminal_count line → t < line.horizon
-    → keys k t ≡ pair_mean w keys (trees k) t
+Solves line w trees keys = Everywhere line (λ k t. keys k t ≡ pair_mean w keys (trees k) t)
 
 -- the same for plain keys
 abbrev pub SolvesPlain : Line → World → (ℕ → Tree) → Signals → Type 0
-SolvesPlain line w trees keys =
-    (k t : ℕ) → k < terminal_count line → t < line.horizon → keys k t ≡ mean w keys (trees k) t
+SolvesPlain line w trees keys = Everywhere line (λ k t. keys k t ≡ mean w keys (trees k) t)
 
 -- each channel of the line is from a terminal of it, and its delay is at least 1 at each tick
 pub record IsDelayed (line : Line) (w : PairWorld) : Type 0 where

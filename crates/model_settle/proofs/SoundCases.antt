@@ -14,8 +14,9 @@ use Rattle.model_logic.specs.{IntervalLaws.ABoxWithAnotherInterval, Laws.LineLaw
 use Rattle.model_logic.specs.Laws.{TreesNameTheLine}
 use Rattle.model_settle.specs.Assumed.{Assumption, wanted, Agrees, AgreesWithAll, assumed_level}
 use Rattle.model_settle.specs.Under.{own_pair, IsPairHistoryUnder, IsExcluded, SomeIsExcluded}
-use Rattle.model_settle.specs.CaseTrees.{CaseTree, Yes, Undecided, Split, Case, are_yes, lower_half}
-use Rattle.model_settle.specs.CaseTrees.{upper_half, CanSplit, with_case, AreSound}
+use Rattle.model_settle.specs.CaseTrees.{CaseTree, Yes, Undecided, Split, Case, are_yes}
+use Rattle.model_logic.specs.Boxes.{CanSplit, lower_half, upper_half}
+use Rattle.model_settle.specs.CaseTrees.{with_case, AreSound}
 use Rattle.model_settle.specs.CaseLaws.{OnlyFirst}
 use Rattle.model_settle.proofs.UnderCovers.{covers_not_excludes, history_covered, tree_covered}
 use Rattle.model_settle.proofs.UnderHistories.{under_exists}

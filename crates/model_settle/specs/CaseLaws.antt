@@ -15,7 +15,8 @@ use Rattle.model_settle.specs.SameTree.{same_tree}
 use Rattle.model_settle.specs.Assumed.{Assumption, Agrees, AgreesWithAll, assumed_level, wanted}
 use Rattle.model_settle.specs.Under.{pair_under, own_pair, IsPairHistoryUnder, IsExcluded}
 use Rattle.model_settle.specs.Under.{SomeIsExcluded}
-use Rattle.model_settle.specs.CaseTrees.{CaseTree, are_yes, lower_half, upper_half, CanSplit}
+use Rattle.model_settle.specs.CaseTrees.{CaseTree, are_yes}
+use Rattle.model_logic.specs.Boxes.{CanSplit, lower_half, upper_half}
 use Rattle.model_settle.specs.CaseTrees.{with_case, IsShownUnder, AreSound}
 
 -- the test of trees is equality

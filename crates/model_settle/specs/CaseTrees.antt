@@ -3,7 +3,8 @@ use Rattle.std.specs.Prelude.{◌≡◌, ◌≤◌, ◌<◌, ◌+◌, ◌&&◌, 
 use Rattle.std.specs.Prelude.{List}
 use Rattle.model_line.specs.{declared.line.Line.Line, declared.script.Script.Script}
 use Rattle.model_line.specs.Parameters.{terminal_count, param_count, is_delay}
-use Rattle.model_logic.specs.{Choice.Box, Boxes.box_with, Elements.is_weak}
+use Rattle.model_logic.specs.Boxes.{CanSplit, lower_half, upper_half}
+use Rattle.model_logic.specs.{Choice.Box, Elements.is_weak}
 use Rattle.model_logic.specs.{Histories.PairHistory, Rule.Held, Rule.rule_of}
 use Rattle.model_settle.specs.Assumed.{Assumption}
 use Rattle.model_settle.specs.Under.{IsPairHistoryUnder, SomeIsExcluded}
@@ -23,23 +24,6 @@ are_yes Yes = true
 are_yes Undecided = false
 are_yes (Split param mid first second) = are_yes first && are_yes second
 are_yes (Case terminal tick off on) = are_yes off && are_yes on
-
--- the lower half of a box, up to `mid` of a parameter, and the upper half, from `mid + 1` on
-abbrev pub lower_half : Box → ℕ → ℕ → Box
-lower_half box param mid =
-    box_with box param (record { least = (box.ends param).least; greatest = mid })
-
-abbrev pub upper_half : Box → ℕ → ℕ → Box
-upper_half box param mid =
-    box_with box param (record { least = mid + 1; greatest = (box.ends param).greatest })
-
--- the box can be split there: at a parameter of the line that is no delay, so that neither half is
--- empty
-pub record CanSplit (line : Line) (box : Box) (param mid : ℕ) : Type 0 where
-  pub exists : param < param_count line
-  pub number : ¬ (IsTrue (is_delay line param))
-  pub above : (box.ends param).least ≤ mid
-  pub below : mid < (box.ends param).greatest
 
 -- cases can be told apart there: at a weak terminal of the line, at a tick of the run
 pub record HasCases (line : Line) (terminal tick : ℕ) : Type 0 where

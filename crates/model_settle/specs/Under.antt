@@ -8,7 +8,7 @@ use Rattle.model_line.specs.Parameters.{terminal_count}
 use Rattle.model_logic.specs.Tree.{Tree, Const, Seen, Loss, Raw, Not, And, Or, Timer, Seal}
 use Rattle.model_logic.specs.PairMean.{PairWorld, PairSignals}
 use Rattle.model_logic.specs.Choice.{Box, pair_world_of}
-use Rattle.model_logic.specs.Histories.{PairHistory}
+use Rattle.model_logic.specs.Histories.{Everywhere, PairHistory}
 use Rattle.model_logic.specs.Logic.{key_tree, trip_tree}
 use Rattle.model_settle.specs.Assumed.{Assumption, wanted, assumed_level}
 
@@ -44,12 +44,12 @@ own_pair level w keys x t = pair_under level w keys x t
 -- the interval history of a line under a script over a box, under assumptions
 pub record IsPairHistoryUnder (line : Line) (script : Script) (box : Box)
     (assumed : List Assumption) (w : PairHistory) : Type 0 where
-  pub keys : (k t : ℕ) → k < terminal_count line → t < line.horizon
-      → w.key k t ≡ pair_under (assumed_level line assumed) (pair_world_of line script box) w.key
-      (key_tree line k) t
-  pub trips : (k t : ℕ) → k < terminal_count line → t < line.horizon
-      → w.trip k t ≡ pair_under (assumed_level line assumed) (pair_world_of line script box) w.key
-      (trip_tree line k) t
+  pub keys : Everywhere line (λ k t.
+      w.key k t ≡ pair_under (assumed_level line assumed) (pair_world_of line script box) w.key
+      (key_tree line k) t)
+  pub trips : Everywhere line (λ k t.
+      w.trip k t ≡ pair_under (assumed_level line assumed) (pair_world_of line script box) w.key
+      (trip_tree line k) t)
 
 -- the rails exclude a level
 abbrev pub Excludes : Rails → Bool → Type 0

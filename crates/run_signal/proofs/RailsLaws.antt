@@ -10,7 +10,7 @@ use Rattle.model_history.specs.Rails.{Rails, Ends, IsSound, both, must_of, may_o
 use Rattle.model_history.specs.Rails.{rails_at}
 use Rattle.model_history.specs.{Elements.timed, Recorded.at, Laws.HistoryLaws}
 use Rattle.run_signal.specs.Counts.{steady_of}
-use Rattle.run_signal.specs.Cells.{CellNumbers, AreBounded, AreSound, RailStandsFor, RailsStandFor}
+use Rattle.run_signal.specs.Cells.{CellNumbers, AreBounded, AllSound, RailStandsFor, RailsStandFor}
 use Rattle.run_signal.specs.Cells.{fresh_numbers, numbers_after}
 use Rattle.run_signal.specs.Ahead.{next_on, next_rails, IsSteadyFor, IsRailSteadyFor}
 use Rattle.run_signal.proofs.CountLaws.{timed_of_standing}
@@ -18,13 +18,13 @@ use Rattle.run_signal.proofs.AheadLaws.{standing_fresh, standing_skip, steady_fr
 
 -- ---- what must be may be, at each tick
 
-AreSound-skip : (l : List Rails) (x : Rails) (n : ℕ) → AreSound l → IsSound x →
-    AreSound (l ++ replicate n x)
+AreSound-skip : (l : List Rails) (x : Rails) (n : ℕ) → AllSound l → IsSound x →
+    AllSound (l ++ replicate n x)
 AreSound-skip [] x zero h now = tt
 AreSound-skip [] x (suc n) h now = (now, AreSound-skip [] x n h now)
 AreSound-skip (y ∷ l) x n h now = (h.0, AreSound-skip l x n h.1 now)
 
-sound_at : (l : List Rails) (r : ℕ) → AreSound l → IsSound (rails_at l r)
+sound_at : (l : List Rails) (r : ℕ) → AllSound l → IsSound (rails_at l r)
 sound_at [] r h on = on
 sound_at (x ∷ l) zero h on = h.0 on
 sound_at (x ∷ l) (suc r) h on = sound_at l r h.1 on

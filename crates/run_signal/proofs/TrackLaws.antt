@@ -1,4 +1,5 @@
 -- The values of a track and their changes.
+use Rattle.run_signal.specs.Signals.{SignalOf}
 use Rattle.std.proofs.Common.{◌≡◌, ◌⊎◌, ℕ, zero, suc, ◌+◌, ◌-◌, ◌<◌, ◌≤◌, List, [], ◌∷◌, ◌++◌}
 use Rattle.std.proofs.Common.{length, Some, refl, sym, ◌∙◌, ap, arith, inl, inr, ⊎_elim, subst}
 use Rattle.std.proofs.Common.{length-append, replicate, append_assoc, leb, leb-true, get_or}
@@ -15,7 +16,7 @@ use Rattle.model_history.specs.Rails.{Rails, Ends, rails_at, both}
 use Rattle.model_history.specs.ListLaws.{at_push, before_append, last_push}
 use Rattle.run_signal.specs.Lanes.{in_lane}
 use Rattle.run_signal.specs.Tracks.{IsOneOf, AreAscending, ChangeAt, IsTrack, IsLast, IsNextAfter}
-use Rattle.run_signal.specs.Tracks.{StaysUntil, IsSteadySince, IsHeld, all_values}
+use Rattle.run_signal.specs.Tracks.{StaysUntil, IsSteadySince, IsHeldTrack, all_values}
 
 -- a number that is no less than those before it
 ascending_more : (numbers : List ℕ) (n : ℕ) → AreAscending numbers
@@ -91,29 +92,30 @@ module _ {V : Type 0} (values : List V) (last : V) (len : ℕ) where
       (sym (replicate-append-replicate (len - length values) count last))
       ∙ sym (append_assoc values (replicate (len - length values) last) (replicate count last))
 
-module _ {V : Type 0} (lanes : ℕ) (rails : V → ℕ → Rails) where
-  pub rails_read : (values : List V) (n : ℕ) (x : V) (lane : ℕ) → slice_get values n ≡ Some x
-      → rails_at (in_lane rails lane values) n ≡ rails x lane
-  rails_read values n x lane at =
-      get_or_from_slice_get _ n (rails x lane) (both false)
-      (slice_get-map (λ (v : V). rails v lane) values n
-      ∙ ap (option_map (λ (v : V). rails v lane)) at)
+-- the rails of a value in a list
+pub rails_read : {V : Type 0} (rails : V → ℕ → Rails) (values : List V) (n : ℕ) (x : V) (lane : ℕ)
+    → slice_get values n ≡ Some x → rails_at (in_lane rails lane values) n ≡ rails x lane
+rails_read {V = V} rails values n x lane at =
+    get_or_from_slice_get _ n (rails x lane) (both false)
+    (slice_get-map (λ (v : V). rails v lane) values n
+    ∙ ap (option_map (λ (v : V). rails v lane)) at)
 
+module _ {V S : Type 0} (signal : SignalOf V S) where
   -- until the tick after, and one tick more with the same value
   pub stays_once : (values : List V) (t lane : ℕ) → t < length values
-      → StaysUntil (rails_at (in_lane rails lane values)) t (length values) (t + 1)
+      → StaysUntil (rails_at (in_lane signal.rails lane values)) t (length values) (t + 1)
   stays_once values t lane inside = record {
     later = omega arith;
     limited = omega (arith, inside);
     same = λ r low high.
         let here : r ≡ t = omega (arith, low, high) in
-        ap (λ (k : ℕ). rails_at (in_lane rails lane values) k) here;
+        ap (λ (k : ℕ). rails_at (in_lane signal.rails lane values) k) here;
   }
 
   pub stays_more : (values : List V) (x y : V) (t end lane : ℕ) → slice_get values t ≡ Some x
-      → slice_get values end ≡ Some y → rails y lane ≡ rails x lane
-      → StaysUntil (rails_at (in_lane rails lane values)) t (length values) end
-      → StaysUntil (rails_at (in_lane rails lane values)) t (length values) (end + 1)
+      → slice_get values end ≡ Some y → signal.rails y lane ≡ signal.rails x lane
+      → StaysUntil (rails_at (in_lane signal.rails lane values)) t (length values) end
+      → StaysUntil (rails_at (in_lane signal.rails lane values)) t (length values) (end + 1)
   stays_more values x y t end lane first last same stays = record {
     later = let later : t < end = stays.later in omega (arith, later);
     limited = let inside : end < length values = slice_get_within values end y last in
@@ -121,25 +123,27 @@ module _ {V : Type 0} (lanes : ℕ) (rails : V → ℕ → Rails) where
     same = λ r low high.
         ⊎_elim (λ early. stays.same r low early)
         (λ late. let here : r ≡ end = omega (arith, late, high) in
-        ap (λ (k : ℕ). rails_at (in_lane rails lane values) k) here
-        ∙ rails_read values end y lane last ∙ same ∙ sym (rails_read values t x lane first))
+        ap (λ (k : ℕ). rails_at (in_lane signal.rails lane values) k) here
+        ∙ rails_read signal.rails values end y lane last ∙ same ∙
+        sym (rails_read signal.rails values t x lane first))
         (cases_lt r end);
   }
 
   -- its rails at a tick of a longer list
   rails_pushed : (values : List V) (value : V) (lane r : ℕ) → r < length values
-      → rails_at (in_lane rails lane (values ++ value ∷ [])) r
-      ≡ rails_at (in_lane rails lane values) r
+      → rails_at (in_lane signal.rails lane (values ++ value ∷ [])) r
+      ≡ rails_at (in_lane signal.rails lane values) r
   rails_pushed values value lane r lt =
       let x : V = get_or values r value in
       let at : slice_get values r ≡ Some x = slice_get-get_or values r value lt in
-      rails_read (values ++ value ∷ []) r x lane (before_append values (value ∷ []) r x at)
-      ∙ sym (rails_read values r x lane at)
+      rails_read signal.rails (values ++ value ∷ []) r x lane (before_append values (value ∷ []) r x
+      at)
+      ∙ sym (rails_read signal.rails values r x lane at)
 
   rails_of_last : (values : List V) (value : V) (lane r : ℕ) → r ≡ length values
-      → rails_at (in_lane rails lane (values ++ value ∷ [])) r ≡ rails value lane
+      → rails_at (in_lane signal.rails lane (values ++ value ∷ [])) r ≡ signal.rails value lane
   rails_of_last values value lane r is =
-      rails_read (values ++ value ∷ []) r value lane
+      rails_read signal.rails (values ++ value ∷ []) r value lane
       (subst (λ (k : ℕ). slice_get (values ++ value ∷ []) k ≡ Some value) (sym is)
       (last_push values value))
 
@@ -148,11 +152,11 @@ module _ {V : Type 0} (lanes : ℕ) (rails : V → ℕ → Rails) where
 
   -- a tick within the values before
   told_before : (values : List V) (value : V) (changes : List ℕ) (r : ℕ)
-      → suc r < length values → ChangeAt lanes rails changes values
+      → suc r < length values → ChangeAt signal changes values
       → IsOneOf changes (suc r)
-      ⊎ ((lane : ℕ) → lane < lanes
-      → rails_at (in_lane rails lane (values ++ value ∷ [])) (suc r)
-      ≡ rails_at (in_lane rails lane (values ++ value ∷ [])) r)
+      ⊎ ((lane : ℕ) → lane < signal.lanes
+      → rails_at (in_lane signal.rails lane (values ++ value ∷ [])) (suc r)
+      ≡ rails_at (in_lane signal.rails lane (values ++ value ∷ [])) r)
   told_before values value changes r lt told =
       ⊎_elim (λ one. inl one)
       (λ same. inr (λ lane inside.
@@ -161,8 +165,8 @@ module _ {V : Type 0} (lanes : ℕ) (rails : V → ℕ → Rails) where
       (told r lt)
 
   told_same : (values : List V) (value : V) (changes : List ℕ)
-      → ChangeAt lanes rails changes values → IsLast lanes rails values value
-      → ChangeAt lanes rails changes (values ++ value ∷ [])
+      → ChangeAt signal changes values → IsLast signal values value
+      → ChangeAt signal changes (values ++ value ∷ [])
   told_same values value changes told last r lt =
       let n : length values ≡ suc last.n = last.count in
       let long : length (values ++ value ∷ []) ≡ length values + 1 =
@@ -173,13 +177,13 @@ module _ {V : Type 0} (lanes : ℕ) (rails : V → ℕ → Rails) where
       inr (λ lane inside.
       rails_of_last values value lane (suc r) (omega (arith, n, e))
       ∙ sym (last.same lane inside)
-      ∙ ap (rails_at (in_lane rails lane values)) (sym e)
+      ∙ ap (rails_at (in_lane signal.rails lane values)) (sym e)
       ∙ sym (rails_pushed values value lane r (omega (arith, n, e)))))
       (cases_lt (suc r) (length values))
 
   told_change : (values : List V) (value : V) (changes : List ℕ) (t : ℕ) → t ≡ length values
-      → ChangeAt lanes rails changes values
-      → ChangeAt lanes rails (changes ++ t ∷ []) (values ++ value ∷ [])
+      → ChangeAt signal changes values
+      → ChangeAt signal (changes ++ t ∷ []) (values ++ value ∷ [])
   told_change values value changes t is told r lt =
       let long : length (values ++ value ∷ []) ≡ length values + 1 =
       length-append values (value ∷ []) in
@@ -195,9 +199,9 @@ module _ {V : Type 0} (lanes : ℕ) (rails : V → ℕ → Rails) where
       (cases_lt (suc r) (length values))
 
   pub track_same : (values : List V) (value : V) (room more : ℕ) (changes : List ℕ)
-      (croom horizon : ℕ) → IsTrack lanes rails values room changes croom horizon
-      → IsLast lanes rails values value → length values < horizon → room ≤ more
-      → IsTrack lanes rails (values ++ value ∷ []) more changes croom horizon
+      (croom horizon : ℕ) → IsTrack signal values room changes croom horizon
+      → IsLast signal values value → length values < horizon → room ≤ more
+      → IsTrack signal (values ++ value ∷ []) more changes croom horizon
   track_same values value room more changes croom horizon track last fits wider =
       let long : length (values ++ value ∷ []) ≡ length values + 1 =
       length-append values (value ∷ []) in
@@ -209,16 +213,20 @@ module _ {V : Type 0} (lanes : ℕ) (rails : V → ℕ → Rails) where
         short = track.short;
         fits = omega (arith, long, fits);
         few = omega (arith, long, few);
-        inside = λ i c at. let lt : c < length values = track.inside i c at in omega (arith, long, lt);
+        inside = λ i c at. let lt : c < length values = track.inside i c at in omega (
+          arith,
+          long,
+          lt,
+        );
         ascending = track.ascending;
         told = told_same values value changes track.told last;
       }
 
   pub track_change : (values : List V) (value : V) (room more : ℕ) (changes : List ℕ)
       (croom cmore horizon t : ℕ) → t ≡ length values
-      → IsTrack lanes rails values room changes croom horizon
+      → IsTrack signal values room changes croom horizon
       → length values < horizon → room ≤ more → croom ≤ cmore
-      → IsTrack lanes rails (values ++ value ∷ []) more (changes ++ t ∷ []) cmore horizon
+      → IsTrack signal (values ++ value ∷ []) more (changes ++ t ∷ []) cmore horizon
   track_change values value room more changes croom cmore horizon t is track fits wider cwider =
       let long : length (values ++ value ∷ []) ≡ length values + 1 =
       length-append values (value ∷ []) in
@@ -244,8 +252,8 @@ module _ {V : Type 0} (lanes : ℕ) (rails : V → ℕ → Rails) where
       }
 
   track_roomy : (values : List V) (room : ℕ) (changes : List ℕ) (croom cmore horizon : ℕ)
-      → croom ≤ cmore → IsTrack lanes rails values room changes croom horizon
-      → IsTrack lanes rails values room changes cmore horizon
+      → croom ≤ cmore → IsTrack signal values room changes croom horizon
+      → IsTrack signal values room changes cmore horizon
   track_roomy values room changes croom cmore horizon wider track =
       let cr : horizon ≤ croom = track.has_changes_room in
       record {
@@ -260,7 +268,7 @@ module _ {V : Type 0} (lanes : ℕ) (rails : V → ℕ → Rails) where
       }
 
   pub track_none : (room croom horizon : ℕ) → horizon ≤ room → horizon ≤ croom → horizon ≤ 4000
-      → IsTrack lanes rails [] room [] croom horizon
+      → IsTrack signal [] room [] croom horizon
   track_none room croom horizon r cr short = record {
     has_room = r;
     has_changes_room = cr;
@@ -272,7 +280,7 @@ module _ {V : Type 0} (lanes : ℕ) (rails : V → ℕ → Rails) where
     told = λ r lt. absurd (omega arith);
   }
 
-  last_pushed : (values : List V) (value : V) → IsLast lanes rails (values ++ value ∷ []) value
+  last_pushed : (values : List V) (value : V) → IsLast signal (values ++ value ∷ []) value
   last_pushed values value = record {
     n = length values;
     count = length-append values (value ∷ []) ∙ (let e : length values + 1 ≡ suc (length values) =
@@ -282,14 +290,14 @@ module _ {V : Type 0} (lanes : ℕ) (rails : V → ℕ → Rails) where
 
   -- the last value again, so many times
   filled : (values : List V) (value : V) (room : ℕ) (changes : List ℕ) (croom horizon n : ℕ)
-      → IsTrack lanes rails values room changes croom horizon → IsLast lanes rails values value
+      → IsTrack signal values room changes croom horizon → IsLast signal values value
       → length values + n ≤ horizon
-      → IsTrack lanes rails (values ++ replicate n value) room changes croom horizon
-      × IsLast lanes rails (values ++ replicate n value) value
+      → IsTrack signal (values ++ replicate n value) room changes croom horizon
+      × IsLast signal (values ++ replicate n value) value
   filled values value room changes croom horizon zero track last fits = (
-    subst (λ (l : List V). IsTrack lanes rails l room changes croom horizon)
+    subst (λ (l : List V). IsTrack signal l room changes croom horizon)
         (sym (append-nil values)) track,
-    subst (λ (l : List V). IsLast lanes rails l value) (sym (append-nil values)) last,
+    subst (λ (l : List V). IsLast signal l value) (sym (append-nil values)) last,
   )
   filled values value room changes croom horizon (suc n) track last fits =
       let before = filled values value room changes croom horizon n track last (omega arith) in
@@ -303,54 +311,57 @@ module _ {V : Type 0} (lanes : ℕ) (rails : V → ℕ → Rails) where
       length-append values (replicate n value)
       ∙ ap (λ (k : ℕ). length values + k) (length-replicate n value) in
       let itself : room ≤ room = omega arith in (
-        subst (λ (l : List V). IsTrack lanes rails l room changes croom horizon) same
+        subst (λ (l : List V). IsTrack signal l room changes croom horizon) same
             (track_same so_far value room room changes croom horizon before.0 before.1
             (omega (arith, long, fits)) itself),
-        subst (λ (l : List V). IsLast lanes rails l value) same (last_pushed so_far value),
+        subst (λ (l : List V). IsLast signal l value) same (last_pushed so_far value),
       )
 
   module _ (values : List V) (changes : List ℕ) (t end : ℕ)
-      (told : ChangeAt lanes rails changes values)
-      (next : IsNextAfter changes t (length values) end) (lane : ℕ) (inside : lane < lanes) where
-    same_on : (k : ℕ) → t + k < end
-        → rails_at (in_lane rails lane values) (t + k) ≡ rails_at (in_lane rails lane values) t
-    same_on zero lt = let e : t + 0 ≡ t = omega arith in
-        ap (rails_at (in_lane rails lane values)) e
-    same_on (suc k) lt =
-        let e : t + suc k ≡ suc (t + k) = omega arith in
-        let most : end ≤ length values = next.limited in
-        ap (rails_at (in_lane rails lane values)) e
-        ∙ ⊎_elim
-        (λ (i, at). let far : end ≤ suc (t + k) = next.least i (suc (t + k)) at (omega arith) in
-        absurd (omega arith))
-        (λ same. same lane inside)
-        (told (t + k) (omega arith))
-        ∙ same_on k (omega arith)
+      (told : ChangeAt signal changes values)
+      (next : IsNextAfter changes t (length values) end) (lane : ℕ) (inside : lane < signal.lanes)
+    where
+      same_on : (k : ℕ) → t + k < end
+          → rails_at (in_lane signal.rails lane values) (t + k)
+          ≡ rails_at (in_lane signal.rails lane values) t
+      same_on zero lt = let e : t + 0 ≡ t = omega arith in
+          ap (rails_at (in_lane signal.rails lane values)) e
+      same_on (suc k) lt =
+          let e : t + suc k ≡ suc (t + k) = omega arith in
+          let most : end ≤ length values = next.limited in
+          ap (rails_at (in_lane signal.rails lane values)) e
+          ∙ ⊎_elim
+          (λ (i, at). let far : end ≤ suc (t + k) = next.least i (suc (t + k)) at (omega arith) in
+          absurd (omega arith))
+          (λ same. same lane inside)
+          (told (t + k) (omega arith))
+          ∙ same_on k (omega arith)
 
-    pub stays : StaysUntil (rails_at (in_lane rails lane values)) t (length values) end
-    stays = record {
-      later = next.later;
-      limited = next.limited;
-      same = λ r low high.
-          let e : r ≡ t + (r - t) = omega arith in
-          ap (rails_at (in_lane rails lane values)) e ∙ same_on (r - t) (omega arith);
-    }
+      pub stays : StaysUntil (rails_at (in_lane signal.rails lane values)) t (length values) end
+      stays = record {
+        later = next.later;
+        limited = next.limited;
+        same = λ r low high.
+            let e : r ≡ t + (r - t) = omega arith in
+            ap (rails_at (in_lane signal.rails lane values)) e ∙ same_on (r - t) (omega arith);
+      }
 
   -- the same since the greatest delay, where no change is later
   pub steady_since : (values : List V) (changes : List ℕ) (e : Ends)
-      → ChangeAt lanes rails changes values → e.least ≤ e.greatest → 1 ≤ e.greatest
+      → ChangeAt signal changes values → e.least ≤ e.greatest → 1 ≤ e.greatest
       → e.greatest ≤ length values
       → ((i c : ℕ) → slice_get changes i ≡ Some c → c ≤ length values - e.greatest)
-      → (lane : ℕ) → lane < lanes
-      → IsSteadySince (rails_at (in_lane rails lane values)) e (length values)
+      → (lane : ℕ) → lane < signal.lanes
+      → IsSteadySince (rails_at (in_lane signal.rails lane values)) e (length values)
   steady_since values changes e told ordered some past before lane inside =
       let end = length values in
       let next : IsNextAfter changes (end - e.greatest) end end = record {
         later = omega arith;
         limited = omega arith;
-        least = λ i c at after. let low : c ≤ end - e.greatest = before i c at in absurd (omega arith);
+        least = λ i c at after. let low : c ≤ end - e.greatest = before i c at in absurd (omega
+            arith);
       } in
-      let on : StaysUntil (rails_at (in_lane rails lane values)) (end - e.greatest) end end =
+      let on : StaysUntil (rails_at (in_lane signal.rails lane values)) (end - e.greatest) end end =
       stays values changes (end - e.greatest) end told next lane inside in
       record {
         ordered = ordered;
@@ -361,24 +372,24 @@ module _ {V : Type 0} (lanes : ℕ) (rails : V → ℕ → Rails) where
 
   -- so many more of one value, where its change is noted
   pub track_filled : (values new : List V) (value : V) (room more : ℕ) (changes noted : List ℕ)
-      (croom cmore horizon n : ℕ) → IsTrack lanes rails values room changes croom horizon
+      (croom cmore horizon n : ℕ) → IsTrack signal values room changes croom horizon
       → length values + suc n ≤ horizon → new ≡ values ++ replicate (suc n) value → room ≤ more
       → croom ≤ cmore
-      → ((noted ≡ changes) × IsLast lanes rails values value)
+      → ((noted ≡ changes) × IsLast signal values value)
       ⊎ (noted ≡ changes ++ length values ∷ [])
-      → IsTrack lanes rails new more noted cmore horizon
+      → IsTrack signal new more noted cmore horizon
   track_filled values new value room more changes noted croom cmore horizon n track fits is wider
       cwider which =
       let below : length values < horizon = omega (arith, fits) in
-      let first : IsTrack lanes rails (values ++ value ∷ []) more noted cmore horizon =
+      let first : IsTrack signal (values ++ value ∷ []) more noted cmore horizon =
       ⊎_elim
       (λ same.
-      subst (λ (l : List ℕ). IsTrack lanes rails (values ++ value ∷ []) more l cmore horizon)
+      subst (λ (l : List ℕ). IsTrack signal (values ++ value ∷ []) more l cmore horizon)
       (sym same.0)
       (track_roomy (values ++ value ∷ []) more changes croom cmore horizon cwider
       (track_same values value room more changes croom horizon track same.1 below wider)))
       (λ changed.
-      subst (λ (l : List ℕ). IsTrack lanes rails (values ++ value ∷ []) more l cmore horizon)
+      subst (λ (l : List ℕ). IsTrack signal (values ++ value ∷ []) more l cmore horizon)
       (sym changed)
       (track_change values value room more changes croom cmore horizon (length values) refl track
       below wider cwider))
@@ -389,7 +400,7 @@ module _ {V : Type 0} (lanes : ℕ) (rails : V → ℕ → Rails) where
       let same : (values ++ value ∷ []) ++ replicate n value
       ≡ values ++ replicate (suc n) value =
       append_assoc values (value ∷ []) (replicate n value) in
-      subst (λ (l : List V). IsTrack lanes rails l more noted cmore horizon) (same ∙ sym is)
+      subst (λ (l : List V). IsTrack signal l more noted cmore horizon) (same ∙ sym is)
       (filled (values ++ value ∷ []) value more noted cmore horizon n first
       (last_pushed values value) (omega (arith, long, fits))).0
 
@@ -397,18 +408,19 @@ module _ {V : Type 0} (lanes : ℕ) (rails : V → ℕ → Rails) where
 
   -- until where the last change was it is as the values before
   same_before : (values : List V) (last : V) (len lane r : ℕ) → r < length values
-      → rails_at (in_lane rails lane (all_values values last len)) r
-      ≡ rails_at (in_lane rails lane values) r
+      → rails_at (in_lane signal.rails lane (all_values values last len)) r
+      ≡ rails_at (in_lane signal.rails lane values) r
   same_before values last len lane r lt =
       let x : V = get_or values r last in
       let at : slice_get values r ≡ Some x = slice_get-get_or values r last lt in
-      rails_read (all_values values last len) r x lane (read_before values last len r x at)
-      ∙ sym (rails_read values r x lane at)
+      rails_read signal.rails (all_values values last len) r x lane (read_before values last len r x
+      at)
+      ∙ sym (rails_read signal.rails values r x lane at)
 
   pub stays_before : (values : List V) (last : V) (len t end lane : ℕ)
       → length values ≤ len - 1
-      → StaysUntil (rails_at (in_lane rails lane values)) t (length values) end
-      → StaysUntil (rails_at (in_lane rails lane (all_values values last len))) t
+      → StaysUntil (rails_at (in_lane signal.rails lane values)) t (length values) end
+      → StaysUntil (rails_at (in_lane signal.rails lane (all_values values last len))) t
       (length (all_values values last len)) end
   stays_before values last len t end lane before stays =
       let long : length (all_values values last len) ≡ len = all_long values last len before in
@@ -426,7 +438,7 @@ module _ {V : Type 0} (lanes : ℕ) (rails : V → ℕ → Rails) where
   -- from the last change on it stays
   pub stays_last : (values : List V) (last : V) (len t lane : ℕ) → length values ≤ len - 1
       → length values ≤ t → t < len
-      → StaysUntil (rails_at (in_lane rails lane (all_values values last len))) t
+      → StaysUntil (rails_at (in_lane signal.rails lane (all_values values last len))) t
       (length (all_values values last len)) len
   stays_last values last len t lane before past inside =
       let long : length (all_values values last len) ≡ len = all_long values last len before in
@@ -434,14 +446,14 @@ module _ {V : Type 0} (lanes : ℕ) (rails : V → ℕ → Rails) where
         later = inside;
         limited = omega (arith, long);
         same = λ r low high.
-            rails_read (all_values values last len) r last lane
+            rails_read signal.rails (all_values values last len) r last lane
             (read_after values last len r (omega arith) high)
-            ∙ sym (rails_read (all_values values last len) t last lane
+            ∙ sym (rails_read signal.rails (all_values values last len) t last lane
             (read_after values last len t past inside));
       }
 
   pub held_none : (last : V) (room croom horizon : ℕ) → horizon ≤ room → horizon ≤ croom
-      → horizon ≤ 4000 → IsHeld lanes rails [] last 0 room [] croom horizon
+      → horizon ≤ 4000 → IsHeldTrack signal [] last 0 room [] croom horizon
   held_none last room croom horizon r cr short = record {
     before = omega arith;
     track = track_none room croom horizon r cr short;
@@ -450,18 +462,18 @@ module _ {V : Type 0} (lanes : ℕ) (rails : V → ℕ → Rails) where
   -- it goes on with the last value
   pub held_on : (values : List V) (last : V) (len room : ℕ) (changes : List ℕ)
       (croom horizon count : ℕ) → 1 ≤ len → 1 ≤ count → len + count ≤ horizon
-      → IsHeld lanes rails values last len room changes croom horizon
-      → IsHeld lanes rails values last (len + count) room changes croom horizon
+      → IsHeldTrack signal values last len room changes croom horizon
+      → IsHeldTrack signal values last (len + count) room changes croom horizon
   held_on values last len room changes croom horizon count begun some fits held =
       let keys : List V = all_values values last len in
       let before : length values ≤ len - 1 = held.before in
       let long : length keys ≡ len = all_long values last len before in
       let next : count ≡ suc (count - 1) = omega arith in
-      let is_last : IsLast lanes rails keys last = record {
+      let is_last : IsLast signal keys last = record {
         n = len - 1;
         count = omega (arith, long);
         same = λ lane inside.
-            rails_read keys (len - 1) last lane
+            rails_read signal.rails keys (len - 1) last lane
             (read_after values last len (len - 1) before (omega arith));
       } in
       record {
@@ -475,14 +487,15 @@ module _ {V : Type 0} (lanes : ℕ) (rails : V → ℕ → Rails) where
       }
 
   pub sent_on : (values : List V) (last value : V) (len count lane : ℕ)
-      → length values ≤ len - 1 → rails last lane ≡ rails value lane
-      → in_lane rails lane (all_values values last (len + count))
-      ≡ in_lane rails lane (all_values values last len) ++ replicate count (rails value lane)
+      → length values ≤ len - 1 → signal.rails last lane ≡ signal.rails value lane
+      → in_lane signal.rails lane (all_values values last (len + count))
+      ≡ in_lane signal.rails lane (all_values values last len) ++ replicate count (signal.rails
+      value lane)
   sent_on values last value len count lane before same =
-      ap (in_lane rails lane) (all_more values last len count (omega (arith, before)))
-      ∙ map-append (λ v. rails v lane) (all_values values last len) (replicate count last)
-      ∙ ap (λ (l : List Rails). in_lane rails lane (all_values values last len) ++ l)
-      (map_replicate (λ v. rails v lane) count last
+      ap (in_lane signal.rails lane) (all_more values last len count (omega (arith, before)))
+      ∙ map-append (λ v. signal.rails v lane) (all_values values last len) (replicate count last)
+      ∙ ap (λ (l : List Rails). in_lane signal.rails lane (all_values values last len) ++ l)
+      (map_replicate (λ v. signal.rails v lane) count last
       ∙ ap (replicate count) same)
 
   -- it turns to another value; the ticks before are written
@@ -496,13 +509,13 @@ module _ {V : Type 0} (lanes : ℕ) (rails : V → ℕ → Rails) where
       (changes noted : List ℕ) (croom cmore horizon count : ℕ) → 1 ≤ count
       → len + count ≤ horizon → keys ≡ all_values values last len → room ≤ more
       → noted ≡ changes ++ len ∷ [] → croom ≤ cmore
-      → IsHeld lanes rails values last len room changes croom horizon
-      → IsHeld lanes rails keys value (len + count) more noted cmore horizon
+      → IsHeldTrack signal values last len room changes croom horizon
+      → IsHeldTrack signal keys value (len + count) more noted cmore horizon
   held_turned values keys last value len room more changes noted croom cmore horizon count some
       fits is wider changed cwider held =
       let long : length keys ≡ len = ap length is ∙ all_long values last len held.before in
-      let old : IsTrack lanes rails keys room changes croom horizon =
-      subst (λ (l : List V). IsTrack lanes rails l room changes croom horizon) (sym is) held.track in
+      let old : IsTrack signal keys room changes croom horizon =
+      subst (λ (l : List V). IsTrack signal l room changes croom horizon) (sym is) held.track in
       let next : count ≡ suc (count - 1) = omega arith in
       record {
         before = omega (arith, long);
@@ -517,15 +530,17 @@ module _ {V : Type 0} (lanes : ℕ) (rails : V → ℕ → Rails) where
 
   pub sent_turned : (values keys : List V) (last value : V) (len count lane : ℕ)
       → length values ≤ len - 1 → keys ≡ all_values values last len
-      → in_lane rails lane (all_values keys value (len + count))
-      ≡ in_lane rails lane (all_values values last len) ++ replicate count (rails value lane)
+      → in_lane signal.rails lane (all_values keys value (len + count))
+      ≡ in_lane signal.rails lane (all_values values last len) ++ replicate count (signal.rails
+      value lane)
   sent_turned values keys last value len count lane before is =
       let long : length keys ≡ len = ap length is ∙ all_long values last len before in
-      ap (in_lane rails lane) (all_turned keys value len count long)
-      ∙ map-append (λ v. rails v lane) keys (replicate count value)
-      ∙ ap (λ (l : List Rails). in_lane rails lane keys ++ l)
-      (map_replicate (λ v. rails v lane) count value)
-      ∙ ap (λ (l : List V). in_lane rails lane l ++ replicate count (rails value lane)) is
+      ap (in_lane signal.rails lane) (all_turned keys value len count long)
+      ∙ map-append (λ v. signal.rails v lane) keys (replicate count value)
+      ∙ ap (λ (l : List Rails). in_lane signal.rails lane keys ++ l)
+      (map_replicate (λ v. signal.rails v lane) count value)
+      ∙ ap (λ (l : List V). in_lane signal.rails lane l ++ replicate count (signal.rails value
+      lane)) is
 
 -- ---- the first change after a tick
 

@@ -42,9 +42,9 @@ pub record RailStandsFor (c : CellNumbers) (p d : ℕ) (recorded : List Bool) : 
   pub left_is : c.left ≡ (counts p d recorded).left
 
 -- what must be may be, at each tick
-abbrev pub AreSound : List Rails → Type 0
-AreSound [] = Unit {0}
-AreSound (x ∷ recorded) = IsSound x × AreSound recorded
+abbrev pub AllSound : List Rails → Type 0
+AllSound [] = Unit {0}
+AllSound (x ∷ recorded) = IsSound x × AllSound recorded
 
 -- the numbers of both rails: the must rail has the greatest pickup and the least dropout, the may
 -- rail the least pickup and the greatest dropout
@@ -54,4 +54,4 @@ pub record RailsStandFor (must may : CellNumbers) (pickup dropout : Ends)
   pub may_stands : RailStandsFor may pickup.least dropout.greatest (map may_of recorded)
   pub pickup_ordered : pickup.least ≤ pickup.greatest
   pub dropout_ordered : dropout.least ≤ dropout.greatest
-  pub sound : AreSound recorded
+  pub sound : AllSound recorded

@@ -1,6 +1,6 @@
 -- Laws of the rails of a level.
 use Rattle.std.specs.Prelude.{◌≡◌, refl}
-use Rattle.model_history.specs.Rails.{IsSound, both}
+use Rattle.model_history.specs.Rails.{IsSound}
 use Rattle.run_signal.specs.declared.level.Level.{Level}
 use Rattle.run_signal.specs.declared.level.Level.TheVariants.{Off, On}
 use Rattle.run_signal.specs.Levels.{level_rails}

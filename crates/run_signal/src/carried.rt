@@ -13,10 +13,11 @@ pub trait Carried: Signal {
     /// What is received at the tick after those at which these keys were sent, from tick 0 on,
     /// where what arrives at it was delayed by a number of ticks within this span.
     fn arrive(sent: &Track<Self>, delay: &Self::Span) -> Self
-        requires later { (lane : ℕ) → lane < Self.LANES → 1 ≤ (Self.ends delay.now lane).least }
+        requires later { (lane : ℕ) → lane < Self.signal.lanes →
+            1 ≤ (Self.signal.ends delay.now lane).least }
         requires room { length sent.now.keys < 4000 }
-        ensures { (lane : ℕ) → lane < Self.LANES →
-            Self.rails result lane
-            ≡ rails_delayed (rails_at (in_lane Self.rails lane sent.now.keys))
-            (Self.ends delay.now lane) (length sent.now.keys) };
+        ensures { (lane : ℕ) → lane < Self.signal.lanes →
+            Self.signal.rails result lane
+            ≡ rails_delayed (rails_at (in_lane Self.signal.rails lane sent.now.keys))
+            (Self.signal.ends delay.now lane) (length sent.now.keys) };
 }

@@ -154,8 +154,8 @@ fn numbers(ticks: &[Tick]) -> [u16; 64]
 }
 
 impl Signal for Lanes64 {
-    ghost use Rattle.model_history.specs.Rails.{single};
-    ghost use Rattle.run_signal.specs.Bits.{bit_rails};
+    ghost use Rattle.std.specs.Prelude.{refl};
+    ghost use Rattle.run_signal.specs.Bits.{lanes_signal};
 
     type Span = Ticks64;
 
@@ -163,9 +163,7 @@ impl Signal for Lanes64 {
 
     ghost LANES = { 64 };
 
-    ghost rails = { λ x lane. bit_rails x lane };
-
-    ghost ends = { λ span lane. single (slice_index span lane) };
+    ghost signal = { lanes_signal };
 
     fn known(value: bool) -> Self {
         Lanes64 {
@@ -219,6 +217,8 @@ impl Signal for Lanes64 {
     fn alike(span: &Ticks64, lane: u32) -> Lanes64 {
         span.lanes_with(span.values[lane as usize])
     }
+
+    ghost lanes_are = { refl };
 
     ghost must_implies_may = { λ x lane inside on. on };
 }

@@ -13,8 +13,8 @@ pub enum Level {
 }
 
 impl Signal for Level {
-    ghost use Rattle.model_history.specs.Rails.{single};
-    ghost use Rattle.run_signal.specs.Levels.{level_rails};
+    ghost use Rattle.std.specs.Prelude.{refl};
+    ghost use Rattle.run_signal.specs.Levels.{level_signal};
     ghost use Rattle.run_signal.specs.LevelLaws.{level_sound};
 
     type Span = Tick;
@@ -23,9 +23,7 @@ impl Signal for Level {
 
     ghost LANES = { 1 };
 
-    ghost rails = { λ x _. level_rails x };
-
-    ghost ends = { λ span _. single span };
+    ghost signal = { level_signal };
 
     fn known(value: bool) -> Self {
         if value { Level::On } else { Level::Off }
@@ -82,6 +80,8 @@ impl Signal for Level {
     fn alike(_span: &Tick, _lane: u32) -> Lanes64 {
         Lanes64::from_bits(1)
     }
+
+    ghost lanes_are = { refl };
 
     ghost must_implies_may = { λ x lane inside. level_sound x };
 }

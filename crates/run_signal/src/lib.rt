@@ -35,11 +35,11 @@ mod track;
 mod vectors;
 
 ghost use Rattle.std.specs.Prelude.{◌≡◌, ℕ, ◌<◌, ◌≤◌, IsTrue};
-ghost use Rattle.model_history.specs.Rails.{Rails, Ends, IsSound, single, both, rails_not};
+ghost use Rattle.model_history.specs.Rails.{IsSound, single, both, rails_not};
 ghost use Rattle.model_history.specs.Rails.{rails_and};
 ghost use Rattle.model_history.specs.Rails.{rails_or};
 ghost use Rattle.run_signal.specs.Bits.{bit_on};
-ghost use Rattle.run_signal.specs.Spans.{InOrderInEachLane};
+ghost use Rattle.run_signal.specs.{Signals.SignalOf, Spans.InOrderInEachLane};
 
 pub use base_memory::Memory;
 pub use carried::Carried;
@@ -61,68 +61,69 @@ pub trait Signal: Copy {
 
     ghost LANES: { ℕ };
 
-    /// The two rails of a value in a lane.
-    ghost rails: { Self → ℕ → Rails };
-
-    /// The two ends of a span in a lane.
-    ghost ends: { Self.Span → ℕ → Ends };
+    /// The lanes, the two rails of a value and the two ends of a span in each.
+    ghost signal: { SignalOf Self Self.Span };
 
     /// The value that is known to be this in each lane.
     fn known(value: bool) -> Self
-        ensures { (lane : ℕ) → lane < LANES → rails result lane ≡ both value };
+        ensures { (lane : ℕ) → lane < signal.lanes → signal.rails result lane ≡ both value };
 
     fn not(self) -> Self
-        ensures { (lane : ℕ) → lane < LANES → rails result lane ≡ rails_not (rails self lane) };
+        ensures { (lane : ℕ) → lane < signal.lanes →
+            signal.rails result lane ≡ rails_not (signal.rails self lane) };
 
     fn and(self, other: Self) -> Self
-        ensures { (lane : ℕ) → lane < LANES →
-            rails result lane ≡ rails_and (rails self lane) (rails other lane) };
+        ensures { (lane : ℕ) → lane < signal.lanes →
+            signal.rails result lane ≡ rails_and (signal.rails self lane) (signal.rails other lane) };
 
     fn or(self, other: Self) -> Self
-        ensures { (lane : ℕ) → lane < LANES →
-            rails result lane ≡ rails_or (rails self lane) (rails other lane) };
+        ensures { (lane : ℕ) → lane < signal.lanes →
+            signal.rails result lane ≡ rails_or (signal.rails self lane) (signal.rails other lane) };
 
     /// Whether both values are the same in each lane.
     fn same(self, other: Self) -> bool
         ensures { IsTrue result →
-            (lane : ℕ) → lane < LANES → rails self lane ≡ rails other lane };
+            (lane : ℕ) → lane < signal.lanes → signal.rails self lane ≡ signal.rails other lane };
 
     /// Whether the value must be on in the lane.
     fn must(self, lane: u32) -> bool
-        requires { lane < LANES }
-        ensures { result ≡ (rails self lane).must };
+        requires { lane < signal.lanes }
+        ensures { result ≡ (signal.rails self lane).must };
 
     /// Whether the value may be on in the lane.
     fn may(self, lane: u32) -> bool
-        requires { lane < LANES }
-        ensures { result ≡ (rails self lane).may };
+        requires { lane < signal.lanes }
+        ensures { result ≡ (signal.rails self lane).may };
 
     /// The span of this one number of ticks in each lane.
     fn sure(value: u32) -> Self::Span
         requires { value ≤ 4000 }
-        ensures exact { (lane : ℕ) → lane < LANES → ends result lane ≡ single value }
-        ensures in_order { InOrderInEachLane LANES (ends result) };
+        ensures exact { (lane : ℕ) → lane < signal.lanes → signal.ends result lane ≡ single value }
+        ensures in_order { InOrderInEachLane signal.lanes (signal.ends result) };
 
     /// The least number of ticks of the span in the lane.
     fn least(span: &Self::Span, lane: u32) -> u32
-        requires { lane < LANES }
-        ensures least { result ≡ (ends span.now lane).least }
-        ensures in_order { InOrderInEachLane LANES (ends span.now) };
+        requires { lane < signal.lanes }
+        ensures least { result ≡ (signal.ends span.now lane).least }
+        ensures in_order { InOrderInEachLane signal.lanes (signal.ends span.now) };
 
     /// The greatest number of ticks of the span in the lane.
     fn greatest(span: &Self::Span, lane: u32) -> u32
-        requires { lane < LANES }
-        ensures greatest { result ≡ (ends span.now lane).greatest }
-        ensures in_order { InOrderInEachLane LANES (ends span.now) };
+        requires { lane < signal.lanes }
+        ensures greatest { result ≡ (signal.ends span.now lane).greatest }
+        ensures in_order { InOrderInEachLane signal.lanes (signal.ends span.now) };
 
     /// This lane, and others whose spans have the ends that its span has.
     fn alike(span: &Self::Span, lane: u32) -> Lanes64
-        requires { lane < LANES }
+        requires { lane < signal.lanes }
         ensures itself { IsTrue (bit_on result lane) }
-        ensures alike { (k : ℕ) → k < LANES → IsTrue (bit_on result k) →
-            ends span.now k ≡ ends span.now lane }
-        ensures few { LANES ≤ 64 };
+        ensures alike { (k : ℕ) → k < signal.lanes → IsTrue (bit_on result k) →
+            signal.ends span.now k ≡ signal.ends span.now lane }
+        ensures few { signal.lanes ≤ 64 };
+
+    ghost lanes_are: { signal.lanes ≡ LANES };
 
     /// What must be may be.
-    ghost must_implies_may: { (x : Self) (lane : ℕ) → lane < LANES → IsSound (rails x lane) };
+    ghost must_implies_may: { (x : Self) (lane : ℕ) → lane < signal.lanes →
+        IsSound (signal.rails x lane) };
 }

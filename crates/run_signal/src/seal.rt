@@ -25,7 +25,8 @@ impl<V: Signal> Model for SealCell<V> {
 impl<V: Signal> SealCell<V> {
     /// The seal before the first tick.
     pub fn new() -> Self
-        ensures { (lane : ℕ) → lane < V.LANES → SealStandsFor (V.rails result lane) [] [] }
+        ensures { (lane : ℕ) → lane < V.signal.lanes →
+            SealStandsFor (V.signal.rails result lane) [] [] }
     {
         SealCell {
             last: V::known(false),
@@ -34,15 +35,15 @@ impl<V: Signal> SealCell<V> {
 
     /// Takes set and hold of the next tick, and answers the seal at it.
     pub fn tick(&mut self, set: V, hold: V) -> V
-        ensures stands { (lane : ℕ) (sets holds : List Rails) → lane < V.LANES →
-            SealStandsFor (V.rails self.old lane) sets holds →
-            SealStandsFor (V.rails self.new lane)
-            (sets ++ V.rails set lane ∷ []) (holds ++ V.rails hold lane ∷ []) }
-        ensures sealed { (lane : ℕ) (sets holds : List Rails) → lane < V.LANES →
-            SealStandsFor (V.rails self.old lane) sets holds →
-            V.rails result lane
-            ≡ rails_sealed (rails_at (sets ++ V.rails set lane ∷ []))
-            (rails_at (holds ++ V.rails hold lane ∷ [])) (length sets) }
+        ensures stands { (lane : ℕ) (sets holds : List Rails) → lane < V.signal.lanes →
+            SealStandsFor (V.signal.rails self.old lane) sets holds →
+            SealStandsFor (V.signal.rails self.new lane)
+            (sets ++ V.signal.rails set lane ∷ []) (holds ++ V.signal.rails hold lane ∷ []) }
+        ensures sealed { (lane : ℕ) (sets holds : List Rails) → lane < V.signal.lanes →
+            SealStandsFor (V.signal.rails self.old lane) sets holds →
+            V.signal.rails result lane
+            ≡ rails_sealed (rails_at (sets ++ V.signal.rails set lane ∷ []))
+            (rails_at (holds ++ V.signal.rails hold lane ∷ [])) (length sets) }
     {
         self.skip(set, hold, 1);
         self.last
@@ -53,11 +54,11 @@ impl<V: Signal> SealCell<V> {
     pub fn skip(&mut self, set: V, hold: V, count: u32)
         requires some { 1 ≤ count }
         requires limited { count ≤ 4000 }
-        ensures { (lane : ℕ) (sets holds : List Rails) → lane < V.LANES →
-            SealStandsFor (V.rails self.old lane) sets holds →
-            SealStandsFor (V.rails self.new lane)
-            (sets ++ replicate count (V.rails set lane))
-            (holds ++ replicate count (V.rails hold lane)) }
+        ensures { (lane : ℕ) (sets holds : List Rails) → lane < V.signal.lanes →
+            SealStandsFor (V.signal.rails self.old lane) sets holds →
+            SealStandsFor (V.signal.rails self.new lane)
+            (sets ++ replicate count (V.signal.rails set lane))
+            (holds ++ replicate count (V.signal.rails hold lane)) }
     {
         history_laws();
         self.last = next(set, hold, self.last);
@@ -66,9 +67,10 @@ impl<V: Signal> SealCell<V> {
 
 // Whether the seal is on after one more tick.
 fn next<V: Signal>(set: V, hold: V, last: V) -> V
-    ensures { (lane : ℕ) → lane < V.LANES →
-        V.rails result lane
-        ≡ rails_or (V.rails set lane) (rails_and (V.rails hold lane) (V.rails last lane)) }
+    ensures { (lane : ℕ) → lane < V.signal.lanes →
+        V.signal.rails result lane
+        ≡ rails_or (V.signal.rails set lane) (rails_and (V.signal.rails hold lane) (V.signal.rails
+        last lane)) }
 {
     set.or(hold.and(last))
 }

@@ -35,7 +35,8 @@ impl Tern {
 }
 
 impl Signal for Tern {
-    ghost use Rattle.run_signal.specs.Terns.{tern_rails};
+    ghost use Rattle.std.specs.Prelude.{refl};
+    ghost use Rattle.run_signal.specs.Terns.{tern_signal};
     ghost use Rattle.run_signal.specs.TernLaws.{tern_sound};
 
     type Span = Within;
@@ -44,9 +45,7 @@ impl Signal for Tern {
 
     ghost LANES = { 1 };
 
-    ghost rails = { λ x _. tern_rails x };
-
-    ghost ends = { λ span _. span };
+    ghost signal = { tern_signal };
 
     fn known(value: bool) -> Self {
         if value { Tern::One } else { Tern::Zero }
@@ -109,6 +108,8 @@ impl Signal for Tern {
     fn alike(_span: &Within, _lane: u32) -> Lanes64 {
         Lanes64::from_bits(1)
     }
+
+    ghost lanes_are = { refl };
 
     ghost must_implies_may = { λ x lane inside. tern_sound x };
 }

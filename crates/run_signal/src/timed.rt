@@ -17,28 +17,29 @@ pub trait Timed: Signal {
 
     /// The cells before the first tick.
     fn fresh(pickup: Self::Span, dropout: Self::Span) -> Self::Cells
-        ensures { (lane : ℕ) → lane < Self.LANES → stands_for result pickup dropout lane [] };
+        ensures { (lane : ℕ) → lane < Self.signal.lanes →
+            stands_for result pickup dropout lane [] };
 
     /// Takes the input of the next tick, and answers the timed element at it.
     fn tick(cells: &mut Self::Cells, input: Self) -> Self
         ensures stands { (pickup dropout : Self.Span) (lane : ℕ) (inputs : List Rails) →
-            lane < Self.LANES → stands_for cells.old pickup dropout lane inputs →
-            stands_for cells.new pickup dropout lane (inputs ++ Self.rails input lane ∷ []) }
+            lane < Self.signal.lanes → stands_for cells.old pickup dropout lane inputs →
+            stands_for cells.new pickup dropout lane (inputs ++ Self.signal.rails input lane ∷ []) }
         ensures timed { (pickup dropout : Self.Span) (lane : ℕ) (inputs : List Rails) →
-            lane < Self.LANES → stands_for cells.old pickup dropout lane inputs →
-            Self.rails result lane
-            ≡ rails_timed (rails_at (inputs ++ Self.rails input lane ∷ []))
-            (Self.ends pickup lane) (Self.ends dropout lane) (length inputs) };
+            lane < Self.signal.lanes → stands_for cells.old pickup dropout lane inputs →
+            Self.signal.rails result lane
+            ≡ rails_timed (rails_at (inputs ++ Self.signal.rails input lane ∷ []))
+            (Self.signal.ends pickup lane) (Self.signal.ends dropout lane) (length inputs) };
 
     /// The greatest number from 1 to 4,000 such that so many ticks, each with this input, have
     /// equal answers on both rails in each lane.
     fn ahead(cells: &Self::Cells, input: Self) -> u32
         ensures { (pickup dropout : Self.Span) (inputs : ℕ → List Rails) →
-            ((lane : ℕ) → lane < Self.LANES →
+            ((lane : ℕ) → lane < Self.signal.lanes →
             stands_for cells.now pickup dropout lane (inputs lane)) →
-            IsSteadyFor Self.LANES
-            (λ lane k. next_rails (Self.ends pickup lane) (Self.ends dropout lane)
-            (inputs lane) (Self.rails input lane) k)
+            IsSteadyFor Self.signal.lanes
+            (λ lane k. next_rails (Self.signal.ends pickup lane) (Self.signal.ends dropout lane)
+            (inputs lane) (Self.signal.rails input lane) k)
             result };
 
     /// Takes so many ticks, each with this input.
@@ -46,7 +47,7 @@ pub trait Timed: Signal {
         requires some { 1 ≤ count }
         requires limited { count ≤ 4000 }
         ensures { (pickup dropout : Self.Span) (lane : ℕ) (inputs : List Rails) →
-            lane < Self.LANES → stands_for cells.old pickup dropout lane inputs →
+            lane < Self.signal.lanes → stands_for cells.old pickup dropout lane inputs →
             stands_for cells.new pickup dropout lane
-            (inputs ++ replicate count (Self.rails input lane)) };
+            (inputs ++ replicate count (Self.signal.rails input lane)) };
 }

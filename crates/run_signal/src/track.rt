@@ -34,7 +34,7 @@ pub struct Track<V: Signal> {
 
 impl<V: Signal> Model for Track<V> {
     ghost use Rattle.std.specs.Prelude.{vec_capacity};
-    ghost use Rattle.run_signal.specs.{SentKeys.SentKeys, Tracks.IsHeld, Tracks.all_values};
+    ghost use Rattle.run_signal.specs.{SentKeys.SentKeys, Tracks.IsHeldTrack, Tracks.all_values};
 
     ghost Value = { SentKeys V };
 
@@ -43,7 +43,7 @@ impl<V: Signal> Model for Track<V> {
       horizon = a.horizon;
     } };
 
-    ghost invariant = { λ a. IsHeld V.LANES V.rails a.values.items a.last a.len
+    ghost invariant = { λ a. IsHeldTrack V.signal a.values.items a.last a.len
         (vec_capacity a.values) a.changes.items (vec_capacity a.changes) a.horizon };
 }
 
@@ -88,9 +88,10 @@ impl<V: Signal> Track<V> {
     pub fn push(&mut self, value: V, count: u32)
         requires some { 1 ≤ count }
         requires room { length self.old.keys + count ≤ self.old.horizon }
-        ensures keys { (lane : ℕ) → lane < V.LANES →
-            in_lane V.rails lane self.new.keys
-            ≡ in_lane V.rails lane self.old.keys ++ replicate count (V.rails value lane) }
+        ensures keys { (lane : ℕ) → lane < V.signal.lanes →
+            in_lane V.signal.rails lane self.new.keys
+            ≡ in_lane V.signal.rails lane self.old.keys ++ replicate count (V.signal.rails value
+            lane) }
         ensures length { length self.new.keys ≡ length self.old.keys + count }
         ensures horizon { self.new.horizon ≡ self.old.horizon }
     {
@@ -112,8 +113,8 @@ impl<V: Signal> Track<V> {
         requires { t < length self.now.keys }
         ensures later { t < result }
         ensures limited { result ≤ length self.now.keys }
-        ensures stays { (lane : ℕ) → lane < V.LANES →
-            StaysUntil (rails_at (in_lane V.rails lane self.now.keys)) t
+        ensures stays { (lane : ℕ) → lane < V.signal.lanes →
+            StaysUntil (rails_at (in_lane V.signal.rails lane self.now.keys)) t
             (length self.now.keys) result }
     {
         if t as usize >= self.values.len() {
@@ -130,12 +131,13 @@ impl<V: Signal> Track<V> {
 impl<V: Carried> Track<V> {
     /// What is received at the next tick of a key, through a delay within the span.
     pub fn received(&self, delay: &V::Span) -> V
-        requires later { (lane : ℕ) → lane < V.LANES → 1 ≤ (V.ends delay.now lane).least }
+        requires later { (lane : ℕ) → lane < V.signal.lanes →
+            1 ≤ (V.signal.ends delay.now lane).least }
         requires room { length self.now.keys < 4000 }
-        ensures { (lane : ℕ) → lane < V.LANES →
-            V.rails result lane
-            ≡ rails_delayed (rails_at (in_lane V.rails lane self.now.keys))
-            (V.ends delay.now lane) (length self.now.keys) }
+        ensures { (lane : ℕ) → lane < V.signal.lanes →
+            V.signal.rails result lane
+            ≡ rails_delayed (rails_at (in_lane V.signal.rails lane self.now.keys))
+            (V.signal.ends delay.now lane) (length self.now.keys) }
     {
         delays_are_their_facts();
         if self.is_steady(delay) {
@@ -147,11 +149,11 @@ impl<V: Carried> Track<V> {
     // Whether there is one lane, and the key is the same since the greatest delay before the next
     // tick.
     fn is_steady(&self, delay: &V::Span) -> bool
-        requires { (lane : ℕ) → lane < V.LANES → 1 ≤ (V.ends delay.now lane).least }
+        requires { (lane : ℕ) → lane < V.signal.lanes → 1 ≤ (V.signal.ends delay.now lane).least }
         ensures some { IsTrue result → 1 ≤ length self.now.keys }
-        ensures since { IsTrue result → (lane : ℕ) → lane < V.LANES →
-            IsSteadySince (rails_at (in_lane V.rails lane self.now.keys))
-            (V.ends delay.now lane) (length self.now.keys) }
+        ensures since { IsTrue result → (lane : ℕ) → lane < V.signal.lanes →
+            IsSteadySince (rails_at (in_lane V.signal.rails lane self.now.keys))
+            (V.signal.ends delay.now lane) (length self.now.keys) }
     {
         let lanes = V::LANES;
         if lanes != 1 {
@@ -169,8 +171,8 @@ impl<V: Carried> Track<V> {
 // Whether there are ticks before, and the last of them has this value in each lane.
 fn goes_on<V: Signal>(len: u32, last: V, value: V) -> bool
     ensures some { IsTrue result → 1 ≤ len }
-    ensures same { IsTrue result → (lane : ℕ) → lane < V.LANES →
-        V.rails last lane ≡ V.rails value lane }
+    ensures same { IsTrue result → (lane : ℕ) → lane < V.signal.lanes →
+        V.signal.rails last lane ≡ V.signal.rails value lane }
 {
     len > 0 && last.same(value)
 }
@@ -181,8 +183,8 @@ fn same_until<V: Signal>(values: &[V], t: u32) -> u32
     requires short { length values.now ≤ 4000 }
     ensures later { t < result }
     ensures limited { result ≤ length values.now }
-    ensures stays { (lane : ℕ) → lane < V.LANES →
-        StaysUntil (rails_at (in_lane V.rails lane values.now)) t (length values.now) result }
+    ensures stays { (lane : ℕ) → lane < V.signal.lanes →
+        StaysUntil (rails_at (in_lane V.signal.rails lane values.now)) t (length values.now) result }
 {
     let value = values[t as usize];
     let last = (t + FEW).min(values.len() as u32);

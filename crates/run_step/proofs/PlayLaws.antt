@@ -9,6 +9,7 @@ use Rattle.model_line.specs.declared.line.Line.{Line}
 use Rattle.model_logic.specs.{Choice.DelaysFromOne, Laws.LineLaws}
 use Rattle.model_timing.specs.{Timing.TimingValues, Timing.number_at}
 use Rattle.model_timing.specs.{Inside.IsTimingInside, Choice.timing_choice}
+use Rattle.run_signal.specs.Levels.{level_signal}
 use Rattle.run_step.specs.LaneBox.{ends_in, lane_box}
 use Rattle.run_step.specs.{Runs.AreDelayed, Runs.IsPoint, Played.ends_of_tick}
 use Rattle.model_history.specs.ListLaws.{exists_at}
@@ -42,9 +43,9 @@ module _ (laws : LineLaws) (line : Line) (timing : TimingValues) (lane : ℕ)
 
 -- each delay of it is at least 1
 pub timing_delayed : (laws : LineLaws) (line : Line) (timing : TimingValues)
-    → IsTimingInside line timing → DelaysFromOne line (timing_choice line timing) → (lanes : ℕ)
-    → AreDelayed lanes ends_of_tick line timing.values timing.steps
-timing_delayed laws line timing inside from_one lanes lane below c t lt early =
+    → IsTimingInside line timing → DelaysFromOne line (timing_choice line timing)
+    → AreDelayed level_signal line timing.values timing.steps
+timing_delayed laws line timing inside from_one lane below c t lt early =
     subst (λ (e : Ends). 1 ≤ e.least)
     (sym ((timing_point laws line timing lane inside.count).delays c t lt early))
     (from_one c t lt early)

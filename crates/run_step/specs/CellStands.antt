@@ -1,4 +1,5 @@
 -- What the cells of timed gates stand for.
+use Rattle.run_signal.specs.Signals.{SignalOf}
 use Rattle.std.specs.Prelude.{◌≡◌, ℕ, List}
 use Rattle.model_history.specs.{Rails.Rails, Rails.Ends, Recorded.first_ticks}
 use Rattle.run_signal.specs.Seals.{SealStandsFor}
@@ -56,16 +57,16 @@ SealStands rails lane sets holds (Timer c x y) = ⊥
 SealStands rails lane sets holds (Seal s) = SealStandsFor (rails s lane) sets holds
 
 -- a gate's cell stands for the pairs u of the gate's arguments at the ticks before t
-abbrev pub CellStands : {C S V : Type 0} → (C → S → S → ℕ → List Rails → Type 0)
-    → (S → ℕ → Ends) → (V → ℕ → Rails) → ℕ → PairWorld → GateSignals → ℕ → Gate → Cell C V S → Type 0
-CellStands stands_for ends rails lane w u t (gate.Const v) cell = Unit {0}
-CellStands stands_for ends rails lane w u t (gate.Seen p) cell = Unit {0}
-CellStands stands_for ends rails lane w u t (gate.Loss c) cell = Unit {0}
-CellStands stands_for ends rails lane w u t (gate.Raw c) cell = Unit {0}
-CellStands stands_for ends rails lane w u t (gate.Not a) cell = Unit {0}
-CellStands stands_for ends rails lane w u t (gate.And a b) cell = Unit {0}
-CellStands stands_for ends rails lane w u t (gate.Or a b) cell = Unit {0}
-CellStands stands_for ends rails lane w u t (gate.Timer a p d) cell =
-    TimerStands stands_for ends lane (w.time p) (w.time d) (first_ticks (u a.0) t) cell
-CellStands stands_for ends rails lane w u t (gate.Seal a b) cell =
-    SealStands rails lane (first_ticks (u a.0) t) (first_ticks (u b.0) t) cell
+abbrev pub CellStands : {C S V : Type 0} → SignalOf V S → (C → S → S → ℕ → List Rails → Type 0) → ℕ
+    → PairWorld → GateSignals → ℕ → Gate → Cell C V S → Type 0
+CellStands signal stands_for lane w u t (gate.Const v) cell = Unit {0}
+CellStands signal stands_for lane w u t (gate.Seen p) cell = Unit {0}
+CellStands signal stands_for lane w u t (gate.Loss c) cell = Unit {0}
+CellStands signal stands_for lane w u t (gate.Raw c) cell = Unit {0}
+CellStands signal stands_for lane w u t (gate.Not a) cell = Unit {0}
+CellStands signal stands_for lane w u t (gate.And a b) cell = Unit {0}
+CellStands signal stands_for lane w u t (gate.Or a b) cell = Unit {0}
+CellStands signal stands_for lane w u t (gate.Timer a p d) cell =
+    TimerStands stands_for signal.ends lane (w.time p) (w.time d) (first_ticks (u a.0) t) cell
+CellStands signal stands_for lane w u t (gate.Seal a b) cell =
+    SealStands signal.rails lane (first_ticks (u a.0) t) (first_ticks (u b.0) t) cell

@@ -1,4 +1,5 @@
 -- What arrives stays the same while the keys at both ends of the window do.
+use Rattle.run_signal.specs.Signals.{SignalOf}
 use Rattle.std.proofs.Common.{◌≡◌, ℕ, zero, suc, ◌+◌, ◌-◌, ◌<◌, ◌≤◌, Bool, sym, ◌∙◌, ap, arith}
 use Rattle.std.proofs.Common.{⊎_elim, ◌⊎◌, subst, Some, length, get_or}
 use Rattle.std.specs.Prelude.{slice_get}
@@ -15,11 +16,11 @@ use Rattle.run_step.specs.Lasts.{ArrivesAs, EndLasts, IsHeldAs, RawLasts}
 use Rattle.run_step.specs.QuietLaws.{keeps_fewer}
 
 -- a channel's delay is of a terminal that has a key
-pub sender_inside : {V S : Type 0} (lanes : ℕ) (ends : S → ℕ → Ends) (moment : Moment V S S)
-    (channel : ℕ) (x : Delay S) → CanHear lanes ends moment
+pub sender_inside : {V S : Type 0} (signal : SignalOf V S) (moment : Moment V S S)
+    (channel : ℕ) (x : Delay S) → CanHear signal moment
     → channel < channel_count moment.line.now
     → (get_or moment.delays.now channel x).from < length moment.sent.now
-sender_inside lanes ends moment channel x can exists =
+sender_inside signal moment channel x can exists =
     let d : Delay _ = get_or moment.delays.now channel x in
     let at : slice_get moment.delays.now channel ≡ Some d =
     slice_get-get_or moment.delays.now channel x (omega (arith, can.delays.count, exists)) in

@@ -1,4 +1,5 @@
 -- What a net is given from outside, from a tick on.
+use Rattle.run_signal.specs.Signals.{SignalOf}
 use Rattle.std.proofs.Common.{◌≡◌, ℕ, ◌<◌, ◌≤◌, List, Some, sym, ◌∙◌, ap}
 use Rattle.std.proofs.Common.{arith, subst, ⊎_elim, length-set}
 use Rattle.std.proofs.lemmas.Option.{slice_get-map, slice_get_within, get_or_from_slice_get}
@@ -9,11 +10,11 @@ use Rattle.model_line.specs.Channels.{from_of}
 use Rattle.model_line.specs.{declared.script.SeenSpan.SeenSpan, declared.line.Line.Line}
 use Rattle.model_line.specs.{declared.line.Channel.Channel, declared.script.Script.Script}
 use Rattle.model_logic.specs.{Choice.pair_world_of, PairMean.PairWorld}
-use Rattle.model_timing.specs.declared.step.Step.{Step}
 use Rattle.run_step.specs.Inputs.{AreDelays, AreDelaysFrom, AreDelaysOf, AreSet, AreSoonest, CanReceive}
 use Rattle.run_step.specs.Inputs.{DelaysStand, IsWorldAt}
 use Rattle.run_step.specs.Shown.{ShowTheSame, ShownSpans, AreShown, not_over}
-use Rattle.run_step.specs.{declared.delays.Delay.Delay, LaneBox.ends_at, LaneBox.lane_box}
+use Rattle.run_step.specs.{declared.delays.Delay.Delay, declared.run.Run.Run}
+use Rattle.run_step.specs.LaneBox.{ends_at, lane_box}
 use Rattle.run_step.specs.LaneBox.{lane_world}
 use Rattle.run_step.specs.Runs.{AreDelayed}
 use Rattle.model_history.specs.ListLaws.{at_set}
@@ -70,40 +71,42 @@ module _ (all : List SeenSpan) (shown : ShownSpans) where
     };
   }
 
-module _ {S : Type 0} (lanes : ℕ) (ends : S → ℕ → Ends) (spans : List S) (steps : List (Step S))
-    (delays : List (Delay S)) where
+module _ {V S : Type 0} (signal : SignalOf V S) (run : Run S) (delays : List (Delay S)) where
   -- nothing before it is looked up
   pub stand_none : ((c : ℕ) (d : Delay S) → slice_get delays c ≡ Some d → d.until ≡ 0)
-      → DelaysStand lanes ends spans steps 0 delays
+      → DelaysStand signal run 0 delays
   stand_none over c d at = let none : d.until ≡ 0 = over c d at in record {
     holds = λ lane r low high. absurd (omega (arith, none, high));
     soonest = λ early. absurd (omega (arith, none, early));
   }
 
-  pub stand_later : (t s : ℕ) → t ≤ s → DelaysStand lanes ends spans steps t delays
-      → DelaysStand lanes ends spans steps s delays
+  pub stand_later : (t s : ℕ) → t ≤ s → DelaysStand signal run t delays
+      → DelaysStand signal run s delays
   stand_later t s le stand c d at = let before = stand c d at in record {
     holds = λ lane r low high. before.holds lane r (omega arith) high;
     soonest = λ early. before.soonest (omega arith);
   }
 
-  pub soonest_now : (t : ℕ) → DelaysStand lanes ends spans steps t delays → AreSet t delays
-      → AreSoonest lanes ends delays
+  pub soonest_now : (t : ℕ) → DelaysStand signal run t delays → AreSet t delays
+      → AreSoonest signal delays
   soonest_now t stand set c d at = (stand c d at).soonest (set c d at)
 
-module _ {S : Type 0} (lanes : ℕ) (ends : S → ℕ → Ends) (line : Line) (spans : List S)
-    (steps : List (Step S)) (delays : List (Delay S)) (t : ℕ) (are : AreDelays line delays)
-    (stand : DelaysStand lanes ends spans steps t delays) (set : AreSet t delays) where
+module _ {V S : Type 0} (signal : SignalOf V S) (run : Run S) (delays : List (Delay S)) (t : ℕ)
+    (are : AreDelays run.compiled.now.line.now delays)
+    (stand : DelaysStand signal run t delays) (set : AreSet t delays) where
   module _ (lane : ℕ) where
     -- the span of a channel's delay
     span_at : (c r : ℕ) (d : Delay S) → slice_get delays c ≡ Some d → t ≤ r → r < d.until
-        → ends d.span lane ≡ ends_at ends lane spans steps (delay_param line c) r
+        → signal.ends d.span lane ≡ ends_at signal.ends lane run.spans.now run.steps.now
+        (delay_param run.compiled.now.line.now c) r
     span_at c r d at low high =
         (stand c d at).holds lane r low high
-        ∙ ap (λ (p : ℕ). ends_at ends lane spans steps p r) (are.param c d at)
+        ∙ ap (λ (p : ℕ). ends_at signal.ends lane run.spans.now run.steps.now p r)
+        (are.param c d at)
 
     pub delays_from : (script : Script)
-        → AreDelaysFrom ends lane delays (lane_world ends line script spans steps lane) t
+        → AreDelaysFrom signal.ends lane delays
+        (lane_world signal.ends run.compiled.now.line.now script run.spans.now run.steps.now lane) t
     unfolding pair_world_of lane_box
     delays_from script = record {
       from = are.from;
@@ -112,7 +115,8 @@ module _ {S : Type 0} (lanes : ℕ) (ends : S → ℕ → Ends) (line : Line) (s
 
     pub world_at : (script : Script) (shown : ShownSpans) (until : ℕ)
         → AreShown script.spans.items shown t until → t < until
-        → IsWorldAt ends lane shown.present delays (lane_world ends line script spans steps lane) t
+        → IsWorldAt signal.ends lane shown.present delays
+        (lane_world signal.ends run.compiled.now.line.now script run.spans.now run.steps.now lane) t
     unfolding pair_world_of lane_box
     world_at script shown until given early =
         let now = given.shown t (omega arith) early in
@@ -125,17 +129,19 @@ module _ {S : Type 0} (lanes : ℕ) (ends : S → ℕ → Ends) (line : Line) (s
           };
         }
 
-  pub can_receive : t < line.horizon → AreDelayed lanes ends line spans steps
-      → CanReceive lanes ends line delays
+  pub can_receive : t < run.compiled.now.line.now.horizon
+      → AreDelayed signal run.compiled.now.line.now run.spans.now run.steps.now
+      → CanReceive signal run.compiled.now.line.now delays
   unfolding lane_box
   can_receive inside delayed =
-      let channel : (c : ℕ) (d : Delay S) → slice_get delays c ≡ Some d → c < channel_count line =
+      let channel : (c : ℕ) (d : Delay S) → slice_get delays c ≡ Some d
+      → c < channel_count run.compiled.now.line.now =
       λ c d at. subst (λ (m : ℕ). c < m) are.count (slice_get_within delays c d at) in
       record {
         count = are.count;
         from = λ c d at.
-            subst (λ (k : ℕ). k < terminal_count line) (sym (are.from c d at))
-            (line.pairs_once.from c (channel c d at));
+            subst (λ (k : ℕ). k < terminal_count run.compiled.now.line.now) (sym (are.from c d at))
+            (run.compiled.now.line.now.pairs_once.from c (channel c d at));
         later = λ c d at lane below.
             subst (λ (e : Ends). 1 ≤ e.least)
             (sym (span_at lane c t d at (omega arith) (set c d at)))

@@ -1,4 +1,5 @@
 -- What a net is given from outside: what its script shows and loses, and its delays.
+use Rattle.run_signal.specs.Signals.{SignalOf}
 use Rattle.std.specs.Prelude.{◌≡◌, ◌<◌, ◌≤◌, ℕ, List, Some, length, slice_get}
 use Rattle.model_history.specs.Rails.{Ends}
 use Rattle.model_line.specs.Parameters.{terminal_count, channel_count, param_count, delay_param}
@@ -6,8 +7,7 @@ use Rattle.model_line.specs.Seen.{is_seen, is_lost}
 use Rattle.model_line.specs.{declared.line.Line.Line, declared.script.Place.Place}
 use Rattle.model_line.specs.{declared.script.SeenSpan.SeenSpan, Channels.from_of}
 use Rattle.model_logic.specs.PairMean.{PairWorld}
-use Rattle.model_timing.specs.declared.step.Step.{Step}
-use Rattle.run_step.specs.{declared.delays.Delay.Delay, LaneBox.ends_at}
+use Rattle.run_step.specs.{declared.delays.Delay.Delay, declared.run.Run.Run, LaneBox.ends_at}
 
 -- a delay for each channel of the line, with who sends and with its parameter
 pub record AreDelays {S : Type 0} (line : Line) (delays : List (Delay S)) : Type 0 where
@@ -18,35 +18,35 @@ pub record AreDelays {S : Type 0} (line : Line) (delays : List (Delay S)) : Type
   pub there : (c : ℕ) (d : Delay S) → slice_get delays c ≡ Some d → d.param < param_count line
 
 -- from tick t until a tick the delay has the span that its parameter has
-abbrev pub DelayHolds : {S : Type 0} → (S → ℕ → Ends) → List S → List (Step S) → Delay S → ℕ → ℕ
-    → Type 0
-DelayHolds ends spans steps delay t until =
-    (lane r : ℕ) → t ≤ r → r < until → ends delay.span lane ≡ ends_at ends lane spans steps delay.param r
+abbrev pub DelayHolds : {S : Type 0} → (S → ℕ → Ends) → Run S → Delay S → ℕ → ℕ → Type 0
+DelayHolds ends run delay t until =
+    (lane r : ℕ) → t ≤ r → r < until
+    → ends delay.span lane ≡ ends_at ends lane run.spans.now run.steps.now delay.param r
 
 -- a delay's number of ticks before which nothing arrives: at least 1, and no more than a delay of any
 -- lane, where each is at least 1
-pub record IsSoonest {S : Type 0} (lanes : ℕ) (ends : S → ℕ → Ends) (delay : Delay S) : Type 0 where
+pub record IsSoonest {V S : Type 0} (signal : SignalOf V S) (delay : Delay S) : Type 0 where
   pub some : 1 ≤ delay.soonest
   pub limited : delay.soonest ≤ 4000
-  pub before : (lane : ℕ) → lane < lanes → 1 ≤ (ends delay.span lane).least
-      → delay.soonest ≤ (ends delay.span lane).least
+  pub before : (lane : ℕ) → lane < signal.lanes → 1 ≤ (signal.ends delay.span lane).least
+      → delay.soonest ≤ (signal.ends delay.span lane).least
 
 -- so it is of each delay
-abbrev pub AreSoonest : {S : Type 0} → ℕ → (S → ℕ → Ends) → List (Delay S) → Type 0
-AreSoonest lanes ends delays =
-    (c : ℕ) (d : Delay _) → slice_get delays c ≡ Some d → IsSoonest lanes ends d
+abbrev pub AreSoonest : {V S : Type 0} → SignalOf V S → List (Delay S) → Type 0
+AreSoonest signal delays =
+    (c : ℕ) (d : Delay _) → slice_get delays c ≡ Some d → IsSoonest signal d
 
 -- from tick t on the delay has its parameter's span until it may be another one
-pub record DelayStands {S : Type 0} (lanes : ℕ) (ends : S → ℕ → Ends) (spans : List S)
-    (steps : List (Step S)) (t : ℕ) (delay : Delay S) : Type 0 where
-  pub holds : DelayHolds ends spans steps delay t delay.until
-  pub soonest : t < delay.until → IsSoonest lanes ends delay
+pub record DelayStands {V S : Type 0} (signal : SignalOf V S) (run : Run S) (t : ℕ)
+    (delay : Delay S) : Type 0 where
+  pub holds : DelayHolds signal.ends run delay t delay.until
+  pub soonest : t < delay.until → IsSoonest signal delay
 
 -- so it is of each channel's delay
-abbrev pub DelaysStand : {S : Type 0} → ℕ → (S → ℕ → Ends) → List S → List (Step S) → ℕ
+abbrev pub DelaysStand : {V S : Type 0} → SignalOf V S → Run S → ℕ
     → List (Delay S) → Type 0
-DelaysStand lanes ends spans steps t delays =
-    (c : ℕ) (d : Delay _) → slice_get delays c ≡ Some d → DelayStands lanes ends spans steps t d
+DelaysStand signal run t delays =
+    (c : ℕ) (d : Delay _) → slice_get delays c ≡ Some d → DelayStands signal run t d
 
 -- none of the delays is over at tick t
 abbrev pub AreSet : {S : Type 0} → ℕ → List (Delay S) → Type 0
@@ -78,9 +78,9 @@ pub record IsWorldAt {S : Type 0} (ends : S → ℕ → Ends) (lane : ℕ) (pres
   pub channels : AreDelaysOf ends lane delays w t
 
 -- what is sent can be received: each delay is of a terminal, and at least 1 in each lane
-pub record CanReceive {S : Type 0} (lanes : ℕ) (ends : S → ℕ → Ends) (line : Line)
+pub record CanReceive {V S : Type 0} (signal : SignalOf V S) (line : Line)
     (delays : List (Delay S)) : Type 0 where
   pub count : length delays ≡ channel_count line
   pub from : (c : ℕ) (d : Delay S) → slice_get delays c ≡ Some d → d.from < terminal_count line
   pub later : (c : ℕ) (d : Delay S) → slice_get delays c ≡ Some d
-      → (lane : ℕ) → lane < lanes → 1 ≤ (ends d.span lane).least
+      → (lane : ℕ) → lane < signal.lanes → 1 ≤ (signal.ends d.span lane).least

@@ -1,4 +1,5 @@
 -- For how long a gate stays the same, as long as its arguments do and so does the key that it hears.
+use Rattle.run_signal.specs.Signals.{SignalOf}
 use Rattle.std.specs.Prelude.{◌≡◌, ◌<◌, ◌≤◌, ◌+◌, ◌-◌, ℕ, suc, List}
 use Rattle.model_history.specs.Rails.{Rails, Ends, rails_delayed, rails_timed}
 use Rattle.model_history.specs.Recorded.{first_ticks}
@@ -20,9 +21,10 @@ EndLasts key b c t n =
     → (t < c → t + j < c) × (c ≤ t → key (t + j - c) ≡ key (t - c))
 
 -- so it is of a key with these values before tick t, held as at the last of them, in each lane
-abbrev pub EndStays : {V : Type 0} → ℕ → (V → ℕ → Rails) → List V → ℕ → ℕ → ℕ → Type 0
-EndStays lanes rails values t c n =
-    (lane : ℕ) (u : ℕ → Rails) → lane < lanes → in_lane rails lane values ≡ first_ticks u t
+abbrev pub EndStays : {V S : Type 0} → SignalOf V S → List V → ℕ → ℕ → ℕ → Type 0
+EndStays signal values t c n =
+    (lane : ℕ) (u : ℕ → Rails) → lane < signal.lanes
+    → in_lane signal.rails lane values ≡ first_ticks u t
     → EndLasts u (t - 1) c t n
 
 -- what arrives within a delay's ends stays the same from tick t on for n ticks: up to each of them,

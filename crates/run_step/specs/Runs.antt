@@ -1,6 +1,7 @@
 -- What a run is: in each lane the interval history over the lane's box, gate by gate.
+use Rattle.run_signal.specs.Signals.{SignalOf}
 use Rattle.std.specs.Prelude.{◌≡◌, ◌<◌, ℕ, List, IsTrue, length}
-use Rattle.model_history.specs.Rails.{Rails, Ends, Covers, single}
+use Rattle.model_history.specs.Rails.{Rails, Covers, single}
 use Rattle.model_line.specs.Parameters.{param_count, channel_count}
 use Rattle.model_line.specs.{declared.script.Script.Script, declared.line.Line.Line}
 use Rattle.model_logic.specs.Choice.{Choice, Box, IsWithin, LeastFromOne, world_of, pair_world_of}
@@ -9,21 +10,21 @@ use Rattle.model_logic.specs.Histories.{IsSamePairHistory, IsBothRails, CoversHi
 use Rattle.model_logic.specs.{Mean.mean, PairMean.pair_mean}
 use Rattle.net_gates.specs.{NetOf.NetOf, Formulas.formula_of}
 use Rattle.model_timing.specs.{declared.step.Step.Step, Timing.ascend}
-use Rattle.run_step.specs.LaneBox.{lane_box}
+use Rattle.run_step.specs.{declared.run.Run.Run, LaneBox.lane_box}
 use Rattle.run_step.specs.WavesOf.{WavesOf, wave_pair, waves_history}
 
 -- in each lane each channel's delay is at least 1, at every tick
-abbrev pub AreDelayed : {S : Type 0} → ℕ → (S → ℕ → Ends) → Line → List S → List (Step S) → Type 0
-AreDelayed lanes ends line spans steps =
-    (lane : ℕ) → lane < lanes → LeastFromOne line (lane_box ends line spans steps lane)
+abbrev pub AreDelayed : {V S : Type 0} → SignalOf V S → Line → List S → List (Step S) → Type 0
+AreDelayed signal line spans steps =
+    (lane : ℕ) → lane < signal.lanes
+    → LeastFromOne line (lane_box signal.ends line spans steps lane)
 
 -- a run has a span for each parameter of the line, and steps in order that leave every delay one
 -- tick at least
-pub record CanRun {S : Type 0} (lanes : ℕ) (ends : S → ℕ → Ends) (line : Line) (spans : List S)
-    (steps : List (Step S)) : Type 0 where
-  pub ascending : IsTrue (ascend steps)
-  pub delayed : AreDelayed lanes ends line spans steps
-  pub one_each : length spans ≡ param_count line
+pub record CanRun {V S : Type 0} (signal : SignalOf V S) (run : Run S) : Type 0 where
+  pub ascending : IsTrue (ascend run.steps.now)
+  pub delayed : AreDelayed signal run.compiled.now.line.now run.spans.now run.steps.now
+  pub one_each : length run.spans.now ≡ param_count run.compiled.now.line.now
 
 -- the waves are of the net and reach to the horizon
 pub record AreWavesOf {V : Type 0} (net : NetOf) (line : Line) (waves : WavesOf V) : Type 0 where

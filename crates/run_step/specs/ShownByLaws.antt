@@ -6,11 +6,10 @@ use Rattle.std.specs.List.{filter}
 use Rattle.model_history.specs.Rails.{Ends}
 use Rattle.model_line.specs.Seen.{is_of_place, is_of_loss, shows, loses, is_seen, is_lost}
 use Rattle.model_line.specs.declared.script.{Place.Place, Script.Script, SeenSpan.SeenSpan}
-use Rattle.model_line.specs.declared.line.Line.{Line}
 use Rattle.model_logic.specs.{PairMean.PairWorld, Choice.pair_world_of}
 use Rattle.net_gates.specs.declared.gate.Gate.{Gate}
 use Rattle.net_gates.specs.declared.gate.Gate.TheVariants as gate
-use Rattle.model_timing.specs.declared.step.Step.{Step}
+use Rattle.run_step.specs.declared.run.Run.{Run}
 use Rattle.run_step.specs.{LaneBox.lane_world, Shown.IsShown, Shown.IsShownAt, Shown.is_shown_by}
 use Rattle.run_step.specs.{Quiet.AllKeep, Quiet.ScriptKeeps, Lanes.LanePairs}
 use Rattle.run_step.specs.{Lasts.Lasts, Lasts.RawLasts}
@@ -20,12 +19,12 @@ first_true : (a b : Bool) → (a && b) ≡ true → a ≡ true
 first_true true b is = refl
 first_true false b is = is
 
-module _ {S : Type 0} (ends : S → ℕ → Ends) (line : Line) (script : Script) (spans : List S)
-    (steps : List (Step S)) (lane : ℕ) where
+module _ {S : Type 0} (ends : S → ℕ → Ends) (run : Run S) (script : Script) (lane : ℕ) where
   -- they show what all do
   pub filter_shows : (list : List SeenSpan) (g : Gate)
       → list ≡ filter (is_shown_by g) script.spans.items
-      → IsShown list (lane_world ends line script spans steps lane) g
+      → IsShown list
+      (lane_world ends run.compiled.now.line.now script run.spans.now run.steps.now lane) g
   unfolding pair_world_of
   filter_shows list (gate.Const v) is t = tt
   filter_shows list (gate.Seen p) is t =

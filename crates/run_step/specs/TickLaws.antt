@@ -1,4 +1,5 @@
 -- One tick of one gate.
+use Rattle.run_signal.specs.Signals.{SignalOf}
 use Rattle.std.proofs.Common.{◌≡◌, ℕ, suc, ◌+◌, ◌<◌, List, [], ◌∷◌, ◌++◌, length, sym}
 use Rattle.std.proofs.Common.{◌∙◌, ap, subst, arith}
 use Rattle.run_signal.specs.{Ahead.next_rails, Stretches.ElementsInAStretch}
@@ -48,23 +49,24 @@ module _ (w : PairWorld) (keys : PairSignals) (u : GateSignals) (t : ℕ) (gate 
 
 -- ---- timers and seals
 
-module _ {C S V : Type 0} (stands_for : C → S → S → ℕ → List Rails → Type 0) (ends : S → ℕ → Ends)
-    (rails : V → ℕ → Rails) (lane : ℕ) (w : PairWorld) (keys : PairSignals) (u : GateSignals)
+module _ {C S V : Type 0} (signal : SignalOf V S)
+    (stands_for : C → S → S → ℕ → List Rails → Type 0) (lane : ℕ) (w : PairWorld)
+    (keys : PairSignals) (u : GateSignals)
     (t : ℕ) (gate : Gate) (old new : Cell C V S) where
   abbrev StandsAt : ℕ → Gate → Cell C V S → Type 0
-  StandsAt r g cell = CellStands stands_for ends rails lane w u r g cell
+  StandsAt r g cell = CellStands signal stands_for lane w u r g cell
 
   module _ (a : GateId) (p d : Time) (is : gate ≡ Timer a p d) (input : Rails)
       (agrees : input ≡ u a.0 t) (before : StandsAt t gate old) where
     abbrev OfTimer : List Rails → Cell C V S → Type 0
-    OfTimer inputs cell = TimerStands stands_for ends lane (w.time p) (w.time d) inputs cell
+    OfTimer inputs cell = TimerStands stands_for signal.ends lane (w.time p) (w.time d) inputs cell
 
     timer_old : OfTimer (first_ticks (u a.0) t) old
     timer_old = subst (λ (g : Gate). StandsAt t g old) is before
 
     pub timer_stands : ((p' d' : Ends) (inputs : List Rails)
-        → TimerStands stands_for ends lane p' d' inputs old
-        → TimerStands stands_for ends lane p' d' (inputs ++ input ∷ []) new)
+        → TimerStands stands_for signal.ends lane p' d' inputs old
+        → TimerStands stands_for signal.ends lane p' d' (inputs ++ input ∷ []) new)
         → StandsAt (suc t) gate new
     timer_stands after =
         let h : OfTimer (first_ticks (u a.0) (suc t)) new =
@@ -73,7 +75,7 @@ module _ {C S V : Type 0} (stands_for : C → S → S → ℕ → List Rails →
         subst (λ (g : Gate). StandsAt (suc t) g new) (sym is) h
 
     pub timer_pair : (recorded : RecordedTicksSuffice) (y : Rails) → ((p' d' : Ends) (inputs : List Rails)
-        → TimerStands stands_for ends lane p' d' inputs old
+        → TimerStands stands_for signal.ends lane p' d' inputs old
         → y ≡ rails_timed (rails_at (inputs ++ input ∷ [])) p' d' (length inputs))
         → y ≡ kind_pair w keys u gate t
     timer_pair recorded y timed =
@@ -86,7 +88,7 @@ module _ {C S V : Type 0} (stands_for : C → S → S → ℕ → List Rails →
   module _ (a b : GateId) (is : gate ≡ Seal a b) (set hold : Rails) (sets : set ≡ u a.0 t)
       (holds : hold ≡ u b.0 t) (before : StandsAt t gate old) where
     abbrev OfSeal : List Rails → List Rails → Cell C V S → Type 0
-    OfSeal x y cell = SealStands {C = C} rails lane x y cell
+    OfSeal x y cell = SealStands {C = C} signal.rails lane x y cell
 
     seal_old : OfSeal (first_ticks (u a.0) t) (first_ticks (u b.0) t) old
     seal_old = subst (λ (g : Gate). StandsAt t g old) is before

@@ -1,6 +1,7 @@
 -- What a run holds before and at a tick: cells, keys that were sent, and values.
+use Rattle.run_signal.specs.Signals.{SignalOf}
 use Rattle.std.specs.Prelude.{◌≡◌, ◌<◌, ◌≤◌, ◌%◌, ◌/◌, ℕ, suc, List, [], Some, length, slice_get}
-use Rattle.model_history.specs.{Rails.Rails, Rails.Ends, Recorded.first_ticks}
+use Rattle.model_history.specs.{Rails.Rails, Recorded.first_ticks}
 use Rattle.run_signal.specs.Lanes.{in_lane}
 use Rattle.run_signal.specs.SentKeys.{SentKeys}
 use Rattle.model_logic.specs.PairMean.{PairWorld, PairSignals}
@@ -17,20 +18,20 @@ pub record HaveCells {C V S : Type 0} (gates : List Gate) (cells : List (Cell C 
       → slice_get cells i ≡ Some cell → HasCell g cell
 
 -- each cell stands for the ticks before t
-abbrev pub AllStand : {C S V : Type 0} → (C → S → S → ℕ → List Rails → Type 0) → (S → ℕ → Ends)
-    → (V → ℕ → Rails) → ℕ → PairWorld → GateSignals → ℕ → List Gate → List (Cell C V S) → Type 0
-AllStand stands_for ends rails lane w u t gates cells =
+abbrev pub AllStand : {C S V : Type 0} → SignalOf V S → (C → S → S → ℕ → List Rails → Type 0) → ℕ
+    → PairWorld → GateSignals → ℕ → List Gate → List (Cell C V S) → Type 0
+AllStand signal stands_for lane w u t gates cells =
     (i : ℕ) (g : Gate) (cell : Cell _ _ _) → slice_get gates i ≡ Some g
-    → slice_get cells i ≡ Some cell → CellStands stands_for ends rails lane w u t g cell
+    → slice_get cells i ≡ Some cell → CellStands signal stands_for lane w u t g cell
 
 -- within tick t: the first n cells stand for the ticks up to t, the others for those before it
-pub record CellsWalked {C S V : Type 0} (stands_for : C → S → S → ℕ → List Rails → Type 0)
-    (ends : S → ℕ → Ends) (rails : V → ℕ → Rails) (lane : ℕ) (w : PairWorld) (u : GateSignals)
+pub record CellsWalked {C S V : Type 0} (signal : SignalOf V S)
+    (stands_for : C → S → S → ℕ → List Rails → Type 0) (lane : ℕ) (w : PairWorld) (u : GateSignals)
     (t n : ℕ) (gates : List Gate) (cells : List (Cell C V S)) : Type 0 where
   pub done : (i : ℕ) (g : Gate) (cell : Cell C V S) → i < n → slice_get gates i ≡ Some g
-      → slice_get cells i ≡ Some cell → CellStands stands_for ends rails lane w u (suc t) g cell
+      → slice_get cells i ≡ Some cell → CellStands signal stands_for lane w u (suc t) g cell
   pub left : (i : ℕ) (g : Gate) (cell : Cell C V S) → n ≤ i → slice_get gates i ≡ Some g
-      → slice_get cells i ≡ Some cell → CellStands stands_for ends rails lane w u t g cell
+      → slice_get cells i ≡ Some cell → CellStands signal stands_for lane w u t g cell
 
 -- ---- values
 
@@ -79,13 +80,13 @@ KeysSent rails lane keys t sent =
 
 -- in a lane, before tick t: the pairs u of the gates are told at t, the keys were sent, and the
 -- cells stand
-pub record IsReady {C S V : Type 0} (stands_for : C → S → S → ℕ → List Rails → Type 0)
-    (ends : S → ℕ → Ends) (rails : V → ℕ → Rails) (lane : ℕ) (w : PairWorld) (keys : PairSignals)
+pub record IsReady {C S V : Type 0} (signal : SignalOf V S)
+    (stands_for : C → S → S → ℕ → List Rails → Type 0) (lane : ℕ) (w : PairWorld) (keys : PairSignals)
     (u : GateSignals) (t : ℕ) (gates : List Gate) (tracks : List (SentKeys V))
     (cells : List (Cell C V S)) : Type 0 where
   pub told : AreTold w keys u t gates
-  pub sent : KeysSent rails lane keys t tracks
-  pub stand : AllStand stands_for ends rails lane w u t gates cells
+  pub sent : KeysSent signal.rails lane keys t tracks
+  pub stand : AllStand signal stands_for lane w u t gates cells
 
 -- ---- both
 
@@ -96,10 +97,10 @@ pub record PartDone {X : Type 0} (isdone isleft : ℕ → X → Type 0) (n : ℕ
   pub left : (i : ℕ) (x : X) → n ≤ i → slice_get xs i ≡ Some x → isleft i x
 
 -- in a lane, before tick t: the keys were sent, the cells stand, and the values are told
-pub record LaneStands {C S V : Type 0} (stands_for : C → S → S → ℕ → List Rails → Type 0)
-    (ends : S → ℕ → Ends) (rails : V → ℕ → Rails) (lane : ℕ) (w : PairWorld) (keys : PairSignals)
+pub record LaneStands {C S V : Type 0} (signal : SignalOf V S)
+    (stands_for : C → S → S → ℕ → List Rails → Type 0) (lane : ℕ) (w : PairWorld) (keys : PairSignals)
     (u : GateSignals) (t : ℕ) (gates : List Gate) (sent : List (SentKeys V))
     (cells : List (Cell C V S)) (values : List V) : Type 0 where
-  pub keys_sent : KeysSent rails lane keys t sent
-  pub cells_stand : AllStand stands_for ends rails lane w u t gates cells
-  pub told : ValuesTold rails lane u (length gates) values
+  pub keys_sent : KeysSent signal.rails lane keys t sent
+  pub cells_stand : AllStand signal stands_for lane w u t gates cells
+  pub told : ValuesTold signal.rails lane u (length gates) values

@@ -1,8 +1,9 @@
 -- One tick, gate by gate.
+use Rattle.run_signal.specs.Signals.{SignalOf}
 use Rattle.std.proofs.Common.{◌≡◌, ◌≢◌, ℕ, suc, ◌+◌, List, [], ◌∷◌, ◌++◌, length, Some, sym, ◌∙◌}
 use Rattle.std.proofs.Common.{ap, subst, arith, ⊎_elim, length-set, ◌≤◌}
 use Rattle.std.specs.Prelude.{slice_get, slice_set}
-use Rattle.model_history.specs.Rails.{Rails, Ends}
+use Rattle.model_history.specs.Rails.{Rails}
 use Rattle.model_logic.specs.PairMean.{PairWorld, PairSignals}
 use Rattle.net_gates.specs.declared.gate.Gate.TheVariants.{Const, Seen, Loss, Raw, Not, And, Or}
 use Rattle.net_gates.specs.declared.gate.Gate.TheVariants.{Timer, Seal}
@@ -58,14 +59,15 @@ agree_more {V} rails lane u t i x column len value agree j y at =
     ∙ ap (λ (k : ℕ). u k t) (let e : i ≡ j = omega (arith, p.0, len) in e))
     (at_push column x y j at)
 
-module _ {C S V : Type 0} (stands_for : C → S → S → ℕ → List Rails → Type 0) (ends : S → ℕ → Ends)
-    (rails : V → ℕ → Rails) (lane : ℕ) (w : PairWorld) (u : GateSignals) (t : ℕ)
+module _ {C S V : Type 0} (signal : SignalOf V S)
+    (stands_for : C → S → S → ℕ → List Rails → Type 0) (lane : ℕ) (w : PairWorld) (u : GateSignals)
+    (t : ℕ)
     (gates : List Gate) where
   abbrev Stands : ℕ → Gate → Cell C V S → Type 0
-  Stands r g cell = CellStands stands_for ends rails lane w u r g cell
+  Stands r g cell = CellStands signal stands_for lane w u r g cell
 
   abbrev Walked : ℕ → List (Cell C V S) → Type 0
-  Walked n cells = CellsWalked stands_for ends rails lane w u t n gates cells
+  Walked n cells = CellsWalked signal stands_for lane w u t n gates cells
 
   -- one gate more
   pub cells_more : (i n : ℕ) (gate : Gate) (old new : Cell C V S) (cells : List (Cell C V S))
@@ -87,33 +89,33 @@ module _ {C S V : Type 0} (stands_for : C → S → S → ℕ → List Rails →
       }
 
   pub walked_none : (cells : List (Cell C V S))
-      → AllStand stands_for ends rails lane w u t gates cells → Walked 0 cells
+      → AllStand signal stands_for lane w u t gates cells → Walked 0 cells
   walked_none cells all = record {
     done = λ i g cell lt. absurd (omega arith);
     left = λ i g cell le ga ca. all i g cell ga ca;
   }
 
 -- one gate more, with its value
-pub walked_more : {C S V : Type 0} (stands_for : C → S → S → ℕ → List Rails → Type 0)
-    (ends : S → ℕ → Ends) (rails : V → ℕ → Rails) (lane : ℕ) (w : PairWorld) (keys : PairSignals)
+pub walked_more : {C S V : Type 0} (signal : SignalOf V S)
+    (stands_for : C → S → S → ℕ → List Rails → Type 0) (lane : ℕ) (w : PairWorld) (keys : PairSignals)
     (u : GateSignals) (t : ℕ) (gates : List Gate) (i n : ℕ) (gate : Gate) (old new : Cell C V S)
     (x : V) (column : List V) (cells : List (Cell C V S)) → n ≡ i + 1
     → slice_get gates i ≡ Some gate → slice_get cells i ≡ Some old → length column ≡ i
     → AreTold w keys u t gates
-    → ValuesAgree rails lane u t column
-    × CellsWalked stands_for ends rails lane w u t i gates cells
-    → (CellStands stands_for ends rails lane w u t gate old
-    → CellStands stands_for ends rails lane w u (suc t) gate new)
-    → (CellStands stands_for ends rails lane w u t gate old
-    → rails x lane ≡ kind_pair w keys u gate t)
-    → ValuesAgree rails lane u t (column ++ x ∷ [])
-    × CellsWalked stands_for ends rails lane w u t n gates (slice_set cells i new)
-walked_more stands_for ends rails lane w keys u t gates i n gate old new x column cells next gat cat
+    → ValuesAgree signal.rails lane u t column
+    × CellsWalked signal stands_for lane w u t i gates cells
+    → (CellStands signal stands_for lane w u t gate old
+    → CellStands signal stands_for lane w u (suc t) gate new)
+    → (CellStands signal stands_for lane w u t gate old
+    → signal.rails x lane ≡ kind_pair w keys u gate t)
+    → ValuesAgree signal.rails lane u t (column ++ x ∷ [])
+    × CellsWalked signal stands_for lane w u t n gates (slice_set cells i new)
+walked_more signal stands_for lane w keys u t gates i n gate old new x column cells next gat cat
     len told (agree, walked) stands answers =
-    let now : CellStands stands_for ends rails lane w u t gate old =
+    let now : CellStands signal stands_for lane w u t gate old =
     walked.left i gate old (omega arith) gat cat in (
-      agree_more rails lane u t i x column len (answers now ∙ sym (told i gate gat)) agree,
-      cells_more stands_for ends rails lane w u t gates i n gate old new cells next gat cat walked
+      agree_more signal.rails lane u t i x column len (answers now ∙ sym (told i gate gat)) agree,
+      cells_more signal stands_for lane w u t gates i n gate old new cells next gat cat walked
           stands,
     )
 

@@ -20,13 +20,14 @@ pub enum Cell<T, S, P> {
 pub fn timer_answer<V: Timed>(cell: &mut Cell<V::Cells, SealCell<V>, V::Span>, input: V) -> V
     requires { HasTimer cell.old }
     ensures shape { HasTimer cell.new }
-    ensures stands { (lane : ℕ) (p d : Ends) (inputs : List Rails) → lane < V.LANES →
-        TimerStands V.stands_for V.ends lane p d inputs cell.old →
-        TimerStands V.stands_for V.ends lane p d (inputs ++ V.rails input lane ∷ []) cell.new }
-    ensures timed { (lane : ℕ) (p d : Ends) (inputs : List Rails) → lane < V.LANES →
-        TimerStands V.stands_for V.ends lane p d inputs cell.old →
-        V.rails result lane
-        ≡ rails_timed (rails_at (inputs ++ V.rails input lane ∷ [])) p d (length inputs) }
+    ensures stands { (lane : ℕ) (p d : Ends) (inputs : List Rails) → lane < V.signal.lanes →
+        TimerStands V.stands_for V.signal.ends lane p d inputs cell.old →
+        TimerStands V.stands_for V.signal.ends lane p d (inputs ++ V.signal.rails input lane ∷ [])
+        cell.new }
+    ensures timed { (lane : ℕ) (p d : Ends) (inputs : List Rails) → lane < V.signal.lanes →
+        TimerStands V.stands_for V.signal.ends lane p d inputs cell.old →
+        V.signal.rails result lane
+        ≡ rails_timed (rails_at (inputs ++ V.signal.rails input lane ∷ [])) p d (length inputs) }
 {
     match cell {
         Cell::Timer(cells, _, _) => V::tick(cells, input),
@@ -38,15 +39,15 @@ pub fn timer_answer<V: Timed>(cell: &mut Cell<V::Cells, SealCell<V>, V::Span>, i
 pub fn seal_answer<V: Timed>(cell: &mut Cell<V::Cells, SealCell<V>, V::Span>, set: V, hold: V) -> V
     requires { HasSeal cell.old }
     ensures shape { HasSeal cell.new }
-    ensures stands { (lane : ℕ) (sets holds : List Rails) → lane < V.LANES →
-        SealStands V.rails lane sets holds cell.old →
-        SealStands V.rails lane
-        (sets ++ V.rails set lane ∷ []) (holds ++ V.rails hold lane ∷ []) cell.new }
-    ensures sealed { (lane : ℕ) (sets holds : List Rails) → lane < V.LANES →
-        SealStands V.rails lane sets holds cell.old →
-        V.rails result lane
-        ≡ rails_sealed (rails_at (sets ++ V.rails set lane ∷ []))
-        (rails_at (holds ++ V.rails hold lane ∷ [])) (length sets) }
+    ensures stands { (lane : ℕ) (sets holds : List Rails) → lane < V.signal.lanes →
+        SealStands V.signal.rails lane sets holds cell.old →
+        SealStands V.signal.rails lane
+        (sets ++ V.signal.rails set lane ∷ []) (holds ++ V.signal.rails hold lane ∷ []) cell.new }
+    ensures sealed { (lane : ℕ) (sets holds : List Rails) → lane < V.signal.lanes →
+        SealStands V.signal.rails lane sets holds cell.old →
+        V.signal.rails result lane
+        ≡ rails_sealed (rails_at (sets ++ V.signal.rails set lane ∷ []))
+        (rails_at (holds ++ V.signal.rails hold lane ∷ [])) (length sets) }
 {
     match cell {
         Cell::Seal(seal) => seal.tick(set, hold),
@@ -59,11 +60,11 @@ pub fn timer_stays<V: Timed>(cell: &Cell<V::Cells, SealCell<V>, V::Span>, input:
     requires { HasTimer cell.now }
     ensures some { 1 ≤ result }
     ensures steady { (p d : ℕ → Ends) (inputs : ℕ → List Rails) →
-        ((lane : ℕ) → lane < V.LANES →
-        TimerStands V.stands_for V.ends lane (p lane) (d lane) (inputs lane) cell.now) →
-        (lane j : ℕ) → lane < V.LANES → j < result →
-        next_rails (p lane) (d lane) (inputs lane) (V.rails input lane) j
-        ≡ next_rails (p lane) (d lane) (inputs lane) (V.rails input lane) 0 }
+        ((lane : ℕ) → lane < V.signal.lanes →
+        TimerStands V.stands_for V.signal.ends lane (p lane) (d lane) (inputs lane) cell.now) →
+        (lane j : ℕ) → lane < V.signal.lanes → j < result →
+        next_rails (p lane) (d lane) (inputs lane) (V.signal.rails input lane) j
+        ≡ next_rails (p lane) (d lane) (inputs lane) (V.signal.rails input lane) 0 }
 {
     match cell {
         Cell::Timer(cells, _, _) => V::ahead(cells, input).max(1),
@@ -77,10 +78,10 @@ pub fn hold_timer<V: Timed>(cell: &mut Cell<V::Cells, SealCell<V>, V::Span>, inp
     requires some { 1 ≤ count }
     requires limited { count ≤ 4000 }
     ensures shape { HasTimer cell.new }
-    ensures stands { (lane : ℕ) (p d : Ends) (inputs : List Rails) → lane < V.LANES →
-        TimerStands V.stands_for V.ends lane p d inputs cell.old →
-        TimerStands V.stands_for V.ends lane p d
-        (inputs ++ replicate count (V.rails input lane)) cell.new }
+    ensures stands { (lane : ℕ) (p d : Ends) (inputs : List Rails) → lane < V.signal.lanes →
+        TimerStands V.stands_for V.signal.ends lane p d inputs cell.old →
+        TimerStands V.stands_for V.signal.ends lane p d
+        (inputs ++ replicate count (V.signal.rails input lane)) cell.new }
 {
     match cell {
         Cell::Timer(cells, _, _) => V::skip(cells, input, count),

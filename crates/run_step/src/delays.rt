@@ -6,13 +6,13 @@ ghost use Rattle.model_line.specs.{Channels.from_of, Parameters.channel_count, P
 ghost use Rattle.model_line.specs.Parameters.{delay_param};
 ghost use Rattle.model_timing.specs.Timing.{ascend};
 ghost use Rattle.run_step.specs.Inputs.{AreDelays, AreSet, AreSetUntil, DelayStands};
-ghost use Rattle.run_step.specs.Inputs.{DelaysStand};
+ghost use Rattle.run_step.specs.{Inputs.DelaysStand, Runs.CanRun};
 ghost use Rattle.run_step.specs.declared.delays.Delay.{Delay};
 
 use crate::minimum::lesser;
+use crate::run::Run;
 use crate::steps::{passed_steps, steps_stay, value_at};
 use model_line::{Line, Memory};
-use model_timing::Step;
 use run_signal::Signal;
 use std::alloc::Global;
 
@@ -73,28 +73,21 @@ fn own_delay<V: Signal>(line: &Line, spans: &[V::Span], channel: usize) -> Delay
 }
 
 /// Sets each delay that is over to its span at the tick, where one may be.
-pub fn renew_delays<V: Signal>(
-    line: &Line,
-    spans: &[V::Span],
-    steps: &[Step<V::Span>],
-    delays: &mut Delays<V::Span>,
-    t: u32,
-)
-    requires spans { length spans.now ≡ param_count line.now }
-    requires ascending { IsTrue (ascend steps.now) }
+pub fn renew_delays<V: Signal>(run: &Run<'_, V::Span>, delays: &mut Delays<V::Span>, t: u32)
+    requires can { CanRun V.signal run.now }
     requires early { t < 4000 }
-    requires delays { AreDelays line.now delays.old.list.items }
-    requires stand { DelaysStand V.LANES V.ends spans.now steps.now t delays.old.list.items }
+    requires delays { AreDelays run.now.compiled.now.line.now delays.old.list.items }
+    requires stand { DelaysStand V.signal run.now t delays.old.list.items }
     requires until { AreSetUntil delays.old.until delays.old.list.items }
-    ensures delays { AreDelays line.now delays.new.list.items }
-    ensures stand { DelaysStand V.LANES V.ends spans.now steps.now t delays.new.list.items }
+    ensures delays { AreDelays run.now.compiled.now.line.now delays.new.list.items }
+    ensures stand { DelaysStand V.signal run.now t delays.new.list.items }
     ensures set { AreSet t delays.new.list.items }
     ensures until { AreSetUntil delays.new.until delays.new.list.items }
 {
     if t < delays.until {
         return;
     }
-    set_delays::<V>(line, spans, steps, &mut delays.list, t);
+    set_delays::<V>(run, &mut delays.list, t);
     delays.until = first_over(&delays.list);
 }
 
@@ -110,49 +103,38 @@ fn first_over<P: Copy>(delays: &[Delay<P>]) -> u32
 }
 
 /// Sets each delay that is over to its span at the tick.
-pub fn set_delays<V: Signal>(
-    line: &Line,
-    spans: &[V::Span],
-    steps: &[Step<V::Span>],
-    delays: &mut Vec<Delay<V::Span>>,
-    t: u32,
-)
-    requires spans { length spans.now ≡ param_count line.now }
-    requires ascending { IsTrue (ascend steps.now) }
+pub fn set_delays<V: Signal>(run: &Run<'_, V::Span>, delays: &mut Vec<Delay<V::Span>>, t: u32)
+    requires can { CanRun V.signal run.now }
     requires early { t < 4000 }
-    requires delays { AreDelays line.now delays.old.items }
-    requires stand { DelaysStand V.LANES V.ends spans.now steps.now t delays.old.items }
-    ensures delays { AreDelays line.now delays.new.items }
-    ensures stand { DelaysStand V.LANES V.ends spans.now steps.now t delays.new.items }
+    requires delays { AreDelays run.now.compiled.now.line.now delays.old.items }
+    requires stand { DelaysStand V.signal run.now t delays.old.items }
+    ensures delays { AreDelays run.now.compiled.now.line.now delays.new.items }
+    ensures stand { DelaysStand V.signal run.now t delays.new.items }
     ensures set { AreSet t delays.new.items }
 {
     for channel in 0..delays.len() {
-        set_delay::<V>(spans, steps, &mut delays[channel], t);
+        set_delay::<V>(run, &mut delays[channel], t);
     }
 }
 
 // Sets a delay that is over to its span at the tick.
-fn set_delay<V: Signal>(
-    spans: &[V::Span],
-    steps: &[Step<V::Span>],
-    delay: &mut Delay<V::Span>,
-    t: u32,
-)
-    requires exists { delay.old.param < length spans.now }
-    requires ascending { IsTrue (ascend steps.now) }
+fn set_delay<V: Signal>(run: &Run<'_, V::Span>, delay: &mut Delay<V::Span>, t: u32)
+    requires exists { delay.old.param < length run.now.spans.now }
+    requires ascending { IsTrue (ascend run.now.steps.now) }
     requires early { t < 4000 }
-    requires stands { DelayStands V.LANES V.ends spans.now steps.now t delay.old }
+    requires stands { DelayStands V.signal run.now t delay.old }
     ensures from { delay.new.from ≡ delay.old.from }
     ensures param { delay.new.param ≡ delay.old.param }
-    ensures stands { DelayStands V.LANES V.ends spans.now steps.now t delay.new }
+    ensures stands { DelayStands V.signal run.now t delay.new }
     ensures set { t < delay.new.until }
 {
     if t < delay.until {
         return;
     }
-    let passed = passed_steps(steps, delay.param, t);
-    let span = value_at(steps, spans[delay.param as usize], delay.param, t, passed);
-    let stays = steps_stay(steps, delay.param, t, passed);
+    let passed = passed_steps(run.steps, delay.param, t);
+    let own = run.spans[delay.param as usize];
+    let span = value_at(run.steps, own, delay.param, t, passed);
+    let stays = steps_stay(run.steps, delay.param, t, passed);
     delay.span = span;
     delay.soonest = soonest::<V>(&span);
     delay.until = t + lesser(stays, 4000);
@@ -162,8 +144,8 @@ fn set_delay<V: Signal>(
 fn soonest<V: Signal>(span: &V::Span) -> u32
     ensures some { 1 ≤ result }
     ensures limited { result ≤ 4000 }
-    ensures before { (lane : ℕ) → lane < V.LANES → 1 ≤ (V.ends span.now lane).least →
-        result ≤ (V.ends span.now lane).least }
+    ensures before { (lane : ℕ) → lane < V.signal.lanes → 1 ≤ (V.signal.ends span.now lane).least →
+        result ≤ (V.signal.ends span.now lane).least }
 {
     let mut least = 4000;
     for lane in 0..V::LANES {

@@ -24,9 +24,9 @@ fn fresh_cell<V: Timed>(
     requires names { GateNames line.now gate.now }
     requires spans { length spans.now ≡ param_count line.now }
     ensures shape { HasCell gate.now result }
-    ensures stands { (lane : ℕ) (w : PairWorld) (u : GateSignals) → lane < V.LANES →
-        ((x : Time) → w.time x ≡ time_ends V.ends lane spans.now x) →
-        CellStands V.stands_for V.ends V.rails lane w u 0 gate.now result }
+    ensures stands { (lane : ℕ) (w : PairWorld) (u : GateSignals) → lane < V.signal.lanes →
+        ((x : Time) → w.time x ≡ time_ends V.signal.ends lane spans.now x) →
+        CellStands V.signal V.stands_for lane w u 0 gate.now result }
 {
     match *gate {
         Gate::Timer(_, pickup, dropout) => fresh_timer::<V>(
@@ -49,9 +49,9 @@ pub fn fresh_cells<V: Timed>(
     requires spans { length spans.now ≡ param_count line.now }
     ensures shape { IfOk result (λ cells. HaveCells net.now.gates cells.items) }
     ensures stands { IfOk result (λ cells.
-        (lane : ℕ) (w : PairWorld) (u : GateSignals) → lane < V.LANES →
-        ((x : Time) → w.time x ≡ time_ends V.ends lane spans.now x) →
-        AllStand V.stands_for V.ends V.rails lane w u 0 net.now.gates cells.items) }
+        (lane : ℕ) (w : PairWorld) (u : GateSignals) → lane < V.signal.lanes →
+        ((x : Time) → w.time x ≡ time_ends V.signal.ends lane spans.now x) →
+        AllStand V.signal V.stands_for lane w u 0 net.now.gates cells.items) }
 {
     let mut cells = Vec::with_capacity(alloc, net.len() as usize)?;
     for i in 0..net.len() {
@@ -99,8 +99,9 @@ pub fn fresh_tracks<V: Signal>(
 // A timer's cell.
 fn fresh_timer<V: Timed>(pickup: V::Span, dropout: V::Span) -> Cell<V::Cells, SealCell<V>, V::Span>
     ensures shape { HasTimer result }
-    ensures stands { (lane : ℕ) → lane < V.LANES →
-        TimerStands V.stands_for V.ends lane (V.ends pickup lane) (V.ends dropout lane) [] result }
+    ensures stands { (lane : ℕ) → lane < V.signal.lanes →
+        TimerStands V.stands_for V.signal.ends lane (V.signal.ends pickup lane)
+        (V.signal.ends dropout lane) [] result }
 {
     Cell::Timer(V::fresh(pickup, dropout), pickup, dropout)
 }

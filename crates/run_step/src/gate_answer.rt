@@ -22,11 +22,11 @@ use run_signal::{Carried, SealCell, Timed, elements_stay_in_a_stretch};
 // What is received of a channel at the next tick, lost or not.
 fn raw_answer<V: Carried>(moment: &Moment<'_, V, V::Span>, channel: u32) -> V
     requires exists { channel < channel_count moment.now.line.now }
-    requires moment { CanHear V.LANES V.ends moment.now }
-    ensures { (lane : ℕ) (w : PairWorld) (keys : PairSignals) → lane < V.LANES →
-        AreDelaysOf V.ends lane moment.now.delays.now w moment.now.t →
-        KeysSent V.rails lane keys moment.now.t moment.now.sent.now →
-        V.rails result lane
+    requires moment { CanHear V.signal moment.now }
+    ensures { (lane : ℕ) (w : PairWorld) (keys : PairSignals) → lane < V.signal.lanes →
+        AreDelaysOf V.signal.ends lane moment.now.delays.now w moment.now.t →
+        KeysSent V.signal.rails lane keys moment.now.t moment.now.sent.now →
+        V.signal.rails result lane
         ≡ rails_delayed (keys (w.from channel)) (w.delay channel moment.now.t) moment.now.t }
 {
     history_laws();
@@ -57,10 +57,11 @@ pub fn gate_stays<V: Timed>(
     ensures some { 1 ≤ result }
     ensures limited { result ≤ limit }
     ensures keeps { (w : ℕ → PairWorld) (u : ℕ → GateSignals) (t : ℕ) →
-        ((lane : ℕ) → lane < V.LANES → ValuesAgree V.rails lane (u lane) t earlier.now) →
-        ((lane : ℕ) → lane < V.LANES →
-        CellStands V.stands_for V.ends V.rails lane (w lane) (u lane) t gate.now cell.now) →
-        (lane : ℕ) → lane < V.LANES → TimerKeeps (w lane) (u lane) t result gate.now }
+        ((lane : ℕ) → lane < V.signal.lanes →
+        ValuesAgree V.signal.rails lane (u lane) t earlier.now) →
+        ((lane : ℕ) → lane < V.signal.lanes →
+        CellStands V.signal V.stands_for lane (w lane) (u lane) t gate.now cell.now) →
+        (lane : ℕ) → lane < V.signal.lanes → TimerKeeps (w lane) (u lane) t result gate.now }
 {
     elements_stay_in_a_stretch();
     match *gate {
@@ -81,19 +82,19 @@ pub fn answer<V: Timed + Carried>(
     requires names { GateNames moment.now.line.now gate.now }
     requires arguments { HasArguments (length earlier.now) gate.now }
     requires cell { HasCell gate.now cell.old }
-    requires moment { CanHear V.LANES V.ends moment.now }
+    requires moment { CanHear V.signal moment.now }
     ensures shape { HasCell gate.now cell.new }
-    ensures stands { (lane : ℕ) (w : PairWorld) (u : GateSignals) → lane < V.LANES →
-        ValuesAgree V.rails lane u moment.now.t earlier.now →
-        CellStands V.stands_for V.ends V.rails lane w u moment.now.t gate.now cell.old →
-        CellStands V.stands_for V.ends V.rails lane w u (suc moment.now.t) gate.now cell.new }
+    ensures stands { (lane : ℕ) (w : PairWorld) (u : GateSignals) → lane < V.signal.lanes →
+        ValuesAgree V.signal.rails lane u moment.now.t earlier.now →
+        CellStands V.signal V.stands_for lane w u moment.now.t gate.now cell.old →
+        CellStands V.signal V.stands_for lane w u (suc moment.now.t) gate.now cell.new }
     ensures answers { (lane : ℕ) (w : PairWorld) (keys : PairSignals) (u : GateSignals) →
-        lane < V.LANES → IsShownAt spans.now w moment.now.t gate.now →
-        AreDelaysOf V.ends lane moment.now.delays.now w moment.now.t →
-        KeysSent V.rails lane keys moment.now.t moment.now.sent.now →
-        ValuesAgree V.rails lane u moment.now.t earlier.now →
-        CellStands V.stands_for V.ends V.rails lane w u moment.now.t gate.now cell.old →
-        V.rails result lane ≡ kind_pair w keys u gate.now moment.now.t }
+        lane < V.signal.lanes → IsShownAt spans.now w moment.now.t gate.now →
+        AreDelaysOf V.signal.ends lane moment.now.delays.now w moment.now.t →
+        KeysSent V.signal.rails lane keys moment.now.t moment.now.sent.now →
+        ValuesAgree V.signal.rails lane u moment.now.t earlier.now →
+        CellStands V.signal V.stands_for lane w u moment.now.t gate.now cell.old →
+        V.signal.rails result lane ≡ kind_pair w keys u gate.now moment.now.t }
 {
     recorded_ticks_suffice();
     match *gate {
@@ -120,19 +121,19 @@ pub fn short_answer<V: Timed + Carried>(
     requires names { GateNames moment.now.line.now gate.now }
     requires arguments { HasArguments (length earlier.now) gate.now }
     requires cell { HasCell gate.now cell.old }
-    requires moment { CanHear V.LANES V.ends moment.now }
+    requires moment { CanHear V.signal moment.now }
     ensures shape { HasCell gate.now cell.new }
-    ensures stands { (lane : ℕ) (w : PairWorld) (u : GateSignals) → lane < V.LANES →
-        ValuesAgree V.rails lane u moment.now.t earlier.now →
-        CellStands V.stands_for V.ends V.rails lane w u moment.now.t gate.now cell.old →
-        CellStands V.stands_for V.ends V.rails lane w u (suc moment.now.t) gate.now cell.new }
+    ensures stands { (lane : ℕ) (w : PairWorld) (u : GateSignals) → lane < V.signal.lanes →
+        ValuesAgree V.signal.rails lane u moment.now.t earlier.now →
+        CellStands V.signal V.stands_for lane w u moment.now.t gate.now cell.old →
+        CellStands V.signal V.stands_for lane w u (suc moment.now.t) gate.now cell.new }
     ensures answers { (lane : ℕ) (w : PairWorld) (keys : PairSignals) (u : GateSignals) →
-        lane < V.LANES → IsShownAt spans.now w moment.now.t gate.now →
-        AreDelaysOf V.ends lane moment.now.delays.now w moment.now.t →
-        KeysSent V.rails lane keys moment.now.t moment.now.sent.now →
-        ValuesAgree V.rails lane u moment.now.t earlier.now →
-        CellStands V.stands_for V.ends V.rails lane w u moment.now.t gate.now cell.old →
-        V.rails result lane ≡ kind_pair w keys u gate.now moment.now.t }
+        lane < V.signal.lanes → IsShownAt spans.now w moment.now.t gate.now →
+        AreDelaysOf V.signal.ends lane moment.now.delays.now w moment.now.t →
+        KeysSent V.signal.rails lane keys moment.now.t moment.now.sent.now →
+        ValuesAgree V.signal.rails lane u moment.now.t earlier.now →
+        CellStands V.signal V.stands_for lane w u moment.now.t gate.now cell.old →
+        V.signal.rails result lane ≡ kind_pair w keys u gate.now moment.now.t }
 {
     match *gate {
         Gate::Not(x) => argument(earlier, x).not(),

@@ -15,6 +15,7 @@ ghost use Rattle.run_step.specs.LaneBox.{lane_box};
 ghost use Rattle.run_step.specs.GatePairs.{GatesHaveTheirKind, GateSignals};
 ghost use Rattle.run_step.specs.Quiet.{Keeps, SourcesKeep, AreGatePairs, EndKeeps};
 ghost use Rattle.run_step.specs.Quiet.{ArrivalKeeps};
+ghost use Rattle.run_signal.specs.Levels.{level_signal};
 ghost use Rattle.run_step.specs.{Played.ends_of_tick, Runs.AreDelayed, Runs.IsPoint};
 ghost use Rattle.net_gates.specs.{declared.gate.Gate.Gate, Gates.AreGates, Named.NamedFrom};
 
@@ -34,9 +35,8 @@ pub fn a_timing_is_one_choice()
         IsPoint line (lane_box ends_of_tick line timing.values timing.steps lane)
         (timing_choice line timing) }
     // as a run asks, each delay in it is at least 1,
-    ensures delayed { (line : Line) (timing : TimingValues) (lanes : ℕ) →
-        IsTimingInside line timing →
-        AreDelayed lanes ends_of_tick line timing.values timing.steps }
+    ensures delayed { (line : Line) (timing : TimingValues) → IsTimingInside line timing →
+        AreDelayed level_signal line timing.values timing.steps }
     ensures choice { (line : Line) (timing : TimingValues) → IsTimingInside line timing →
         DelaysFromOne line (timing_choice line timing) }
     // and the choice has one history.

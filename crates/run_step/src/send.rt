@@ -23,12 +23,12 @@ pub fn send_all<V: Signal>(
     requires room { t + count ≤ horizon }
     requires sent { AreSent (length gates.now) horizon t tracks.old.items }
     ensures count { AreSent (length gates.now) horizon (t + count) tracks.new.items }
-    ensures keys { (lane : ℕ) (keys : PairSignals) → lane < V.LANES →
+    ensures keys { (lane : ℕ) (keys : PairSignals) → lane < V.signal.lanes →
         ((k : ℕ) (x : V) → k < length gates.now →
         slice_get column.now (id_at gates.now k) ≡ Some x →
-        (r : ℕ) → t ≤ r → r < t + count → keys k r ≡ V.rails x lane) →
-        KeysSent V.rails lane keys t tracks.old.items →
-        KeysSent V.rails lane keys (t + count) tracks.new.items }
+        (r : ℕ) → t ≤ r → r < t + count → keys k r ≡ V.signal.rails x lane) →
+        KeysSent V.signal.rails lane keys t tracks.old.items →
+        KeysSent V.signal.rails lane keys (t + count) tracks.new.items }
 {
     elements_stay_in_a_stretch();
     for k in 0..gates.len() {

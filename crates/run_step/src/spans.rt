@@ -13,8 +13,8 @@ use run_signal::Signal;
 pub fn time_span<V: Signal>(line: &Line, spans: &[V::Span], time: Time) -> V::Span
     requires spans { length spans.now ≡ param_count line.now }
     requires exists { HasTime line.now time }
-    ensures { (lane : ℕ) → lane < V.LANES →
-        V.ends result lane ≡ time_ends V.ends lane spans.now time }
+    ensures { (lane : ℕ) → lane < V.signal.lanes →
+        V.signal.ends result lane ≡ time_ends V.signal.ends lane spans.now time }
 {
     match time {
         Time::Zero => V::sure(0),

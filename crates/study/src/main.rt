@@ -2,10 +2,7 @@
 //! error.
 #![tactic(auto)]
 
-mod new_file;
-
-use crate::new_file::NewFile;
-use base_text::store::{FileStore, Sink, StdSink, put_all};
+use base_text::store::{FileStore, NewFile, Sink, StdSink, put_all};
 use call_records::records;
 use call_study::study;
 use call_words::{Call, Event, command, words_of};

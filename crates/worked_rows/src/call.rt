@@ -4,6 +4,7 @@ use crate::change::{Change, changed};
 use crate::failing::{Failing, Failings, failing_sink, failing_store};
 use crate::fault::Fault;
 use crate::programs::call;
+use base_memory::Stopped;
 use base_text::store::{FetchFault, MemoryStore, Sink, Store, fetch, put_all};
 use itoa::Buffer;
 use std::alloc::{AllocError, Global};
@@ -102,8 +103,8 @@ fn hold_file<F: Store>(
     let is_changed = changes.iter().any(|change| change.file.as_str() == name);
     let mut bytes = match fetch(alloc, files, name, LONGEST) {
         Ok(bytes) => bytes,
-        Err(FetchFault::Failed) if !is_changed => return Ok(()),
-        Err(fault) => return Err(fault.into()),
+        Err(Stopped::Fault(FetchFault::Failed)) if !is_changed => return Ok(()),
+        Err(why) => return Err(why.into()),
     };
     for change in changes {
         if change.file.as_str() == name {

@@ -1,6 +1,6 @@
 //! What ends the rows before their last one.
 
-use base_memory::Memory;
+use base_memory::{Memory, Stopped};
 use base_text::store::{FetchFault, PutFailed};
 use std::alloc::AllocError;
 
@@ -66,12 +66,12 @@ impl From<PutFailed> for Fault {
     }
 }
 
-impl From<FetchFault> for Fault {
-    fn from(fault: FetchFault) -> Self {
-        match fault {
-            FetchFault::Failed => Fault::File,
-            FetchFault::TooLong => Fault::Text,
-            FetchFault::Memory => Fault::Memory,
+impl From<Stopped<FetchFault>> for Fault {
+    fn from(why: Stopped<FetchFault>) -> Self {
+        match why {
+            Stopped::Fault(FetchFault::Failed) => Fault::File,
+            Stopped::Fault(FetchFault::TooLong) => Fault::Text,
+            Stopped::Memory => Fault::Memory,
         }
     }
 }

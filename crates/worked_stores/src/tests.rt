@@ -1,5 +1,6 @@
 //! A store over memory, a store over files and a sink over a writer, as a call uses them.
 
+use base_memory::Stopped;
 use base_text::store::{FetchFault, FileStore, MemoryStore, PutFailed, StdSink, fetch, put_all};
 use std::io::Write;
 use std::test::Fail;
@@ -10,15 +11,15 @@ use std::{fs, io};
 #[test]
 fn fetches_in_pieces(rt: HostRuntime) -> Result<(), Fail> {
     let alloc = rt.alloc();
-    for (size, want) in [(65536, None), (65537, Some(FetchFault::Failed))] {
+    for (size, is_whole) in [(65536, true), (65537, false)] {
         let bytes = vec![in alloc; b'-'; size]?;
         let mut store = MemoryStore::new(alloc);
         store.hold("a", bytes.as_slice())?;
         store.fail_at(3)?;
-        assert!(rt;
-            fetch(alloc, &mut store, "a", 65537).err() == want,
-            "{size} bytes"
-        );
+        let fetched = fetch(alloc, &mut store, "a", 65537);
+        let failed = matches!(fetched, Err(Stopped::Fault(FetchFault::Failed)));
+        assert!(rt; fetched.is_ok() == is_whole, "{size} bytes");
+        assert!(rt; failed != is_whole, "{size} bytes");
     }
     Ok(())
 }
@@ -58,7 +59,7 @@ fn fetches_from_a_file(rt: HostRuntime) -> Result<(), Fail> {
     fs::remove_file(&rt, name)?;
     let missing = fetch(rt.alloc(), &mut store, name, 4);
     assert!(rt; held.is_ok_and(|bytes| bytes.as_slice() == b"vine".as_slice()));
-    assert!(rt; longer.err() == Some(FetchFault::TooLong));
-    assert!(rt; missing.err() == Some(FetchFault::Failed));
+    assert!(rt; matches!(longer, Err(Stopped::Fault(FetchFault::TooLong))));
+    assert!(rt; matches!(missing, Err(Stopped::Fault(FetchFault::Failed))));
     Ok(())
 }

@@ -2,7 +2,10 @@
 use Rattle.std.proofs.Common.{◌≡◌, ℕ, ◌+◌, ◌≤◌, ◌<◌, List, min, arith, Ok, Err, IsErrOf}
 use Rattle.base_text.specs.store.Counts.{Grew, one_more}
 use Rattle.base_text.specs.store.Store.{SameCounts, NoneFell}
+use Rattle.base_text.specs.declared.store.store.FetchFault.{FetchFault}
 use Rattle.base_text.specs.declared.store.store.FetchFault.TheVariants as fault
+use Rattle.base_memory.specs.declared.stopped.Stopped.{Stopped}
+use Rattle.base_memory.specs.declared.stopped.Stopped.TheVariants as stopped
 
 -- bytes that go past a limit with those of this pull
 pub grew_past_limit : (old mid new size count limit : ℕ) → Grew old size mid → Grew mid count new
@@ -38,13 +41,13 @@ pub raised-le : (before amount now : ℕ) → now ≡ min (before + amount) 1844
 raised-le before amount now raised fits = omega arith
 
 -- no other answer is `TooLong`
-pub whole_apart : {T P : Type 0} (x : T) → IsErrOf (Ok x) fault.TooLong → P
+pub whole_apart : {T P : Type 0} (x : T) → IsErrOf (Ok x) (stopped.Fault fault.TooLong) → P
 whole_apart x same = cc
 
-pub failed_apart : {T P : Type 0} → IsErrOf {T = T} (Err fault.Failed) fault.TooLong → P
+pub failed_apart : {T P : Type 0} → IsErrOf {T = T} (Err (stopped.Fault fault.Failed)) (stopped.Fault fault.TooLong) → P
 failed_apart same = cc
 
-pub memory_apart : {T P : Type 0} → IsErrOf {T = T} (Err fault.Memory) fault.TooLong → P
+pub memory_apart : {T P : Type 0} → IsErrOf {T = T} (Err stopped.Memory) (stopped.Fault fault.TooLong) → P
 memory_apart same = cc
 
 -- no count is below 0

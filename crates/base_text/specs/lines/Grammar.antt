@@ -1,8 +1,8 @@
 -- The grammar of a text of lines, and lines that are read where more are expected after them.
 use Rattle.std.specs.Prelude.{◌≡◌, ◌++◌, ℕ, List, [], ◌∷◌, length}
 use Rattle.std.specs.List.{All, flat_map}
+use Rattle.base_memory.specs.{Gives.OfFault, declared.stopped.Stopped.Stopped}
 use Rattle.base_text.specs.declared.lines.fault.TextFault.{TextFault}
-use Rattle.base_text.specs.declared.lines.fault.TextFault.TheVariants as fault
 use Rattle.base_text.specs.lines.Lines.{Lines, Goes, LeavesAt}
 
 -- the line is this text alone, and says nothing more
@@ -31,9 +31,9 @@ Reads g places said later text first rest next =
     Goes g.stands g.opens (places ++ later) said text first later rest next
 
 -- the fault, where these places are expected; want of memory says nothing
-abbrev pub IsFault : (g : Grammar) → List g.Place → List ℕ → ℕ → TextFault → Type 0
-IsFault g places text first (fault.Line n) = LeavesAt g.stands g.opens places text first n
-IsFault g places text first fault.Memory = Unit {0}
+abbrev pub IsFault : (g : Grammar) → List g.Place → List ℕ → ℕ → Stopped TextFault → Type 0
+IsFault g places text first why =
+    OfFault (λ fault. LeavesAt g.stands g.opens places text first fault.line) why
 
 -- ---- the parts of a text, one for each of several items
 
@@ -98,7 +98,7 @@ LeavesText p head items last bytes n =
     LeavesAt p.grammar.stands p.grammar.opens (text_places p head items last) bytes 1 n
 
 -- the fault of a whole text
-abbrev pub IsTextFault : {X Y : Type 0} → Parts X Y → List ℕ → List X → List ℕ → List ℕ → TextFault
-    → Type 0
-IsTextFault p head items last bytes f =
-    IsFault p.grammar (text_places p head items last) bytes 1 f
+abbrev pub IsTextFault : {X Y : Type 0} → Parts X Y → List ℕ → List X → List ℕ → List ℕ
+    → Stopped TextFault → Type 0
+IsTextFault p head items last bytes why =
+    IsFault p.grammar (text_places p head items last) bytes 1 why

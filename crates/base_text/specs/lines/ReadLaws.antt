@@ -5,8 +5,9 @@ use Rattle.std.proofs.lemmas.Result.{MatchResult-weaker}
 use Rattle.std.specs.Prelude.{Result, MatchResult}
 use Rattle.std.specs.List.{flat_map}
 use Rattle.base_text.specs.declared.lines.fault.TextFault.{TextFault}
-use Rattle.base_text.specs.declared.lines.fault.TextFault.TheVariants as fault
-use Rattle.base_text.specs.lines.Lines.{BeginsWith, Goes}
+use Rattle.base_memory.specs.declared.stopped.Stopped.{Stopped}
+use Rattle.base_memory.specs.declared.stopped.Stopped.TheVariants as stopped
+use Rattle.base_text.specs.lines.Lines.{BeginsWith, Goes, LeavesAt}
 use Rattle.base_text.specs.lines.Grammar.{Grammar, Reads, IsFault}
 use Rattle.base_text.specs.lines.LineLaws.{goes_one, goes_then, leaves_later, leaves_here}
 use Rattle.base_text.specs.lines.Reading.{left_as, next_places}
@@ -14,11 +15,11 @@ use Rattle.base_text.specs.lines.Reading.{left_as, next_places}
 module _ (g : Grammar) where
   -- a fault after some lines
   pub later_fault : (places : List g.Place) (said : List g.Said) (text : List ℕ) (a : ℕ) (mid : List g.Place)
-      (at : List ℕ) (b : ℕ) (f : TextFault) → Goes g.stands g.opens places said text a mid at b
+      (at : List ℕ) (b : ℕ) (f : Stopped TextFault) → Goes g.stands g.opens places said text a mid at b
       → IsFault g mid at b f → IsFault g places text a f
-  later_fault places said text a mid at b (fault.Line n) goes is =
-      leaves_later g.stands g.opens places said text a mid at b n goes is
-  later_fault places said text a mid at b fault.Memory goes is = tt
+  later_fault places said text a mid at b (stopped.Fault f) goes is =
+      leaves_later g.stands g.opens places said text a mid at b f.line goes is
+  later_fault places said text a mid at b stopped.Memory goes is = tt
 
   -- the line of one text was taken
   pub taken : (line : List ℕ) (later : List g.Place) (text rest : List ℕ) (a b : ℕ)
@@ -33,10 +34,10 @@ module _ (g : Grammar) where
 
   -- it was not there
   pub not_taken : (line : List ℕ) (later : List g.Place) (text : List ℕ) (a : ℕ) (f : TextFault)
-      → f ≡ fault.Line a → ((rest : List ℕ) → ¬ (BeginsWith text line rest))
-      → IsFault g (g.fixed line ∷ later) text a f
+      → f.line ≡ a → ((rest : List ℕ) → ¬ (BeginsWith text line rest))
+      → IsFault g (g.fixed line ∷ later) text a (stopped.Fault f)
   not_taken line later text a f is never =
-      let P : TextFault → Type 0 = λ f. IsFault g (g.fixed line ∷ later) text a f in
+      let P : ℕ → Type 0 = λ n. LeavesAt g.stands g.opens (g.fixed line ∷ later) text a n in
       subst P (sym is) (leaves_here g.stands g.opens (g.fixed line ∷ later) text a
       (λ m other rest begins stood.
       let Q : List ℕ → Type 0 = λ l. BeginsWith text l rest in
@@ -45,7 +46,7 @@ module _ (g : Grammar) where
   -- it was taken, and then the answer is that of the lines at more places
   pub taken_then : {V : Type 0} (line : List ℕ) (places later : List g.Place)
       (text : List ℕ) (a : ℕ) (at : List ℕ) (b : ℕ) (rest : List ℕ) (c : ℕ)
-      (IsWhole : V → Type 0) (said : V → List g.Said) (r : Result V TextFault)
+      (IsWhole : V → Type 0) (said : V → List g.Said) (r : Result V (Stopped TextFault))
       → BeginsWith text line at → b ≡ a + 1
       → MatchResult r (λ v. IsWhole v × Reads g places (said v) later at b rest c)
       (λ f. IsFault g (places ++ later) at b f)
@@ -75,7 +76,7 @@ module _ (g : Grammar) where
 
     -- a fault in the lines of the next
     pub fault_there : (places later : List g.Place) (said : List g.Said) (text : List ℕ) (a : ℕ)
-        (at : List ℕ) (b : ℕ) (f : TextFault)
+        (at : List ℕ) (b : ℕ) (f : Stopped TextFault)
         → Goes g.stands g.opens places said text a (flat_map of (drop k xs) ++ later) at b
         → IsFault g (of x ++ (flat_map of (drop (k + 1) xs) ++ later)) at b f
         → IsFault g places text a f

@@ -1,4 +1,4 @@
--- What contracts see of a sink over a writer: its counts alone.
+-- What contracts see of a sink over a writer or a file: its counts alone.
 use Rattle.std.specs.Prelude.{ℕ}
 
 -- how many pushes took nothing, and how many pushes were made

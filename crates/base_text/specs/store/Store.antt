@@ -3,6 +3,8 @@ use Rattle.std.specs.Prelude.{◌≡◌, ℕ, ◌+◌, ◌<◌, ◌≤◌, List,
 use Rattle.std.specs.Prelude.{⊤}
 use Rattle.base_text.specs.{store.Counts.Rose, declared.store.store.FetchFault.FetchFault}
 use Rattle.base_text.specs.declared.store.store.FetchFault.TheVariants as fault
+use Rattle.base_memory.specs.declared.stopped.Stopped.{Stopped}
+use Rattle.base_memory.specs.declared.stopped.Stopped.TheVariants as stopped
 
 -- the first `count` bytes of the piece are those of `bytes` from that place on,
 -- and a piece with room gets none only at the end or past it
@@ -22,10 +24,9 @@ NoneFell old new = (name : List ℕ) → old name ≤ new name
 abbrev pub Explains : ℕ → Option (List ℕ) → FetchFault → Type 0
 Explains limit held fault.Failed = ⊤
 Explains limit held fault.TooLong = IfSome held (λ bytes. limit < length bytes)
-Explains limit held fault.Memory = ⊤
 
--- what a fault of a fetch says of the counts of faults
-abbrev pub Counts : List ℕ → (List ℕ → ℕ) → (List ℕ → ℕ) → FetchFault → Type 0
-Counts name old new fault.Failed = Rose (old name) (new name)
-Counts name old new fault.TooLong = SameCounts old new
-Counts name old new fault.Memory = SameCounts old new
+-- what the end of a fetch without bytes says of the counts of faults
+abbrev pub Counts : List ℕ → (List ℕ → ℕ) → (List ℕ → ℕ) → Stopped FetchFault → Type 0
+Counts name old new (stopped.Fault fault.Failed) = Rose (old name) (new name)
+Counts name old new (stopped.Fault fault.TooLong) = SameCounts old new
+Counts name old new stopped.Memory = SameCounts old new

@@ -35,12 +35,12 @@ impl<'a> LineCursor<'a> {
         ensures { MatchResult result
             (λ line. BeginsWith self.old.rest.now line.now self.new.rest.now
             × (self.new.number ≡ self.old.number + 1))
-            (λ fault. (fault ≡ TextFault.Line self.old.number)
+            (λ fault. (fault.line ≡ self.old.number)
             × ((line rest : List ℕ) → ¬ BeginsWith self.old.rest.now line rest)) }
     {
         let end = find_byte(self.rest, b'\n');
         if end == self.rest.len() {
-            return Err(TextFault::Line(self.number));
+            return Err(TextFault { line: self.number });
         }
         let line = &self.rest[..end];
         self.rest = &self.rest[end + 1..];
@@ -53,7 +53,7 @@ impl<'a> LineCursor<'a> {
         ensures { MatchResult result
             (λ _. BeginsWith self.old.rest.now text.now self.new.rest.now
             × (self.new.number ≡ self.old.number + 1))
-            (λ fault. (fault ≡ TextFault.Line self.old.number)
+            (λ fault. (fault.line ≡ self.old.number)
             × ((rest : List ℕ) → ¬ BeginsWith self.old.rest.now text.now rest)) }
     {
         self.take_named(b"", text)
@@ -64,7 +64,7 @@ impl<'a> LineCursor<'a> {
         ensures { MatchResult result
             (λ _. BeginsWith self.old.rest.now (start.now ++ name.now) self.new.rest.now
             × (self.new.number ≡ self.old.number + 1))
-            (λ fault. (fault ≡ TextFault.Line self.old.number)
+            (λ fault. (fault.line ≡ self.old.number)
             × ((rest : List ℕ) → ¬ BeginsWith self.old.rest.now (start.now ++ name.now) rest)) }
     {
         let number = self.number;
@@ -72,7 +72,7 @@ impl<'a> LineCursor<'a> {
         if is_named(line, start, name) {
             Ok(())
         } else {
-            Err(TextFault::Line(number))
+            Err(TextFault { line: number })
         }
     }
 }

@@ -7,7 +7,7 @@ ghost use Rattle.base_text.specs.lines.Grammar.{Grammar, Reads, IsFault, one_lin
 use crate::lines::cursor::LineCursor;
 use crate::lines::fault::TextFault;
 use crate::lines::part::{PartReader, read_each};
-use base_memory::Memory;
+use base_memory::{Memory, Stopped};
 use std::alloc::Global;
 
 /// A reader of one line for an item.
@@ -66,12 +66,12 @@ impl<'a, R: LineReader> PartReader for OneLine<'a, R> {
         alloc: Global,
         item: &R::Item,
         lines: &mut LineCursor<'_>,
-    ) -> Result<R::Part, TextFault> {
+    ) -> Result<R::Part, Stopped<TextFault>> {
         let number = lines.number;
         let line = lines.take_line()?;
         match self.reader.read_line(alloc, item, line)? {
             Some(part) => Ok(part),
-            None => Err(TextFault::Line(number)),
+            None => Err(Stopped::Fault(TextFault { line: number })),
         }
     }
 }
@@ -82,13 +82,13 @@ pub fn read_lines<R: LineReader>(
     reader: &R,
     items: &[R::Item],
     lines: &mut LineCursor<'_>,
-) -> Result<Vec<R::Part>, TextFault>
+) -> Result<Vec<R::Part>, Stopped<TextFault>>
     ensures { (later : List (R.grammar reader.now).Place) → MatchResult result
         (λ parts. (length parts.items ≡ length items.now)
         × Reads (R.grammar reader.now) (map (R.place reader.now) items.now) (map (R.says reader.now) parts.items) later
         lines.old.rest.now lines.old.number lines.new.rest.now lines.new.number)
-        (λ fault. IsFault (R.grammar reader.now) (map (R.place reader.now) items.now ++ later)
-        lines.old.rest.now lines.old.number fault) }
+        (λ why. IsFault (R.grammar reader.now) (map (R.place reader.now) items.now ++ later)
+        lines.old.rest.now lines.old.number why) }
 {
     read_each(alloc, &OneLine { reader }, items, lines)
 }

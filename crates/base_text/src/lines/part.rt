@@ -6,6 +6,7 @@ ghost use Rattle.base_text.specs.lines.Grammar.{Parts, Reads, IsFault, all_place
 
 use crate::lines::cursor::LineCursor;
 use crate::lines::fault::TextFault;
+use base_memory::Stopped;
 use std::alloc::Global;
 
 /// A reader of the lines that stand for one item.
@@ -29,14 +30,14 @@ pub trait PartReader {
         alloc: Global,
         item: &Self::Item,
         lines: &mut LineCursor<'_>,
-    ) -> Result<Self::Part, TextFault>
+    ) -> Result<Self::Part, Stopped<TextFault>>
         ensures { (later : List (parts self.now).grammar.Place) → MatchResult result
             (λ part. (parts self.now).IsWhole (meaning part)
             × Reads (parts self.now).grammar ((parts self.now).places item.now)
             ((parts self.now).said (meaning part)) later
             lines.old.rest.now lines.old.number lines.new.rest.now lines.new.number)
-            (λ fault. IsFault (parts self.now).grammar ((parts self.now).places item.now ++ later)
-            lines.old.rest.now lines.old.number fault) };
+            (λ why. IsFault (parts self.now).grammar ((parts self.now).places item.now ++ later)
+            lines.old.rest.now lines.old.number why) };
 }
 
 /// Reads the lines of each item, in order.
@@ -45,16 +46,16 @@ pub fn read_each<R: PartReader>(
     reader: &R,
     items: &[R::Item],
     lines: &mut LineCursor<'_>,
-) -> Result<Vec<R::Part>, TextFault>
+) -> Result<Vec<R::Part>, Stopped<TextFault>>
     ensures { (later : List (R.parts reader.now).grammar.Place) → MatchResult result
         (λ parts. (length parts.items ≡ length items.now)
         × All (R.parts reader.now).IsWhole (map R.meaning parts.items)
         × Reads (R.parts reader.now).grammar (all_places (R.parts reader.now) items.now)
         (all_said (R.parts reader.now) (map R.meaning parts.items)) later
         lines.old.rest.now lines.old.number lines.new.rest.now lines.new.number)
-        (λ fault. IsFault (R.parts reader.now).grammar
+        (λ why. IsFault (R.parts reader.now).grammar
         (all_places (R.parts reader.now) items.now ++ later)
-        lines.old.rest.now lines.old.number fault) }
+        lines.old.rest.now lines.old.number why) }
 {
     let mut parts = Vec::new(alloc);
     for item in items {

@@ -8,6 +8,7 @@ ghost use Rattle.base_text.specs.lines.Grammar.{all_places, all_said};
 use crate::lines::cursor::LineCursor;
 use crate::lines::fault::TextFault;
 use crate::lines::part::{PartReader, read_each};
+use base_memory::Stopped;
 use std::alloc::Global;
 
 /// Reads a text of the items, between this first line and this last one: what it says of each in
@@ -19,11 +20,11 @@ pub fn read_text<R: PartReader>(
     items: &[R::Item],
     last: &[u8],
     bytes: &[u8],
-) -> Result<Vec<R::Part>, TextFault>
+) -> Result<Vec<R::Part>, Stopped<TextFault>>
     ensures { MatchResult result
         (λ meant. IsText (R.parts reader.now) first.now items.now last.now
         (map R.meaning meant.items) bytes.now)
-        (λ fault. IsTextFault (R.parts reader.now) first.now items.now last.now bytes.now fault) }
+        (λ why. IsTextFault (R.parts reader.now) first.now items.now last.now bytes.now why) }
 {
     let mut lines = LineCursor::new(bytes);
     lines.take(first)?;
@@ -37,15 +38,15 @@ fn read_rest<R: PartReader>(
     items: &[R::Item],
     last: &[u8],
     lines: &mut LineCursor<'_>,
-) -> Result<Vec<R::Part>, TextFault>
+) -> Result<Vec<R::Part>, Stopped<TextFault>>
     ensures { MatchResult result
         (λ parts. (length parts.items ≡ length items.now)
         × All (R.parts reader.now).IsWhole (map R.meaning parts.items)
         × IsEnded (R.parts reader.now).grammar (all_places (R.parts reader.now) items.now) last.now
         (all_said (R.parts reader.now) (map R.meaning parts.items)) lines.old.rest.now)
-        (λ fault. IsFault (R.parts reader.now).grammar
+        (λ why. IsFault (R.parts reader.now).grammar
         (ended (R.parts reader.now).grammar (all_places (R.parts reader.now) items.now) last.now)
-        lines.old.rest.now lines.old.number fault) }
+        lines.old.rest.now lines.old.number why) }
 {
     let parts = read_each(alloc, reader, items, lines)?;
     take_last(reader, last, lines)?;
@@ -57,16 +58,16 @@ fn take_last<R: PartReader>(
     reader: &R,
     last: &[u8],
     lines: &mut LineCursor<'_>,
-) -> Result<(), TextFault>
+) -> Result<(), Stopped<TextFault>>
     ensures { MatchResult result
         (λ _. IsEnded (R.parts reader.now).grammar [] last.now [] lines.old.rest.now)
-        (λ fault. IsFault (R.parts reader.now).grammar (ended (R.parts reader.now).grammar [] last.now)
-        lines.old.rest.now lines.old.number fault) }
+        (λ why. IsFault (R.parts reader.now).grammar (ended (R.parts reader.now).grammar [] last.now)
+        lines.old.rest.now lines.old.number why) }
 {
     lines.take(last)?;
     if lines.rest.is_empty() {
         Ok(())
     } else {
-        Err(TextFault::Line(lines.number))
+        Err(Stopped::Fault(TextFault { line: lines.number }))
     }
 }

@@ -3,13 +3,26 @@ ghost use Rattle.std.specs.Prelude.{◌≡◌, ◌+◌, ◌<◌, ◌≤◌, ℕ,
 ghost use Rattle.std.specs.Io.KnownBytes.{Appends, WriteAppends};
 ghost use Rattle.base_text.specs.{store.Counts.Rose, store.Counts.one_more, store.Sink.GrewByProper};
 
+use base_memory::Stopped;
+
 /// A push took nothing, and the count of faults rose.
 #[derive(Clone, Copy)]
 pub struct SinkFailed;
 
 /// A text was put in part only, and the count of faults rose.
-#[derive(Clone, Copy, PartialEq, Eq)]
+#[derive(Clone, Copy, PartialEq, Eq, Drop)]
 pub struct PutFailed;
+
+impl From<PutFailed> for Stopped<PutFailed> {
+    ghost use Rattle.std.specs.Prelude.{◌≡◌};
+    ghost use Rattle.base_memory.specs.declared.stopped.Stopped.TheVariants as stopped;
+
+    ghost from_gives = { λ failed why. why ≡ stopped.Fault failed };
+
+    fn from(failed: PutFailed) -> Self {
+        Stopped::Fault(failed)
+    }
+}
 
 /// Takes bytes piece by piece, with a count of its faults.
 ///

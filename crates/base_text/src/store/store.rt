@@ -3,7 +3,10 @@ ghost use Rattle.std.specs.Prelude.{◌≡◌, ◌+◌, ◌≤◌, ℕ, List, Op
 ghost use Rattle.std.specs.Prelude.{OnOk, OnErr, IsErrOf};
 ghost use Rattle.base_text.specs.store.Counts.{Rose, Grew, one_more};
 ghost use Rattle.base_text.specs.store.Store.{IsPiece, SameCounts, NoneFell, Explains, Counts};
+ghost use Rattle.base_memory.specs.Gives.{OfFault};
+ghost use Rattle.base_memory.specs.declared.stopped.Stopped.TheVariants as stopped;
 
+use base_memory::Stopped;
 use std::alloc::{AllocError, Global};
 
 /// How many bytes one pull of a fetch asks for.
@@ -14,14 +17,12 @@ const PIECE: usize = 65536;
 pub struct StoreFailed;
 
 /// Why a fetch has no bytes to give.
-#[derive(Clone, Copy, PartialEq, Eq)]
+#[derive(Clone, Copy, PartialEq, Eq, Drop)]
 pub enum FetchFault {
     /// A pull failed.
     Failed,
     /// The name holds more bytes than the limit.
     TooLong,
-    /// No memory was left.
-    Memory,
 }
 
 /// Bytes under names, read piece by piece, with a count of the faults of each name.
@@ -79,7 +80,7 @@ pub fn fetch<S: Store>(
     store: &mut S,
     name: &str,
     limit: u32,
-) -> Result<Vec<u8>, FetchFault>
+) -> Result<Vec<u8>, Stopped<FetchFault>>
     requires { limit ≤ 67108864 }
 
     ensures short { IfOk result (λ v. length v.items ≤ limit) }
@@ -88,8 +89,8 @@ pub fn fetch<S: Store>(
     ensures held { S.held store.new ≡ S.held store.old }
 
     // TooLong comes only after more bytes than the limit, also where the store tells nothing.
-    ensures fault { IfErr result (Explains limit (S.held store.old name.now)) }
-    ensures taken { IsErrOf result FetchFault.TooLong
+    ensures fault { IfErr result (OfFault (Explains limit (S.held store.old name.now))) }
+    ensures taken { IsErrOf result (stopped.Fault FetchFault.TooLong)
         → Grew (S.given store.old) (limit + 1) (S.given store.new) }
     ensures gives { S.given store.old ≤ S.given store.new }
 
@@ -102,21 +103,21 @@ pub fn fetch<S: Store>(
     ensures pulls { S.pulls store.new ≤ S.pulls store.old + (limit + 2) }
 {
     let Ok(mut piece) = buffer(alloc, PIECE) else {
-        return Err(FetchFault::Memory);
+        return Err(Stopped::Memory);
     };
     let mut all: Vec<u8> = Vec::new(alloc);
     for _turn in 0..limit + 2 {
         let Ok(count) = store.pull(name, all.len() as u64, piece.as_mut_slice()) else {
-            return Err(FetchFault::Failed);
+            return Err(Stopped::Fault(FetchFault::Failed));
         };
         if count == 0 {
             return Ok(all);
         }
         if count > limit as usize - all.len() {
-            return Err(FetchFault::TooLong);
+            return Err(Stopped::Fault(FetchFault::TooLong));
         }
         let Ok(()) = all.extend_from_slice(&piece[..count]) else {
-            return Err(FetchFault::Memory);
+            return Err(Stopped::Memory);
         };
     }
     unreachable!()

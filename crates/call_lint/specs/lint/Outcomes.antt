@@ -1,5 +1,5 @@
 -- What lint finds, and its exit status.
-use Rattle.std.specs.Prelude.{◌≡◌, ◌⊎◌, ◌≢◌, ℕ, List, [], ◌∷◌, Ok, IsErr, map}
+use Rattle.std.specs.Prelude.{◌≡◌, ◌⊎◌, ℕ, List, [], ◌∷◌, Ok, IsErr, map}
 use Rattle.file_line.specs.{Lines.line_values, LineFiles.line_of}
 use Rattle.file_tables.specs.{script.Values.values_of, script.Scripts.scripts_of}
 use Rattle.file_study.specs.study.Faults.{FaultValues, fault_values}
@@ -8,7 +8,6 @@ use Rattle.file_study.specs.declared.study.study.Study.{Study}
 use Rattle.file_study.specs.sweeps.Studies.{AreScriptsOf, IsStudyRefused}
 use Rattle.file_study.specs.declared.sweeps.group.Group.{Group}
 use Rattle.file_study.specs.declared.sweeps.study_fault.StudySweepFault.{StudySweepFault}
-use Rattle.file_study.specs.declared.sweeps.study_fault.StudySweepFault.TheVariants.{Memory}
 use Rattle.file_study.specs.declared.times.time.Interval.{Interval}
 use Rattle.model_line.specs.{declared.line.Line.Line, declared.script.Script.Script}
 use Rattle.call_lint.specs.declared.warnings.warning.Warning.{Warning}
@@ -45,12 +44,10 @@ IsLinted line scripts outcome =
     ⊎ ((own : Line) × (line_of line ≡ Ok (line_values own))
     × IsScriptsLinted own scripts outcome)
 
--- Of the line of a study and its faults: refused, where they come to no scripts for a reason that is
--- not want of memory, or read.
+-- of the line of a study and its faults: refused, where they come to no scripts, or read
 abbrev pub IsFaultsLinted : Line → List FaultValues → Outcome → Type 0
 IsFaultsLinted line faults outcome =
-    ((why : StudySweepFault) × (why ≢ Memory) × IsStudyRefused line faults why
-    × (outcome ≡ Refused))
+    ((why : StudySweepFault) × IsStudyRefused line faults why × (outcome ≡ Refused))
     ⊎ ((scripts : List Script) × (groups : List Group)
     × AreScriptsOf line faults scripts groups
     × IsReadLinted line scripts outcome)

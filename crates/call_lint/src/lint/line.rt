@@ -10,9 +10,10 @@ use crate::lint::refused_scripts::refused_scripts;
 use crate::lint::sheet::{Names, Sheet};
 use crate::lint::warned::warnings_text;
 use crate::warnings::warnings;
-use file_line::{LineFault, read_line};
-use file_tables::script::{ScriptFault, read_scripts};
-use model_line::{Line, Memory, Script};
+use base_memory::{Memory, Stopped};
+use file_line::read_line;
+use file_tables::script::read_scripts;
+use model_line::{Line, Script};
 use std::alloc::Global;
 
 /// What is suspicious in a line file and its scripts, or where and why one of them is refused.
@@ -26,8 +27,8 @@ pub fn lint_line(
 {
     match read_line(alloc, line) {
         Ok(own) => lint_scripts(alloc, &own, line, scripts, names),
-        Err(LineFault::Memory) => Err(Memory),
-        Err(fault) => Ok(Linted {
+        Err(Stopped::Memory) => Err(Memory),
+        Err(Stopped::Fault(fault)) => Ok(Linted {
             outcome: Outcome::Refused,
             text: refused_line(alloc, line, names.line, &fault)?,
         }),
@@ -52,8 +53,8 @@ fn lint_scripts(
             };
             lint_read(alloc, own, line, &sheet, &read)
         }
-        Err(ScriptFault::Memory) => Err(Memory),
-        Err(fault) => Ok(Linted {
+        Err(Stopped::Memory) => Err(Memory),
+        Err(Stopped::Fault(fault)) => Ok(Linted {
             outcome: Outcome::Refused,
             text: refused_scripts(alloc, scripts, names.scripts, &fault)?,
         }),

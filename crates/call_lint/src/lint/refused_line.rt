@@ -43,6 +43,6 @@ fn path_of(fault: &LineFault) -> &[u8] {
         | LineFault::Range(path)
         | LineFault::BadName(path)
         | LineFault::Twice(path) => path.bytes(),
-        LineFault::NotToml | LineFault::Channels(_, _) | LineFault::Memory => b"",
+        LineFault::NotToml | LineFault::Channels(_, _) => b"",
     }
 }

@@ -60,6 +60,5 @@ pub fn place_of_fault(alloc: Global, bytes: &[u8], i: usize) -> Result<usize, Me
 fn number_of(fault: &StudySweepFault) -> usize {
     match fault {
         StudySweepFault::Refused(i, _, _) | StudySweepFault::Twice(i, _, _) => *i,
-        StudySweepFault::Memory => 0,
     }
 }

@@ -16,7 +16,6 @@ pub fn line_rule(fault: &LineFault) -> &'static str {
         LineFault::BadName(_) => "this is no name that may stand here",
         LineFault::Twice(_) => "this stands before already",
         LineFault::Channels(_, _) => "each ordered pair of terminals needs a channel",
-        LineFault::Memory => "memory ran out",
     }
 }
 
@@ -85,7 +84,6 @@ pub fn script_rule(fault: &ScriptFault) -> &'static str {
         }
         ScriptFault::TooMany => "at most 64 scripts, of at most 200 records each",
         ScriptFault::Empty => "records of scripts follow the header",
-        ScriptFault::Memory => "memory ran out",
     }
 }
 
@@ -105,7 +103,6 @@ pub fn study_rule(fault: &StudyFault) -> &'static str {
         StudyFault::Swept(_) => "only the times of a fault are swept",
         StudyFault::NoInstant(_) => "one time stands here, and no interval",
         StudyFault::TooMany(_) => "a sweep has at most 1000 values, and a fault 4096 scripts",
-        StudyFault::Memory => "memory ran out",
     }
 }
 
@@ -129,7 +126,6 @@ pub fn sweep_rule(fault: &StudySweepFault) -> &'static str {
         StudySweepFault::Twice(_, _, _) => {
             "a script of this fault has the name of one before it: a swept fault has scripts NAME-1, NAME-2 and so on"
         }
-        StudySweepFault::Memory => "memory ran out",
     }
 }
 
@@ -145,6 +141,5 @@ fn fault_rule(fault: &SweepFault) -> &'static str {
         SweepFault::NoFit(_) => {
             "a script has at most 200 spans, of elements and channels that the line has"
         }
-        SweepFault::Memory => "memory ran out",
     }
 }

@@ -10,9 +10,10 @@ use crate::lint::sheet::Sheet;
 use crate::lint::study_times::exact_ends;
 use crate::lint::warned::warnings_text;
 use crate::warnings::warnings;
-use file_study::study::{Study, StudyFault, read_study};
-use file_study::sweeps::{Group, StudySweepFault, scripts_of_study};
-use model_line::{Memory, Script};
+use base_memory::{Memory, Stopped};
+use file_study::study::{Study, read_study};
+use file_study::sweeps::{Group, scripts_of_study};
+use model_line::Script;
 use std::alloc::Global;
 
 /// What is suspicious in a study and the scripts that it comes to, or where and why it is refused.
@@ -21,8 +22,8 @@ pub fn lint_study(alloc: Global, bytes: &[u8], name: &str) -> Result<Linted, Mem
 {
     match read_study(alloc, bytes) {
         Ok(study) => lint_faults(alloc, &study, bytes, name),
-        Err(StudyFault::Memory) => Err(Memory),
-        Err(fault) => Ok(Linted {
+        Err(Stopped::Memory) => Err(Memory),
+        Err(Stopped::Fault(fault)) => Ok(Linted {
             outcome: Outcome::Refused,
             text: refused_study(alloc, bytes, name, &fault)?,
         }),
@@ -43,8 +44,8 @@ fn lint_faults(alloc: Global, study: &Study, bytes: &[u8], name: &str) -> Result
             };
             lint_scripts(alloc, study, bytes, &sheet, &all.scripts)
         }
-        Err(StudySweepFault::Memory) => Err(Memory),
-        Err(fault) => Ok(Linted {
+        Err(Stopped::Memory) => Err(Memory),
+        Err(Stopped::Fault(fault)) => Ok(Linted {
             outcome: Outcome::Refused,
             text: refused_sweep(alloc, bytes, name, &fault)?,
         }),

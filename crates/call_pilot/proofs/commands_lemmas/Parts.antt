@@ -19,8 +19,10 @@ use Rattle.call_answer.specs.Sinks.{SinkView, GrewByAll, WriteStops}
 use Rattle.call_pilot.specs.commands.Verdicts.{verdicts_status}
 use Rattle.call_answer.specs.Answers.{WritesAnswer}
 use Rattle.call_pilot.specs.declared.commands.found.Found.{Found}
-use Rattle.call_answer.specs.{declared.done.Done.Done, declared.put.WriteStop.WriteStop}
-use Rattle.call_answer.specs.declared.put.WriteStop.TheVariants as stop
+use Rattle.call_answer.specs.declared.done.Done.{Done}
+use Rattle.base_text.specs.declared.store.sink.PutFailed.{PutFailed}
+use Rattle.base_memory.specs.declared.stopped.Stopped.{Stopped}
+use Rattle.base_memory.specs.declared.stopped.Stopped.TheVariants as stopped
 use Rattle.call_answer.specs.SinkLaws.{grew_both, grew_none}
 use Rattle.call_pilot.proofs.commands_lemmas.Verdicts.{found_more, found_none}
 use Rattle.call_pilot.proofs.commands_lemmas.Writing.{stops_more, stops_none, stops_then}
@@ -114,7 +116,7 @@ module _ (line : Line) where
   -- a part whose script is not decided for want of memory
   pub part_undecided : (script : Script) (s : SinkView)
       → (claims : Claims) × IsCertified line script claims
-      → WritesPart line script s s (Err stop.Memory)
+      → WritesPart line script s s (Err stopped.Memory)
   part_undecided script s exists = record {
     claims = exists.0;
     certified = exists.1;
@@ -147,7 +149,7 @@ module _ (line : Line) where
         })
 
     -- a part stops: the others are still to come
-    pub parts_stop : (a b c : SinkView) (f : Found) (why : WriteStop)
+    pub parts_stop : (a b c : SinkView) (f : Found) (why : Stopped PutFailed)
         → ((xs : List Script) → All (Fits line) xs
         → (claims : List Claims) × AreCertified line xs claims) → All (Fits line) scripts
         → WritesParts line (take i scripts) a b (Ok f) → WritesPart line script b c (Err why)
@@ -171,7 +173,7 @@ module _ (line : Line) where
         })
 
   -- all parts
-  pub parts_all : (scripts : List Script) (i : ℕ) (a b : SinkView) (r : Result Found WriteStop)
+  pub parts_all : (scripts : List Script) (i : ℕ) (a b : SinkView) (r : Result Found (Stopped PutFailed))
       → length scripts ≤ i → WritesParts line (take i scripts) a b r
       → WritesParts line scripts a b r
   parts_all scripts i a b r le w =
@@ -179,7 +181,7 @@ module _ (line : Line) where
 
   -- a writer of a certificate that stops
   pub certificate_stops : (scripts : List Script) (claims : List Claims) (old new : SinkView)
-      (pieces : List ℕ) (why : WriteStop) → AreCertified line scripts claims
+      (pieces : List ℕ) (why : Stopped PutFailed) → AreCertified line scripts claims
       → certificate_text line scripts claims ≡ pieces → WriteStops old new pieces why
       → WritesAnswer (certify_answer line scripts) old new (Err why)
   certificate_stops scripts claims old new pieces why certified same stops = record {

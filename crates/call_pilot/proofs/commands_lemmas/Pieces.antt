@@ -4,7 +4,9 @@ use Rattle.std.proofs.Common.{refl, sym, ap, ◌∙◌, subst}
 use Rattle.std.proofs.lemmas.List.{append_assoc, append-nil, drop_all, drop_more}
 use Rattle.call_pilot.specs.commands.Play.{Pieces}
 use Rattle.call_answer.specs.{Sinks.SinkView, Sinks.GrewByAll, Sinks.WriteStops}
-use Rattle.call_answer.specs.{declared.put.WriteStop.WriteStop, SinkLaws.grew_both}
+use Rattle.call_answer.specs.SinkLaws.{grew_both}
+use Rattle.base_text.specs.declared.store.sink.PutFailed.{PutFailed}
+use Rattle.base_memory.specs.declared.stopped.Stopped.{Stopped}
 use Rattle.call_answer.specs.SinkLaws.{grew_none}
 use Rattle.call_pilot.proofs.commands_lemmas.Writing.{stops_more, stops_then}
 
@@ -46,7 +48,7 @@ module _ {X : Type 0} (IsPiece : X → List ℕ → Type 0) (xs : List X) where
         grew = grew_both w.grew (grow next.0 next.2);
       }
 
-  pub written_stops : {old now new : SinkView} {text : List ℕ} {why : WriteStop} (i : ℕ) (x : X)
+  pub written_stops : {old now new : SinkView} {text : List ℕ} {why : Stopped PutFailed} (i : ℕ) (x : X)
       → i < length xs → get_or xs i x ≡ x
       → ((piece : List ℕ) → IsPiece x piece → WriteStops now new piece why)
       → Written IsPiece xs old now text i → WriteStops old new text why

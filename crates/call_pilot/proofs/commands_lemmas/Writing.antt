@@ -7,8 +7,9 @@ use Rattle.base_text.specs.store.Sink.{GrewByPart}
 use Rattle.base_text.specs.store.SinkLaws.{appends_both, proper_later, proper_more, take_past}
 use Rattle.call_answer.specs.SinkLaws.{appends_none, grew_both}
 use Rattle.call_answer.specs.Sinks.{SinkView, GrewByAll, WriteStops, Writes}
-use Rattle.call_answer.specs.declared.put.WriteStop.{WriteStop}
-use Rattle.call_answer.specs.declared.put.WriteStop.TheVariants as stop
+use Rattle.base_text.specs.declared.store.sink.PutFailed.{PutFailed}
+use Rattle.base_memory.specs.declared.stopped.Stopped.{Stopped}
+use Rattle.base_memory.specs.declared.stopped.Stopped.TheVariants as stopped
 
 part_none : (a : Option (List ℕ)) (text : List ℕ) → GrewByPart a a text
 part_none a text = record { count = 0; short = omega arith; taken = appends_none a }
@@ -30,32 +31,33 @@ part_later old mid new a b p q = record {
 }
 
 -- memory runs out before anything is written
-pub stops_none : (s : SinkView) (text : List ℕ) → WriteStops s s text stop.Memory
+pub stops_none : (s : SinkView) (text : List ℕ) → WriteStops s s text stopped.Memory
 stops_none s text = record {
-  sink = λ e. cc;
+  sink = λ failed e. cc;
   memory = λ _. (refl, part_none s.written text);
 }
 
 -- a writer that stops, and more that would have followed
-pub stops_more : {old new : SinkView} {a : List ℕ} {why : WriteStop} (b : List ℕ)
+pub stops_more : {old new : SinkView} {a : List ℕ} {why : Stopped PutFailed} (b : List ℕ)
     → WriteStops old new a why → WriteStops old new (a ++ b) why
 stops_more {old} {new} {a} {why} b w = record {
-  sink = λ is. let p = w.sink is in (p.0, proper_more old.written new.written a b p.1);
+  sink = λ failed is.
+      let p = w.sink failed is in (p.0, proper_more old.written new.written a b p.1);
   memory = λ is. let p = w.memory is in (p.0, part_more old.written new.written a b p.1);
 }
 
 -- a writer that stops after a text that is out
-pub stops_then : {old mid new : SinkView} {a b : List ℕ} {why : WriteStop}
+pub stops_then : {old mid new : SinkView} {a b : List ℕ} {why : Stopped PutFailed}
     → GrewByAll old mid a → WriteStops mid new b why → WriteStops old new (a ++ b) why
 stops_then {old} {mid} {new} {a} {b} {why} g w = record {
-  sink = λ is. let p = w.sink is in
+  sink = λ failed is. let p = w.sink failed is in
       (rw g.same at p.0, proper_later old.written mid.written new.written a b g.taken p.1);
   memory = λ is. let p = w.memory is in
       (p.0 ∙ g.same, part_later old.written mid.written new.written a b g.taken p.1);
 }
 
 -- a writer after a text that is out
-pub writes_then : {X : Type 0} (old mid new : SinkView) (a b : List ℕ) (r : Result X WriteStop)
+pub writes_then : {X : Type 0} (old mid new : SinkView) (a b : List ℕ) (r : Result X (Stopped PutFailed))
     → GrewByAll old mid a → Writes mid new b r → Writes old new (a ++ b) r
 writes_then old mid new a b (Ok x) g w = grew_both g w
 writes_then old mid new a b (Err e) g w = stops_then g w

@@ -247,17 +247,17 @@ module _ (lines : LineLaws) (timings : TimingsInsideAreChoicesInside) (line : Li
   -- ---- verdicts
 
   abbrev HasFault : ℕ → (ℕ → Rails) → Verdict → Type 0
-  HasFault k trip v = (f : ClaimFault) × (f ≢ wrong.Memory) × IsFaultOf line script k trip v f
+  HasFault k trip v = (f : ClaimFault) × IsFaultOf line script k trip v f
 
   verdict_told : (k : ℕ) → k < terminal_count line → (trip : ℕ → Rails) (v : Verdict)
       → HasNumbers line v → IsSupported line script k trip v ⊎ HasFault k trip v
   verdict_told k there trip yes numbers = elim (rule_told (rule_of line script trip)) [
     | inl held ↦ inl held
-    | inr not_held ↦ inr (wrong.NotHeld k, λ e. cc, (refl, not_held))
+    | inr not_held ↦ inr (wrong.NotHeld k, (refl, not_held))
   ]
   verdict_told k there trip (no values) numbers = elim (no_told k there values numbers) [
     | inl refuted ↦ inl refuted
-    | inr found ↦ inr (wrong.No k found.0, λ e. cc, (refl, found.1))
+    | inr found ↦ inr (wrong.No k found.0, (refl, found.1))
   ]
   verdict_told k there trip undecided numbers = inl tt
 
@@ -291,18 +291,17 @@ module _ (lines : LineLaws) (timings : TimingsInsideAreChoicesInside) (line : Li
         ]
 
     verdicts_told : AreSupported line script claims vs
-        ⊎ ((f : ClaimFault) × (f ≢ wrong.Memory) × IsVerdictFault line script claims vs f)
+        ⊎ ((f : ClaimFault) × IsVerdictFault line script claims vs f)
     verdicts_told = elim (first_of Stands' Fails' (length vs) place_told) [
       | inl every ↦ inl (λ k v at. every k (slice_get_within vs k v at) v at)
       | inr first ↦ inr (
         first.2.2.0,
-        first.2.2.1,
         record {
           place = first.0;
           item = first.2.0;
           is = first.2.1;
           before = λ j v lt at. first.3 j lt v at;
-          wrong = first.2.2.2;
+          wrong = first.2.2.1;
         },
       )
     ]
@@ -314,40 +313,37 @@ module _ (lines : LineLaws) (timings : TimingsInsideAreChoicesInside) (line : Li
   first_fault said (wrong.NotCovered u) covered is = absurd is.wrong
   first_fault said (wrong.NotHeld k) covered is = record { covered = covered; verdict = is }
   first_fault said (wrong.No k f) covered is = record { covered = covered; verdict = is }
-  first_fault said wrong.Memory covered is = tt
 
   pub claims_told : (said : Claims) → HasOneEach line said → All (HasNumbers line) said.verdicts
       → AreAccepted line script said
-      ⊎ ((f : ClaimFault) × (f ≢ wrong.Memory) × IsFirstFault line script said f)
+      ⊎ ((f : ClaimFault) × IsFirstFault line script said f)
   claims_told said whole numbers = elim (keys_told said.keys) [
-    | inr first ↦ inr (wrong.NotCovered first.0, λ e. cc, first.1)
+    | inr first ↦ inr (wrong.NotCovered first.0, first.1)
     | inl covered ↦
         elim (verdicts_told (pairs_of said.keys) said.verdicts whole.verdicts numbers) [
           | inl supported ↦ inl (record { covered = covered; supported = supported })
-          | inr found ↦ inr (found.0, found.1, first_fault said found.0 covered found.2)
+          | inr found ↦ inr (found.0, first_fault said found.0 covered found.1)
         ]
   ]
 
 -- ---- the whole
 
 check_fault : (line : Line) (scripts : List Script) (bytes : List ℕ) (i : ℕ) (f : ClaimFault)
-    → f ≢ wrong.Memory → IsScriptFault line scripts bytes i f
-    → (why : CheckFault) × ((why ≢ fault.Memory) × IsCheckFault line scripts bytes why)
-check_fault line scripts bytes i (wrong.NotCovered u) known is =
-    (fault.NotCovered i u.terminal u.tick u.claimed u.derived, (λ e. cc, is))
-check_fault line scripts bytes i (wrong.NotHeld k) known is = (fault.NotHeld i k, (λ e. cc, is))
-check_fault line scripts bytes i (wrong.No k (number.Outside p value)) known is =
-    (fault.Outside i k p value, (λ e. cc, is))
-check_fault line scripts bytes i (wrong.No k (number.Passes t)) known is =
-    (fault.Passes i k t, (λ e. cc, is))
-check_fault line scripts bytes i wrong.Memory known is = absurd (known refl)
+    → IsScriptFault line scripts bytes i f → (why : CheckFault) × IsCheckFault line scripts bytes why
+check_fault line scripts bytes i (wrong.NotCovered u) is =
+    (fault.NotCovered i u.terminal u.tick u.claimed u.derived, is)
+check_fault line scripts bytes i (wrong.NotHeld k) is = (fault.NotHeld i k, is)
+check_fault line scripts bytes i (wrong.No k (number.Outside p value)) is =
+    (fault.Outside i k p value, is)
+check_fault line scripts bytes i (wrong.No k (number.Passes t)) is =
+    (fault.Passes i k t, is)
 
 module _ (lines : LineLaws) (timings : TimingsInsideAreChoicesInside)
     (written : (line : Line) (scripts : List Script) (claims : List Claims) (bytes : List ℕ)
     → IsCertificate line scripts claims bytes → All (CanBeWritten line) claims)
     (line : Line) (scripts : List Script) (fit : All (Fits line) scripts) (bytes : List ℕ) where
   abbrev FaultOf : CheckFault → Type 0
-  FaultOf why = (why ≢ fault.Memory) × IsCheckFault line scripts bytes why
+  FaultOf why = IsCheckFault line scripts bytes why
 
   can_at : (claims : List Claims) (i : ℕ) (said : Claims) → All (CanBeWritten line) claims
       → slice_get claims i ≡ Some said → CanBeWritten line said
@@ -368,7 +364,6 @@ module _ (lines : LineLaws) (timings : TimingsInsideAreChoicesInside)
       script_is : slice_get scripts i ≡ Some script
       said_is : slice_get claims i ≡ Some said
       why : ClaimFault
-      known : why ≢ wrong.Memory
       first : IsFirstFault line script said why
 
     script_told : (i : ℕ) → i < length scripts → Good' i ⊎ Wrong' i
@@ -389,8 +384,7 @@ module _ (lines : LineLaws) (timings : TimingsInsideAreChoicesInside)
             script_is = at;
             said_is = at_said;
             why = found.0;
-            known = found.1;
-            first = found.2;
+            first = found.1;
           })
         ]
 
@@ -406,7 +400,7 @@ module _ (lines : LineLaws) (timings : TimingsInsideAreChoicesInside)
           counted = are_counts (all_verdicts claims);
         },
       )
-      | inr first ↦ inr (check_fault line scripts bytes first.0 first.2.why first.2.known (record {
+      | inr first ↦ inr (check_fault line scripts bytes first.0 first.2.why (record {
         claims = claims;
         is = is;
         script = first.2.script;
@@ -422,7 +416,7 @@ module _ (lines : LineLaws) (timings : TimingsInsideAreChoicesInside)
       ⊎ ((why : CheckFault) × FaultOf why)
   each_certificate = elim (each_text line scripts bytes) [
     | inl said ↦ scripts_told said.0 said.1
-    | inr leaves ↦ inr (fault.Line leaves.0, (λ e. cc, leaves.1))
+    | inr leaves ↦ inr (fault.Line leaves.0, leaves.1)
   ]
 
   pub each_check : (s : Done) × (text : List ℕ) × check_answer line scripts bytes s text
@@ -441,8 +435,7 @@ module _ (lines : LineLaws) (timings : TimingsInsideAreChoicesInside)
       concat (rejected_pieces line scripts found.0),
       record {
         why = found.0;
-        first = found.1.1;
-        known = found.1.0;
+        first = found.1;
         text_is = refl;
       },
     )

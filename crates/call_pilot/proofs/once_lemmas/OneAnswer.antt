@@ -51,12 +51,12 @@ good_once {Said} Says IsGood verdicts scripts one x y p q =
     ∙ sym q.counted.undecided)
 
 module _ {Fault : Type 0} (accepted : Counts → Type 0) (is_fault : Fault → Type 0)
-    (memory : Fault) (pieces : Fault → List (List ℕ))
+    (pieces : Fault → List (List ℕ))
     (counts_once : (x y : Counts) → accepted x → accepted y → x ≡ y)
-    (refuses : (x : Counts) (f : Fault) → f ≢ memory → is_fault f → accepted x → ⊥)
-    (fault_once : (f g : Fault) → f ≢ memory → g ≢ memory → is_fault f → is_fault g → f ≡ g) where
+    (refuses : (x : Counts) (f : Fault) → is_fault f → accepted x → ⊥)
+    (fault_once : (f g : Fault) → is_fault f → is_fault g → f ≡ g) where
   abbrev Answer : Done → List ℕ → Type 0
-  Answer s text = IsCheckedText accepted is_fault memory pieces s text
+  Answer s text = IsCheckedText accepted is_fault pieces s text
 
   pub checked_once : (s t : Done) (a b : List ℕ) → Answer s a → Answer t b → (s ≡ t) × (a ≡ b)
   checked_once done.Good done.Good a b p q = (
@@ -67,16 +67,16 @@ module _ {Fault : Type 0} (accepted : Counts → Type 0) (is_fault : Fault → T
         ∙ sym q.text_is,
   )
   checked_once done.Good done.Rejected a b p q =
-      absurd (refuses p.counts q.why q.known q.first p.accepted)
+      absurd (refuses p.counts q.why q.first p.accepted)
   checked_once done.Good done.SomeNo a b p q = absurd q
   checked_once done.Good done.SomeUndecided a b p q = absurd q
   checked_once done.Rejected done.Good a b p q =
-      absurd (refuses q.counts p.why p.known p.first q.accepted)
+      absurd (refuses q.counts p.why p.first q.accepted)
   checked_once done.Rejected done.Rejected a b p q = (
     refl,
     p.text_is
         ∙ ap (λ (f : Fault). concat (pieces f))
-        (fault_once p.why q.why p.known q.known p.first q.first)
+        (fault_once p.why q.why p.first q.first)
         ∙ sym q.text_is,
   )
   checked_once done.Rejected done.SomeNo a b p q = absurd q

@@ -128,7 +128,6 @@ module _ (counts : CountsRestOnNoInterval) (histories : HistoriesRestOnNoInterva
   first_on (fault.Outside i k p value) is =
       script_fault_on i (wrong.No k (of_no.Outside p value)) is
   first_on (fault.Passes i k t) is = script_fault_on i (wrong.No k (of_no.Passes t)) is
-  first_on fault.Memory is = tt
 
   pieces_same : (f : CheckFault) → rejected_pieces b ys f ≡ rejected_pieces a xs f
   pieces_same (fault.Line n) = refl
@@ -144,7 +143,6 @@ module _ (counts : CountsRestOnNoInterval) (histories : HistoriesRestOnNoInterva
   pieces_same (fault.Outside i k p value) =
       outside_same a b lines xs ys scripts i k p value
   pieces_same (fault.Passes i k t) = passes_same a b lines xs ys scripts i k t
-  pieces_same fault.Memory = refl
 
   pub check_on : (d : Done) (text : List ℕ) → check_answer a xs bytes d text
       → check_answer b ys bytes d text
@@ -156,7 +154,6 @@ module _ (counts : CountsRestOnNoInterval) (histories : HistoriesRestOnNoInterva
   check_on done.Rejected text is = record {
     why = is.why;
     first = first_on is.why is.first;
-    known = is.known;
     text_is = is.text_is ∙ sym (ap (λ (l : List (List ℕ)). concat l) (pieces_same is.why));
   }
   check_on done.SomeNo text is = absurd is

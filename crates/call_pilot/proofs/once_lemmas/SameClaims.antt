@@ -16,7 +16,7 @@ use Rattle.cert_claims.specs.text.Grammar.{Claims, Verdict, no, undecided, yes}
 use Rattle.run_waves.specs.derived.Claims.{pairs_of}
 use Rattle.cert_claims.specs.declared.check.claim.Uncovered.{Uncovered}
 use Rattle.cert_claims.specs.declared.check.claim.ClaimFault.{ClaimFault}
-use Rattle.cert_claims.specs.declared.check.claim.ClaimFault.TheVariants.{Memory, No, NotCovered}
+use Rattle.cert_claims.specs.declared.check.claim.ClaimFault.TheVariants.{No, NotCovered}
 use Rattle.cert_claims.specs.declared.check.claim.ClaimFault.TheVariants.{NotHeld}
 use Rattle.cert_claims.specs.check.Verdicts.{AreAccepted, IsCovered, IsFaultOf, IsFirstFault}
 use Rattle.cert_claims.specs.check.Verdicts.{IsFirstUncovered, IsFirstVerdictFault, IsKeyCovered}
@@ -86,7 +86,6 @@ module _ (counts : CountsRestOnNoInterval) (histories : HistoriesRestOnNoInterva
   fault_of_on k verdict (NotCovered u) is = absurd is
   fault_of_on k verdict (NotHeld j) is = (is.0, not_held_on k verdict is.1)
   fault_of_on k verdict (No j fault) is = (is.0, wrong_no_on k verdict fault is.1)
-  fault_of_on k verdict Memory is = tt
 
 -- ---- the claims of a script
 
@@ -151,4 +150,3 @@ module _ (counts : CountsRestOnNoInterval) (histories : HistoriesRestOnNoInterva
   fault_on (NotCovered u) is = uncovered_on u is
   fault_on (NotHeld k) is = verdict_fault_on (NotHeld k) is
   fault_on (No k fault) is = verdict_fault_on (No k fault) is
-  fault_on Memory is = tt

@@ -13,7 +13,8 @@ use Rattle.file_tables.specs.script.Values.{ScriptValues, values_of}
 use Rattle.base_text.specs.lines.Grammar.{text_places, text_said}
 use Rattle.base_text.specs.lines.Lines.{LeavesAt, Lines}
 use Rattle.cert_claims.specs.text.Grammar.{AreNumbers, end_text, script_text, terminal_names}
-use Rattle.judge_split.specs.Leaves.{Splits, lower_half, upper_half}
+use Rattle.judge_split.specs.Leaves.{Splits}
+use Rattle.model_logic.specs.Boxes.{lower_half, upper_half}
 use Rattle.judge_split.specs.Trees.{Split, SplitTree, Undecided, Yes}
 use Rattle.judge_split.specs.declared.node.Node.{Node}
 use Rattle.judge_split.specs.declared.node.Node.TheVariants as node
@@ -194,7 +195,6 @@ module _ (counts : CountsRestOnNoInterval) (histories : HistoriesRestOnNoInterva
   first_on (fault.Outside i k p value) is =
       script_fault_on i (wrong.No k (of_no.Outside p value)) is
   first_on (fault.Passes i k t) is = script_fault_on i (wrong.No k (of_no.Passes t)) is
-  first_on fault.Memory is = tt
 
   pieces_same : (f : SplitFault) → rejected_pieces b ys f ≡ rejected_pieces a xs f
   pieces_same (fault.Line n) = refl
@@ -205,7 +205,6 @@ module _ (counts : CountsRestOnNoInterval) (histories : HistoriesRestOnNoInterva
   pieces_same (fault.Outside i k p value) =
       outside_same a b lines xs ys scripts i k p value
   pieces_same (fault.Passes i k t) = passes_same a b lines xs ys scripts i k t
-  pieces_same fault.Memory = refl
 
   pub recheck_on : (d : Done) (text : List ℕ) → recheck_answer a xs bytes d text
       → recheck_answer b ys bytes d text
@@ -217,7 +216,6 @@ module _ (counts : CountsRestOnNoInterval) (histories : HistoriesRestOnNoInterva
   recheck_on done.Rejected text is = record {
     why = is.why;
     first = first_on is.why is.first;
-    known = is.known;
     text_is = is.text_is ∙ sym (ap (λ (l : List (List ℕ)). concat l) (pieces_same is.why));
   }
   recheck_on done.SomeNo text is = absurd is

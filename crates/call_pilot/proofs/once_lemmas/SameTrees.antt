@@ -9,15 +9,15 @@ use Rattle.model_logic.specs.Choice.{Box, declared_box}
 use Rattle.model_logic.specs.IntervalLaws.{HistoriesRestOnNoInterval}
 use Rattle.file_line.specs.Lines.{line_values}
 use Rattle.file_tables.specs.script.Values.{values_of}
-use Rattle.judge_split.specs.Leaves.{AreSound, CanSplit, leaves}
-use Rattle.judge_split.specs.Leaves.{lower_half, upper_half}
+use Rattle.judge_split.specs.Leaves.{IsSoundSplit, leaves}
+use Rattle.model_logic.specs.Boxes.{CanSplit, lower_half, upper_half}
 use Rattle.judge_split.specs.Trees.{Split, SplitTree, Undecided, Yes}
 use Rattle.judge_split.specs.declared.node.Node.{Node}
 use Rattle.cert_split.specs.text.Grammar.{SplitResult, fails, tree}
 use Rattle.cert_split.specs.check.FirstLeaf.{IsFirstNotHeld, IsTreeHeld, IsTreeNotHeld}
 use Rattle.cert_split.specs.check.Results.{AreSupported, IsFaultOf, IsFirstFault, IsSupported}
 use Rattle.cert_split.specs.declared.check.fault.ResultFault.{ResultFault}
-use Rattle.cert_split.specs.declared.check.fault.ResultFault.TheVariants.{Memory, No, NotHeld}
+use Rattle.cert_split.specs.declared.check.fault.ResultFault.TheVariants.{No, NotHeld}
 use Rattle.call_pilot.specs.top.SameFactLaws.{box_same, refuted_by}
 use Rattle.call_pilot.proofs.{once_lemmas.SameFaults.no_fault_on}
 use Rattle.call_pilot.specs.{top.SameHeldLaws.held_over}
@@ -35,7 +35,7 @@ module _ (counts : CountsRestOnNoInterval) (a b : Line) (others : SameButParams 
 module _ (counts : CountsRestOnNoInterval) (histories : HistoriesRestOnNoInterval) (a b : Line)
     (lines : line_values b ≡ line_values a) (s r : Script) (values : values_of r ≡ values_of s)
     (k : ℕ) where
-  sound_on : (box : Box) (all : SplitTree) → AreSound a s k box all → AreSound b r k box all
+  sound_on : (box : Box) (all : SplitTree) → IsSoundSplit a s k box all → IsSoundSplit b r k box all
   sound_on box Yes is = held_over counts histories a b lines s r values k box is
   sound_on box Undecided is = tt
   sound_on box (Split param mid first second) is = (
@@ -50,7 +50,7 @@ module _ (counts : CountsRestOnNoInterval) (histories : HistoriesRestOnNoInterva
   held_on nodes is = record {
     tree = is.tree;
     are = is.are;
-    sound = subst (λ (box : Box). AreSound b r k box is.tree)
+    sound = subst (λ (box : Box). IsSoundSplit b r k box is.tree)
         (sym (box_same counts histories a b lines)) (sound_on (declared_box a) is.tree is.sound);
   }
 
@@ -83,11 +83,9 @@ module _ (counts : CountsRestOnNoInterval) (histories : HistoriesRestOnNoInterva
       → IsFaultOf b r k result fault
   fault_of_on (tree nodes) (NotHeld j n) is = (is.0, not_held_on nodes n is.1)
   fault_of_on (tree nodes) (No j fault) is = absurd is
-  fault_of_on (tree nodes) Memory is = tt
   fault_of_on (fails numbers) (NotHeld j n) is = absurd is
   fault_of_on (fails numbers) (No j fault) is =
       (is.0, no_fault_on counts histories a b lines s r values k numbers fault is.1)
-  fault_of_on (fails numbers) Memory is = tt
 
 module _ (counts : CountsRestOnNoInterval) (histories : HistoriesRestOnNoInterval) (a b : Line)
     (lines : line_values b ≡ line_values a) (s r : Script) (values : values_of r ≡ values_of s)

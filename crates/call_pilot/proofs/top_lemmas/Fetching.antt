@@ -6,7 +6,7 @@ use Rattle.base_text.specs.store.Store.{SameCounts}
 use Rattle.call_answer.specs.Sinks.{SinkView}
 use Rattle.call_files.specs.Files.{contents, in_front, limit_of, AllTold, NamedFile, StoreCause}
 use Rattle.call_files.specs.declared.stop.File.{File}
-use Rattle.call_pilot.specs.{top.CallAnswers.CallAnswers, top.Ends.Works, top.Ends.Ends}
+use Rattle.call_pilot.specs.{top.CallAnswers.CallAnswers, top.Ends.Works, top.Ends.EndsOverFiles}
 use Rattle.call_files.specs.{declared.stop.Status.Status, declared.stop.Stop.Stop}
 use Rattle.call_files.specs.declared.stop.Stop.TheVariants as stop
 
@@ -73,7 +73,7 @@ module _ {K : Type 0} (view : K → SinkView) (next : Result (List (List ℕ)) F
   -- a work with no file to fetch
   pub ends_of_works : (c1 c2 : List ℕ → ℕ) (r : Result Status Stop)
       → SameCounts c1 c2 → Works view (next (Ok [])) old new r
-      → Ends view next files [] c1 c2 old new r
+      → EndsOverFiles view next files [] c1 c2 old new r
   ends_of_works c1 c2 (Ok s) same w = (same, at_end (Ok s) w)
   ends_of_works c1 c2 (Err stop.Usage) same w = absurd w
   ends_of_works c1 c2 (Err (stop.Refused why)) same w =
@@ -105,8 +105,8 @@ module _ {K : Type 0} (view : K → SinkView) (next : Result (List (List ℕ)) F
 
   -- a call whose first file was fetched
   pub ends_next : (c1 c2 c3 : List ℕ → ℕ) (r : Result Status Stop) → SameCounts c1 c2
-      → Ends view (λ x. next (in_front v x)) files rest c2 c3 old new r
-      → Ends view next files (a ∷ rest) c1 c3 old new r
+      → EndsOverFiles view (λ x. next (in_front v x)) files rest c2 c3 old new r
+      → EndsOverFiles view next files (a ∷ rest) c1 c3 old new r
   ends_next c1 c2 c3 (Ok s) same e = (same_both c1 c2 c3 same e.0, go_on (Ok s) e.1)
   ends_next c1 c2 c3 (Err stop.Usage) same e = absurd e.1
   ends_next c1 c2 c3 (Err (stop.Refused why)) same e =
@@ -133,7 +133,7 @@ module _ {K : Type 0} (view : K → SinkView) (files : List ℕ → Option (List
   pub ends_of_one : (next : Result (List (List ℕ)) File → CallAnswers) (a : NamedFile) (v : List ℕ)
       → IsFetched files a v → (c1 c2 : List ℕ → ℕ) (r : Result Status Stop) → SameCounts c1 c2
       → Works view (next (Ok (v ∷ []))) old new r
-      → Ends view next files (a ∷ []) c1 c2 old new r
+      → EndsOverFiles view next files (a ∷ []) c1 c2 old new r
   ends_of_one next a v f c1 c2 r same w =
       ends_next view next files old new a [] v f.short f.is c1 c2 c2 r same
       (ends_of_works view (λ x. next (in_front v x)) files old new c2 c2 r (λ name. refl) w)
@@ -143,7 +143,7 @@ module _ {K : Type 0} (view : K → SinkView) (files : List ℕ → Option (List
       (v w : List ℕ) → IsFetched files a v → IsFetched files b w
       → (c1 c2 c3 : List ℕ → ℕ) (r : Result Status Stop) → SameCounts c1 c2 → SameCounts c2 c3
       → Works view (next (Ok (v ∷ w ∷ []))) old new r
-      → Ends view next files (a ∷ b ∷ []) c1 c3 old new r
+      → EndsOverFiles view next files (a ∷ b ∷ []) c1 c3 old new r
   ends_of_two next a b v w f g c1 c2 c3 r same_a same_b work =
       ends_next view next files old new a (b ∷ []) v f.short f.is c1 c2 c3 r same_a
       (ends_of_one (λ x. next (in_front v x)) b w g c2 c3 r same_b work)
@@ -154,7 +154,7 @@ module _ {K : Type 0} (view : K → SinkView) (files : List ℕ → Option (List
       → (c1 c2 c3 c4 : List ℕ → ℕ) (r : Result Status Stop) → SameCounts c1 c2
       → SameCounts c2 c3 → SameCounts c3 c4
       → Works view (next (Ok (v ∷ w ∷ u ∷ []))) old new r
-      → Ends view next files (a ∷ b ∷ d ∷ []) c1 c4 old new r
+      → EndsOverFiles view next files (a ∷ b ∷ d ∷ []) c1 c4 old new r
   ends_of_three next a b d v w u f g h c1 c2 c3 c4 r same_a same_b same_d work =
       ends_next view next files old new a (b ∷ d ∷ []) v f.short f.is c1 c2 c4 r same_a
       (ends_of_two (λ x. next (in_front v x)) b d w u g h c2 c3 c4 r same_b same_d work)

@@ -9,12 +9,10 @@ use Rattle.model_line.specs.{Parameters.terminal_count, declared.line.Line.Line}
 use Rattle.model_line.specs.{declared.script.Script.Script, Fits.Fits}
 use Rattle.cert_claims.specs.check.Check.{IsCheckFault}
 use Rattle.model_history.specs.ZipLaws.{zip_each}
-use Rattle.cert_claims.specs.declared.check.fault.CheckFault.TheVariants as check_fault
 use Rattle.judge_report.specs.Answer.{IsMarginAnswer}
 use Rattle.judge_report.specs.Margin.{HasNoMargin, IsLostAbove, IsLostAtLeast, IsMargin}
 use Rattle.cert_split.specs.{text.Piece.written_as, text.Text.split_text}
 use Rattle.cert_split.specs.check.Check as split_check
-use Rattle.cert_split.specs.declared.check.fault.SplitFault.TheVariants as split_fault
 use Rattle.cert_own.specs.Searched.{AreSearched}
 use Rattle.call_pilot.specs.{commands.Margin.IsMarginText, commands.Margin.margin_answer}
 use Rattle.call_engine.specs.Checked.{IsCheckedText}
@@ -203,13 +201,13 @@ module _ (files : List ℕ → Option (List ℕ))
 
   -- where a check is good, it has accepted
   counts_of : {X Fault : Type 0} (accepted : Counts → Type 0) (fault : Fault → Type 0)
-      (memory : Fault) (pieces : Fault → List (List ℕ)) (d : Done)
-      → status.Good ≡ status_of_done d → IsCheckedText accepted fault memory pieces d text
+      (pieces : Fault → List (List ℕ)) (d : Done)
+      → status.Good ≡ status_of_done d → IsCheckedText accepted fault pieces d text
       → ((counts : Counts) → accepted counts → X) → X
-  counts_of accepted fault memory pieces done.Good same is then = then is.counts is.accepted
-  counts_of accepted fault memory pieces done.SomeNo same is then = absurd (cc)
-  counts_of accepted fault memory pieces done.SomeUndecided same is then = absurd (cc)
-  counts_of accepted fault memory pieces done.Rejected same is then = absurd (cc)
+  counts_of accepted fault pieces done.Good same is then = then is.counts is.accepted
+  counts_of accepted fault pieces done.SomeNo same is then = absurd (cc)
+  counts_of accepted fault pieces done.SomeUndecided same is then = absurd (cc)
+  counts_of accepted fault pieces done.Rejected same is then = absurd (cc)
 
   check_said : {X : Type 0}
       → ((of : Line) (all : List Script) → line_of line_bytes ≡ Ok (line_values of)
@@ -220,7 +218,7 @@ module _ (files : List ℕ → Option (List ℕ))
   check_said {X} then is =
       three_said three.Check
       (λ of all line_is scripts_are fit done.
-      counts_of (IsAccepted of all cert_bytes) (IsCheckFault of all cert_bytes) check_fault.Memory
+      counts_of (IsAccepted of all cert_bytes) (IsCheckFault of all cert_bytes)
       (check.rejected_pieces of all) done.0 done.1 done.2
       (λ counts accepted. then of all line_is scripts_are fit counts accepted))
       is
@@ -235,7 +233,7 @@ module _ (files : List ℕ → Option (List ℕ))
       three_said three.Recheck
       (λ of all line_is scripts_are fit done.
       counts_of (split_check.IsAccepted of all cert_bytes)
-      (split_check.IsSplitFault of all cert_bytes) split_fault.Memory
+      (split_check.IsSplitFault of all cert_bytes)
       (recheck.rejected_pieces of all) done.0 done.1 done.2
       (λ counts accepted. then of all line_is scripts_are fit counts accepted))
       is

@@ -8,7 +8,6 @@ use Rattle.cert_split.specs.{text.Grammar.SplitResult, text.Text.split_text}
 use Rattle.cert_split.specs.check.Check.{IsAccepted, IsSplitFault}
 use Rattle.cert_split.specs.check.Counts.{CountResults, all_verdicts}
 use Rattle.cert_split.specs.declared.check.fault.SplitFault.{SplitFault}
-use Rattle.cert_split.specs.declared.check.fault.SplitFault.TheVariants as fault
 use Rattle.cert_own.specs.Searched.{AllSearched}
 use Rattle.call_pilot.specs.{commands.Recheck.recheck_answer, commands.Split.split_answer}
 use Rattle.call_engine.specs.Checked.{accepted_pieces}
@@ -26,7 +25,7 @@ module _
     → IsAccepted line scripts (split_text line scripts parts) counts → CountResults parts counts)
     (no_fault : (line : Line) (n : ℕ) (scripts : List Script) (parts : List (List SplitResult))
     (f : SplitFault) → All (Fits line) scripts → n ≤ 8 → AllSearched line n scripts parts
-    → IsSplitFault line scripts (split_text line scripts parts) f → f ≡ fault.Memory)
+    → ¬ (IsSplitFault line scripts (split_text line scripts parts) f))
     (line : Line) (scripts : List Script) (n : ℕ) (d : Done) (text : List ℕ)
     (is : split_answer line scripts n d text) (few : n ≤ 8) (fit : All (Fits line) scripts) where
   pub accepted_trees : recheck_answer line scripts text done.Good
@@ -54,7 +53,7 @@ module _
   only_line done.SomeNo answer said = absurd said
   only_line done.SomeUndecided answer said = absurd said
   only_line done.Rejected answer said =
-      absurd (said.known (no_fault line n scripts is.parts said.why fit few is.searched said.first))
+      absurd (no_fault line n scripts is.parts said.why fit few is.searched said.first)
 
   pub accepted_only : (other : Done) (answer : List ℕ)
       → recheck_answer line scripts text other answer

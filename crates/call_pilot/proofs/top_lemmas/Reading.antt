@@ -5,25 +5,22 @@ use Rattle.std.specs.Prelude.{⊤}
 use Rattle.std.specs.List.{All}
 use Rattle.model_line.specs.{declared.line.Line.Line, declared.script.Script.Script}
 use Rattle.file_line.specs.{LineFiles.line_of, Lines.LineValues, Lines.line_values}
-use Rattle.file_line.specs.Reading as line_reading
+use Rattle.base_memory.specs.Gives.{Fails}
+use Rattle.base_memory.specs.declared.stopped.Stopped.{Stopped}
+use Rattle.base_memory.specs.declared.stopped.Stopped.TheVariants as stopped
 use Rattle.file_line.specs.declared.fault.LineFault.{LineFault}
-use Rattle.file_line.specs.declared.fault.LineFault.TheVariants as line_fault
 use Rattle.file_tables.specs.script.Scripts.{scripts_of}
 use Rattle.file_tables.specs.{script.Values.ScriptValues, declared.script.fault.ScriptFault.ScriptFault}
-use Rattle.file_tables.specs.timing.Gives as timing_reading
 use Rattle.call_engine.specs.Calls.{Calls}
 use Rattle.model_timing.specs.Inside.{IsTimingInside}
 use Rattle.model_timing.specs.NamedValues.{NamedValues}
 use Rattle.file_tables.specs.declared.timing.fault.TimingFault.{TimingFault}
-use Rattle.file_tables.specs.declared.timing.fault.TimingFault.TheVariants as timing_fault
-use Rattle.judge_match.specs.matching.Gives as record_reading
 use Rattle.judge_match.specs.{matching.Waves.SeenValues, declared.matching.fault.SeenFault.SeenFault}
-use Rattle.judge_match.specs.declared.matching.fault.SeenFault.TheVariants as seen_fault
 use Rattle.call_pilot.specs.top.CallAnswers.{CallAnswers, refuses}
 use Rattle.call_files.specs.Said.{of_line, of_parameter, of_record, of_scripts, of_study}
 use Rattle.call_files.specs.Said.{of_timings}
 use Rattle.call_pilot.specs.top.Reading.{work_of_one}
-use Rattle.call_files.specs.Stops.{line_stop, record_stop, timing_stop}
+use Rattle.call_files.specs.Stops.{stop_by}
 use Rattle.call_files.specs.Study.{IsSaid, ReadsStudy}
 use Rattle.call_pilot.specs.{top.Commands.asks, top.Ends.Works}
 use Rattle.call_files.specs.declared.refusal.Refusal.{Refusal}
@@ -126,18 +123,11 @@ module _ {K : Type 0} (view : K → SinkView) where
 
   -- a line file that is refused, by a command over it alone
   pub line_stops : (said : Result LineValues LineFault) (next : Line → CallAnswers) (s : K)
-      (e : LineFault) → line_reading.Fails e said
+      (why : Stopped LineFault) → Fails why said
       → Works view (λ t text message. of_line said (λ why. refuses why t text message)
-      (λ l. next l t text message)) s s (Err (line_stop e))
-  line_stops said next s line_fault.NotToml f = rw f ((refl, refl, refl), refl)
-  line_stops said next s (line_fault.Unknown p) f = rw f ((refl, refl, refl), refl)
-  line_stops said next s (line_fault.Missing p) f = rw f ((refl, refl, refl), refl)
-  line_stops said next s (line_fault.WrongKind p) f = rw f ((refl, refl, refl), refl)
-  line_stops said next s (line_fault.Range p) f = rw f ((refl, refl, refl), refl)
-  line_stops said next s (line_fault.BadName p) f = rw f ((refl, refl, refl), refl)
-  line_stops said next s (line_fault.Twice p) f = rw f ((refl, refl, refl), refl)
-  line_stops said next s (line_fault.Channels a b) f = rw f ((refl, refl, refl), refl)
-  line_stops said next s line_fault.Memory f = no_memory _ s
+      (λ l. next l t text message)) s s (Err (stop_by refusal.Line why))
+  line_stops said next s (stopped.Fault fault) f = rw f ((refl, refl, refl), refl)
+  line_stops said next s stopped.Memory f = no_memory _ s
 
   -- a work over the line that was read
   pub works_of_line : (said : Result LineValues LineFault) (next : Line → CallAnswers) (l : Line)
@@ -182,19 +172,11 @@ module _ {K : Type 0} (view : K → SinkView) where
 
   -- a timings file that is refused
   pub timings_stop : (l : Line) (said : Result (List NamedValues) TimingFault)
-      (next : List NamedValues → CallAnswers) (s : K) (e : TimingFault) → timing_reading.Fails e said
+      (next : List NamedValues → CallAnswers) (s : K) (why : Stopped TimingFault) → Fails why said
       → Works view (λ t text message. of_timings l said (λ why. refuses why t text message)
-      (λ timings. next timings t text message)) s s (Err (timing_stop e))
-  timings_stop l said next s timing_fault.Header f = rw f ((refl, refl, refl), refl)
-  timings_stop l said next s (timing_fault.Fields n) f = rw f ((refl, refl, refl), refl)
-  timings_stop l said next s (timing_fault.Parameter n) f = rw f ((refl, refl, refl), refl)
-  timings_stop l said next s (timing_fault.Value n) f = rw f ((refl, refl, refl), refl)
-  timings_stop l said next s (timing_fault.Twice n) f = rw f ((refl, refl, refl), refl)
-  timings_stop l said next s (timing_fault.Order n) f = rw f ((refl, refl, refl), refl)
-  timings_stop l said next s timing_fault.TooMany f = rw f ((refl, refl, refl), refl)
-  timings_stop l said next s timing_fault.Empty f = rw f ((refl, refl, refl), refl)
-  timings_stop l said next s (timing_fault.BadName n) f = rw f ((refl, refl, refl), refl)
-  timings_stop l said next s timing_fault.Memory f = no_memory _ s
+      (λ timings. next timings t text message)) s s (Err (stop_by refusal.Timings why))
+  timings_stop l said next s (stopped.Fault fault) f = rw f ((refl, refl, refl), refl)
+  timings_stop l said next s stopped.Memory f = no_memory _ s
 
   -- a work over the timings that were read
   pub works_of_timings : (l : Line) (said : Result (List NamedValues) TimingFault)
@@ -212,19 +194,11 @@ module _ {K : Type 0} (view : K → SinkView) where
 
   -- a record file that is refused
   pub record_stops : (said : Result (List SeenValues) SeenFault)
-      (next : List SeenValues → CallAnswers) (s : K) (e : SeenFault) → record_reading.Fails e said
+      (next : List SeenValues → CallAnswers) (s : K) (why : Stopped SeenFault) → Fails why said
       → Works view (λ t text message. of_record said (λ why. refuses why t text message)
-      (λ records. next records t text message)) s s (Err (record_stop e))
-  record_stops said next s seen_fault.Header f = rw f ((refl, refl, refl), refl)
-  record_stops said next s (seen_fault.Fields n) f = rw f ((refl, refl, refl), refl)
-  record_stops said next s (seen_fault.BadPlace n) f = rw f ((refl, refl, refl), refl)
-  record_stops said next s (seen_fault.Ticks n) f = rw f ((refl, refl, refl), refl)
-  record_stops said next s (seen_fault.Order n) f = rw f ((refl, refl, refl), refl)
-  record_stops said next s (seen_fault.BadName n) f = rw f ((refl, refl, refl), refl)
-  record_stops said next s (seen_fault.Later n) f = rw f ((refl, refl, refl), refl)
-  record_stops said next s (seen_fault.Level n) f = rw f ((refl, refl, refl), refl)
-  record_stops said next s seen_fault.Empty f = rw f ((refl, refl, refl), refl)
-  record_stops said next s seen_fault.Memory f = no_memory _ s
+      (λ records. next records t text message)) s s (Err (stop_by refusal.Record why))
+  record_stops said next s (stopped.Fault fault) f = rw f ((refl, refl, refl), refl)
+  record_stops said next s stopped.Memory f = no_memory _ s
 
   -- a work over the records that were read
   pub works_of_record : (said : Result (List SeenValues) SeenFault)

@@ -1,6 +1,8 @@
 -- Results, by cases.
 use Rattle.std.proofs.Common.{OnOk, Result, Ok, Err}
-use Rattle.call_answer.specs.{declared.done.Done.Done, declared.put.WriteStop.WriteStop}
+use Rattle.call_answer.specs.declared.done.Done.{Done}
+use Rattle.base_text.specs.declared.store.sink.PutFailed.{PutFailed}
+use Rattle.base_memory.specs.declared.stopped.Stopped.{Stopped}
 use Rattle.call_files.specs.Status.{ended}
 
 -- what follows, where there is a value
@@ -14,6 +16,6 @@ if_ok (Ok x) p = p
 if_ok (Err e) p = tt
 
 -- what follows, where a command is done
-pub on_done : {P Q : Type 0} (r : Result Done WriteStop) → (P → Q) → OnOk r P → OnOk (ended r) Q
+pub on_done : {P Q : Type 0} (r : Result Done (Stopped PutFailed)) → (P → Q) → OnOk r P → OnOk (ended r) Q
 on_done (Ok d) then p = then p
 on_done (Err why) then p = tt

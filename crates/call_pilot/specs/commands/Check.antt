@@ -13,7 +13,7 @@ use Rattle.call_answer.specs.Answers.{Answers}
 
 -- ---- the lines
 
--- `rejected` and the fault; want of memory is none
+-- `rejected` and the fault
 abbrev pub rejected_pieces : Line → List Script → CheckFault → List (List ℕ)
 rejected_pieces line scripts (fault.Line n) = line_pieces n
 rejected_pieces line scripts (fault.NotCovered i k t claimed derived) =
@@ -25,14 +25,13 @@ rejected_pieces line scripts (fault.NotHeld i k) =
 rejected_pieces line scripts (fault.Outside i k p value) =
     outside_pieces line scripts i k p value
 rejected_pieces line scripts (fault.Passes i k t) = passes_pieces line scripts i k t
-rejected_pieces line scripts fault.Memory = []
 
 -- ---- the answer
 
 -- the certificate is accepted, or has such a first fault
 abbrev pub check_answer : Line → List Script → List ℕ → Answers
 check_answer line scripts cert =
-    IsCheckedText (IsAccepted line scripts cert) (IsCheckFault line scripts cert) fault.Memory
+    IsCheckedText (IsAccepted line scripts cert) (IsCheckFault line scripts cert)
     (rejected_pieces line scripts)
 
 -- the engine is asked once

@@ -35,12 +35,12 @@ Works view allowed old new (Err stop.Memory) =
 
 -- a work that first fetches these files: what it may answer depends on their bytes in word order,
 -- or on the first that is too long, and is said only where the store tells them all
-abbrev pub Ends : {K : Type 0} → (K → SinkView) → (Result (List (List ℕ)) File → CallAnswers)
+abbrev pub EndsOverFiles : {K : Type 0} → (K → SinkView) → (Result (List (List ℕ)) File → CallAnswers)
     → (List ℕ → Option (List ℕ)) → List NamedFile → (List ℕ → ℕ) → (List ℕ → ℕ)
     → K → K → Result Status Stop → Type 0
-Ends view next files asked counts_old counts_new old new (Err (stop.Store file)) =
+EndsOverFiles view next files asked counts_old counts_new old new (Err (stop.Store file)) =
     StoreCause files counts_old counts_new asked file × (new ≡ old)
-Ends view next files asked counts_old counts_new old new result =
+EndsOverFiles view next files asked counts_old counts_new old new result =
     SameCounts counts_old counts_new
     × Works view (λ s text line. AllTold files asked → next (contents files asked) s text line)
     old new result
@@ -52,5 +52,5 @@ abbrev pub EndsOf : {K : Type 0} → (K → SinkView) → Option Command
 EndsOf view None files counts_old counts_new old new result =
     (result ≡ Err stop.Usage) × SameCounts counts_old counts_new × (new ≡ old)
 EndsOf view (Some command) files counts_old counts_new old new result =
-    Ends view (λ bytes. answer_by (over_files command bytes)) files (files_of command)
+    EndsOverFiles view (λ bytes. answer_by (over_files command bytes)) files (files_of command)
     counts_old counts_new old new result

@@ -81,7 +81,7 @@ pub record HeadlineLaws : Type 0 where
       → AreTold line script results
   pub trees : (line : Line) (scripts : List Script) (bytes : List ℕ) (counts : Counts)
       → All (Fits line) scripts → split_check.IsAccepted line scripts bytes counts
-      → split_check.IsSound line scripts bytes
+      → split_check.IsSoundText line scripts bytes
   pub one_text : (line : Line) (scripts : List Script) (parts : List (List SplitResult))
       (bytes others : List ℕ) → IsSplitText line scripts parts bytes
       → IsSplitText line scripts parts others → bytes ≡ others

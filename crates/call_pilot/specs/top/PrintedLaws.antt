@@ -6,7 +6,6 @@ use Rattle.cert_claims.specs.{text.Grammar.Claims, text.Text.certificate_text}
 use Rattle.cert_claims.specs.{declared.check.counts.Counts.Counts, check.Check.IsAccepted, check.Check.IsCheckFault}
 use Rattle.cert_claims.specs.check.Counts.{AreCounts, all_verdicts, are_counts, counts_in}
 use Rattle.cert_claims.specs.declared.check.fault.CheckFault.{CheckFault}
-use Rattle.cert_claims.specs.declared.check.fault.CheckFault.TheVariants as fault
 use Rattle.cert_own.specs.Certified.{AreCertified}
 use Rattle.call_pilot.specs.{commands.Certify.certify_answer, commands.Check.check_answer}
 use Rattle.call_engine.specs.Checked.{accepted_pieces}
@@ -32,7 +31,7 @@ module _
     → AreCounts (all_verdicts claims) counts)
     (no_fault : (line : Line) (scripts : List Script) (claims : List Claims) (f : CheckFault)
     → All (Fits line) scripts → AreCertified line scripts claims
-    → IsCheckFault line scripts (certificate_text line scripts claims) f → f ≡ fault.Memory)
+    → ¬ (IsCheckFault line scripts (certificate_text line scripts claims) f))
     (line : Line) (scripts : List Script) (d : Done) (text : List ℕ)
     (is : certify_answer line scripts d text) (fit : All (Fits line) scripts) where
   pub accepted_line : check_answer line scripts text done.Good (counted_line (all_verdicts is.claims))
@@ -59,7 +58,7 @@ module _
   only_line done.SomeNo answer said = absurd said
   only_line done.SomeUndecided answer said = absurd said
   only_line done.Rejected answer said =
-      absurd (said.known (no_fault line scripts is.claims said.why fit is.certified said.first))
+      absurd (no_fault line scripts is.claims said.why fit is.certified said.first)
 
   pub accepted_only : (other : Done) (answer : List ℕ) → check_answer line scripts text other answer
       → (other ≡ done.Good) × (answer ≡ counted_line (all_verdicts is.claims))

@@ -8,7 +8,7 @@ use Rattle.std.specs.Prelude.{◌&&◌, ◌+◌, IsTrue, codes, not, nat_le, nat
 use Rattle.std.specs.List.{after_first, before_first, position_from}
 use Rattle.std.specs.{Option.ok_or, Str.bytes_eq}
 use Rattle.std.proofs.lemmas.Map.Entries.{option_filter}
-use Rattle.base_records.specs.Gives.{◌>>=◌, passes_or}
+use Rattle.base_memory.specs.Gives.{◌>>=◌, passes_or}
 use Rattle.base_records.specs.{RecordFile.RecordFile, RecordFile.said_in, Records.records_of}
 use Rattle.model_history.specs.Rails.{Ends}
 use Rattle.base_text.specs.store.Number.{number_of}

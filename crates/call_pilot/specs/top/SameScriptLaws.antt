@@ -4,7 +4,7 @@ use Rattle.std.proofs.Math.Path.{fun_ext}
 use Rattle.std.specs.Prelude.{length, nat_lt, option_map}
 use Rattle.std.specs.{List.position_from, Option.ok_or, Str.bytes_eq}
 use Rattle.std.proofs.lemmas.Map.Entries.{option_filter}
-use Rattle.base_records.specs.Gives.{◌>>=◌, passes_or}
+use Rattle.base_memory.specs.Gives.{◌>>=◌, passes_or}
 use Rattle.base_records.specs.{Fields.is_empty, SoFar.SoFar, SoFar.all_of, SoFar.nothing}
 use Rattle.base_records.specs.{RecordFile.RecordFile, RecordFile.said_in, Records.records_of}
 use Rattle.base_text.specs.store.Number.{number_of}

@@ -13,8 +13,9 @@ ghost use Rattle.call_pilot.specs.commands.Verdicts.{IsFoundOf};
 
 use crate::commands::found::{Found, NOTHING};
 use crate::commands::laws::a_certificate_is_made_of_parts;
-use base_text::store::Sink;
-use call_answer::{Done, Study, WriteStop, put_text};
+use base_memory::Stopped;
+use base_text::store::{PutFailed, Sink};
+use call_answer::{Done, Study, put_text};
 use call_engine::Engine;
 use cert_claims::text::{CERT_END, CERT_HEAD};
 use cert_own::{answers_are_certified, cert_piece};
@@ -29,7 +30,7 @@ pub fn certify<G: Engine, O: Sink>(
     study: &Study,
     engine: &mut G,
     out: &mut O,
-) -> Result<Done, WriteStop>
+) -> Result<Done, Stopped<PutFailed>>
     requires { IsStudy study.now }
     ensures asked { OnOk result (certify_asks study.now.line study.now.scripts.items
         (G.calls engine.old) (G.calls engine.new)) }
@@ -56,7 +57,7 @@ fn write_parts<G: Engine, O: Sink>(
     scripts: &[Script],
     engine: &mut G,
     out: &mut O,
-) -> Result<Found, WriteStop>
+) -> Result<Found, Stopped<PutFailed>>
     requires fit { All (Fits compiled.now.line.now) scripts.now }
     ensures asked { OnOk result (AskedVerdicts compiled.now.line.now (length scripts.now)
         (G.calls engine.old) (G.calls engine.new)) }
@@ -80,7 +81,7 @@ fn write_part<G: Engine, O: Sink>(
     script: &Script,
     engine: &mut G,
     out: &mut O,
-) -> Result<Found, WriteStop>
+) -> Result<Found, Stopped<PutFailed>>
     requires fits { Fits compiled.now.line.now script.now }
     ensures asked { OnOk result (AskedCertify compiled.now.line.now
         (G.calls engine.old) (G.calls engine.new)) }

@@ -1,11 +1,11 @@
 //! The command `check`: whether a certificate is accepted.
-ghost use Rattle.std.specs.Prelude.{◌≡◌, ◌≢◌, IfOk, OnOk};
+ghost use Rattle.std.specs.Prelude.{◌≡◌, IfOk, OnOk};
 ghost use Rattle.std.specs.List.{concat};
-ghost use Rattle.cert_claims.specs.declared.check.fault.CheckFault.{CheckFault};
 ghost use Rattle.call_answer.specs.Answers.{Says};
 ghost use Rattle.call_pilot.specs.{commands.Check.check_answer, commands.Check.check_asks, commands.Check.rejected_pieces};
 ghost use Rattle.call_answer.specs.Study.{IsStudy};
 
+use base_memory::{Memory, Stopped};
 use call_answer::{Said, Study, text_of};
 use call_engine::Engine;
 use call_engine::checked::{
@@ -13,7 +13,6 @@ use call_engine::checked::{
 };
 use cert_claims::check::CheckFault;
 use itoa::Buffer;
-use model_line::Memory;
 use run_waves::waves::tern_word;
 use std::alloc::Global;
 
@@ -33,13 +32,12 @@ pub fn check<G: Engine>(
 {
     match engine.check(alloc, &study.compiled(), study.scripts.as_slice(), cert) {
         Ok(counts) => Ok(Said::good(accepted_text(alloc, counts)?)),
-        Err(CheckFault::Memory) => Err(Memory),
-        Err(fault) => Ok(Said::rejected(rejected_text(alloc, study, fault)?)),
+        Err(Stopped::Memory) => Err(Memory),
+        Err(Stopped::Fault(fault)) => Ok(Said::rejected(rejected_text(alloc, study, fault)?)),
     }
 }
 
 fn rejected_text(alloc: Global, study: &Study, fault: CheckFault) -> Result<Vec<u8>, Memory>
-    requires { fault ≢ CheckFault.Memory }
     ensures { IfOk result (λ text. text.items
         ≡ concat (rejected_pieces study.now.line study.now.scripts.items fault)) }
 {
@@ -85,6 +83,5 @@ fn rejected_text(alloc: Global, study: &Study, fault: CheckFault) -> Result<Vec<
             terminal,
             tick,
         } => rejected_passes(alloc, study, script, terminal, tick),
-        CheckFault::Memory => Err(Memory),
     }
 }

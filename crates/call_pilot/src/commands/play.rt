@@ -11,8 +11,9 @@ ghost use Rattle.call_pilot.specs.commands.Play.{play_asks};
 ghost use Rattle.call_answer.specs.{Sinks.Writes, Sinks.sink_view, Study.IsStudy};
 
 use crate::commands::laws::each_play_has_one_text;
-use base_text::store::Sink;
-use call_answer::{Done, Study, WriteStop, put_text};
+use base_memory::Stopped;
+use base_text::store::{PutFailed, Sink};
+use call_answer::{Done, Study, put_text};
 use call_engine::Engine;
 use model_line::Script;
 use model_timing::NamedTiming;
@@ -26,7 +27,7 @@ pub fn play<G: Engine, O: Sink>(
     timings: &[NamedTiming],
     engine: &mut G,
     out: &mut O,
-) -> Result<Done, WriteStop>
+) -> Result<Done, Stopped<PutFailed>>
     requires study { IsStudy study.now }
     requires inside { All (λ timing. IsTimingInside study.now.line timing.timing) timings.now }
     ensures asked { OnOk result (play_asks study.now.line study.now.scripts.items
@@ -54,7 +55,7 @@ fn write_timings<G: Engine, O: Sink>(
     timings: &[NamedTiming],
     engine: &mut G,
     out: &mut O,
-) -> Result<(), WriteStop>
+) -> Result<(), Stopped<PutFailed>>
     requires inside { All (λ timing. IsTimingInside compiled.now.line.now timing.timing)
         timings.now }
     ensures asked { OnOk result (AskedPlays compiled.now.line.now
@@ -79,7 +80,7 @@ fn write_timing<G: Engine, O: Sink>(
     timing: &NamedTiming,
     engine: &mut G,
     out: &mut O,
-) -> Result<(), WriteStop>
+) -> Result<(), Stopped<PutFailed>>
     requires inside { IsTimingInside compiled.now.line.now timing.now.timing }
     ensures asked { OnOk result (AskedPlays compiled.now.line.now (length scripts.now)
         (G.calls engine.old) (G.calls engine.new)) }
@@ -102,7 +103,7 @@ fn write_run<G: Engine, O: Sink>(
     timing: &NamedTiming,
     engine: &mut G,
     out: &mut O,
-) -> Result<(), WriteStop>
+) -> Result<(), Stopped<PutFailed>>
     requires inside { IsTimingInside compiled.now.line.now timing.now.timing }
     ensures asked { OnOk result (AskedPlay compiled.now.line.now (G.calls engine.old)
         (G.calls engine.new)) }

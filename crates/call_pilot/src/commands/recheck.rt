@@ -1,18 +1,17 @@
 //! The command `recheck`: whether split trees are accepted.
-ghost use Rattle.std.specs.Prelude.{◌≡◌, ◌≢◌, IfOk};
+ghost use Rattle.std.specs.Prelude.{◌≡◌, IfOk};
 ghost use Rattle.std.specs.List.{concat};
-ghost use Rattle.cert_split.specs.declared.check.fault.SplitFault.{SplitFault};
 ghost use Rattle.call_answer.specs.Answers.{Says};
 ghost use Rattle.call_pilot.specs.{commands.Recheck.recheck_answer, commands.Recheck.rejected_pieces};
 ghost use Rattle.call_answer.specs.Study.{IsStudy};
 
+use base_memory::{Memory, Stopped};
 use call_answer::{Said, Study, text_of};
 use call_engine::checked::{
     accepted_text, place, rejected_line, rejected_outside, rejected_passes,
 };
 use cert_split::check::{SplitFault, check_split};
 use itoa::Buffer;
-use model_line::Memory;
 use std::alloc::Global;
 
 /// The counts of what the obligations come to where the trees are accepted, and their first fault
@@ -24,13 +23,12 @@ pub fn recheck(alloc: Global, study: &Study, trees: &[u8]) -> Result<Said, Memor
 {
     match check_split(alloc, &study.compiled(), study.scripts.as_slice(), trees) {
         Ok(counts) => Ok(Said::good(accepted_text(alloc, counts)?)),
-        Err(SplitFault::Memory) => Err(Memory),
-        Err(fault) => Ok(Said::rejected(rejected_text(alloc, study, fault)?)),
+        Err(Stopped::Memory) => Err(Memory),
+        Err(Stopped::Fault(fault)) => Ok(Said::rejected(rejected_text(alloc, study, fault)?)),
     }
 }
 
 fn rejected_text(alloc: Global, study: &Study, fault: SplitFault) -> Result<Vec<u8>, Memory>
-    requires { fault ≢ SplitFault.Memory }
     ensures { IfOk result (λ text. text.items
         ≡ concat (rejected_pieces study.now.line study.now.scripts.items fault)) }
 {
@@ -60,6 +58,5 @@ fn rejected_text(alloc: Global, study: &Study, fault: SplitFault) -> Result<Vec<
             terminal,
             tick,
         } => rejected_passes(alloc, study, script, terminal, tick),
-        SplitFault::Memory => Err(Memory),
     }
 }

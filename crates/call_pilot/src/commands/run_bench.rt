@@ -2,7 +2,6 @@
 ghost use Rattle.std.specs.Prelude.{◌≡◌, ◌≤◌, IfOk, OnOk, length};
 ghost use Rattle.std.specs.List.{All};
 ghost use Rattle.model_line.specs.Fits.{Fits};
-ghost use Rattle.cert_claims.specs.declared.check.fault.CheckFault.{CheckFault};
 ghost use Rattle.call_engine.specs.Calls.{AskedCertify, AskedVerdicts, NoneFell};
 ghost use Rattle.call_answer.specs.Answers.{Says};
 ghost use Rattle.call_pilot.specs.commands.Bench.{HasPart, IsOwnText, bench_answer, bench_asks};
@@ -10,14 +9,14 @@ ghost use Rattle.call_pilot.specs.commands.Bench.{HasPart, IsOwnText, bench_answ
 use crate::commands::bench::bench_line;
 use crate::commands::scripts::bench_scripts;
 use crate::commands::text::bench_text;
+use base_memory::{Memory, Stopped};
 use call_answer::Said;
 use call_engine::Engine;
-use cert_claims::check::CheckFault;
 use cert_claims::text::{CERT_END, CERT_HEAD, a_certificate_is_its_parts};
 use cert_own::{
     a_certificate_grows_by_parts, answers_are_certified, cert_piece, what_is_certified_is_accepted,
 };
-use model_line::{Memory, Script};
+use model_line::Script;
 use net_compile::compile;
 use net_gates::Compiled;
 use std::alloc::Global;
@@ -43,15 +42,9 @@ pub fn bench<G: Engine>(alloc: Global, number: u32, engine: &mut G) -> Result<Sa
             let text = bench_text(alloc, number, counts)?;
             Ok(Said::good(text))
         }
-        Err(fault) => Err(want_of_memory(fault)),
+        Err(Stopped::Fault(_)) => unreachable!(),
+        Err(Stopped::Memory) => Err(Memory),
     }
-}
-
-// The one fault that the check of the own certificate has.
-fn want_of_memory(_fault: CheckFault) -> Memory
-    requires { _fault ≡ CheckFault.Memory }
-{
-    Memory
 }
 
 // The certificate of the scripts, as the engine decides them.

@@ -3,17 +3,18 @@ use Rattle.std.proofs.Common.{◌≡◌, ◌<◌, ◌∷◌, ℕ, List, [], Ok, 
 use Rattle.std.proofs.lemmas.List.{length-map}
 use Rattle.model_line.specs.declared.script.Script.{Script}
 use Rattle.file_tables.specs.{script.SoFar.AreOnce, script.Values.AreOfOneFile, script.Values.values_of}
-use Rattle.file_study.specs.{study.Reading.FailsSo, study.Studies.study_of, study.Studies.study_values}
+use Rattle.base_memory.specs.Gives.{Fails, OfFault}
+use Rattle.base_memory.specs.declared.stopped.Stopped.{Stopped}
+use Rattle.base_memory.specs.declared.stopped.Stopped.TheVariants as stopped
+use Rattle.file_study.specs.{study.Studies.study_of, study.Studies.study_values}
 use Rattle.file_study.specs.declared.study.fault.StudyFault.{StudyFault}
-use Rattle.file_study.specs.declared.study.fault.StudyFault.TheVariants as fault
 use Rattle.file_study.specs.declared.study.study.Study.{Study}
 use Rattle.file_study.specs.sweeps.Studies.{IsStudyRefused, script_names}
 use Rattle.file_study.specs.declared.sweeps.study_fault.StudySweepFault.{StudySweepFault}
-use Rattle.file_study.specs.declared.sweeps.study_fault.StudySweepFault.TheVariants as sweep
 use Rattle.call_files.specs.Study.{ReadsStudy}
 use Rattle.call_files.specs.declared.stop.Stop.{Stop}
 use Rattle.call_files.specs.declared.stop.Stop.TheVariants as stop
-use Rattle.call_work.specs.load.Loaded.{Loads, scripts_halt, study_halt}
+use Rattle.call_work.specs.load.Loaded.{Loads, halt_by, scripts_halt, study_halt}
 use Rattle.call_work.specs.load.Studied.{of_files, of_study_file, refused_by}
 use Rattle.call_work.specs.declared.load.halt.Halt.TheVariants as halt
 use Rattle.call_work.specs.declared.load.sources.Loaded.{Loaded}
@@ -35,48 +36,19 @@ files_halt line scripts says stop.Memory read = tt
 
 module _ (bytes : List ℕ) (says : Loaded → Type 0) where
   -- a study file is refused
-  pub study_halts : (e : StudyFault) → FailsSo e (study_of bytes)
-      → Loads (of_study_file bytes) says (Err (study_halt e))
-  study_halts fault.NotToml is = rw is refl
-  study_halts (fault.Unknown path) is = rw is refl
-  study_halts (fault.Missing path) is = rw is refl
-  study_halts (fault.WrongKind path) is = rw is refl
-  study_halts (fault.Range path) is = rw is refl
-  study_halts (fault.BadName path) is = rw is refl
-  study_halts (fault.Twice path) is = rw is refl
-  study_halts (fault.BadTime path why) is = rw is refl
-  study_halts (fault.Swept path) is = rw is refl
-  study_halts (fault.NoInstant path) is = rw is refl
-  study_halts (fault.TooMany path) is = rw is refl
-  study_halts fault.Memory is = tt
+  pub study_halts : (why : Stopped StudyFault) → Fails why (study_of bytes)
+      → Loads (of_study_file bytes) says (Err (halt_by study_halt why))
+  study_halts (stopped.Fault fault) is = rw is refl
+  study_halts stopped.Memory is = tt
 
   -- its faults come to no scripts
-  pub scripts_halts : (said : Study) (e : StudySweepFault) → study_of bytes ≡ Ok (study_values said)
-      → IsStudyRefused said.line (study_values said).faults e
-      → Loads (of_study_file bytes) says (Err (scripts_halt e))
-  scripts_halts said (sweep.Refused i name why) is refused =
-      rw is (inr (
-        sweep.Refused i name why,
-        record {
-          line = said.line;
-          is = refl;
-          refused = refused;
-          told = refl;
-        },
-        refl,
-      ))
-  scripts_halts said (sweep.Twice i name k) is refused =
-      rw is (inr (
-        sweep.Twice i name k,
-        record {
-          line = said.line;
-          is = refl;
-          refused = refused;
-          told = refl;
-        },
-        refl,
-      ))
-  scripts_halts said sweep.Memory is refused = tt
+  pub scripts_halts : (said : Study) (why : Stopped StudySweepFault)
+      → study_of bytes ≡ Ok (study_values said)
+      → OfFault (IsStudyRefused said.line (study_values said).faults) why
+      → Loads (of_study_file bytes) says (Err (halt_by scripts_halt why))
+  scripts_halts said (stopped.Fault fault) is refused =
+      rw is (inr (fault, record { line = said.line; is = refl; refused = refused }, refl))
+  scripts_halts said stopped.Memory is refused = tt
 
 -- no two scripts of a file have one name
 names_same : (scripts : List Script) → map (λ v. v.name) (map values_of scripts) ≡ script_names scripts

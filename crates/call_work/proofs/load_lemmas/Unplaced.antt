@@ -9,4 +9,3 @@ unplaced sweep.TooMany is = refl
 unplaced (sweep.BadName k) is = refl
 unplaced (sweep.Horizon k ticks tick_us) is = cc
 unplaced (sweep.NoFit k) is = refl
-unplaced sweep.Memory is = refl

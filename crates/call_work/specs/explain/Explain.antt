@@ -9,8 +9,8 @@ use Rattle.call_answer.specs.{Answers.Answers, declared.done.Done.Done}
 use Rattle.call_work.specs.{explain.Picked.picked, explain.Table.answer_text, explain.Table.answer_status}
 use Rattle.call_work.specs.declared.explain.asked.Asked.{Asked}
 use Rattle.call_ask.specs.declared.explain.ExplainForm.{ExplainForm}
-use Rattle.call_work.specs.declared.explain.stop.ExplainStop.{ExplainStop}
-use Rattle.call_work.specs.declared.explain.stop.ExplainStop.TheVariants as stop
+use Rattle.call_work.specs.declared.explain.fault.ExplainFault.{ExplainFault}
+use Rattle.call_work.specs.declared.explain.fault.ExplainFault.TheVariants as fault
 use Rattle.call_work.specs.declared.explain.unpicked.Unpicked.{Unpicked}
 
 -- the file is not too long
@@ -45,11 +45,10 @@ pub record IsUnpicked (line : Line) (scripts : List Script) (bytes : List ℕ) (
   pub none : picked which records ≡ Err why
 
 -- why nothing is said: more than 64 scripts; the first fault of the file; a record that is not
--- picked. Want of memory is free
-abbrev pub IsExplainStop : Line → List Script → List ℕ → Option ℕ → ExplainStop → Type 0
-IsExplainStop line scripts bytes which stop.Memory = Unit {0}
-IsExplainStop line scripts bytes which stop.TooManyScripts = 64 < length scripts
-IsExplainStop line scripts bytes which (stop.Record fault) =
-    records_said line scripts bytes ≡ Err fault
-IsExplainStop line scripts bytes which (stop.Unpicked why) =
+-- picked
+abbrev pub IsExplainFault : Line → List Script → List ℕ → Option ℕ → ExplainFault → Type 0
+IsExplainFault line scripts bytes which fault.TooManyScripts = 64 < length scripts
+IsExplainFault line scripts bytes which (fault.Record why) =
+    records_said line scripts bytes ≡ Err why
+IsExplainFault line scripts bytes which (fault.Unpicked why) =
     IsUnpicked line scripts bytes which why

@@ -9,9 +9,9 @@ use Rattle.file_study.specs.sweeps.Groups.{group_values, single_group}
 use Rattle.call_files.specs.Study.{IsSaid}
 use Rattle.call_files.specs.declared.stop.Stop.TheVariants as stop
 use Rattle.file_study.specs.declared.study.fault.StudyFault.{StudyFault}
-use Rattle.file_study.specs.declared.study.fault.StudyFault.TheVariants as study_fault
+use Rattle.base_memory.specs.declared.stopped.Stopped.{Stopped}
+use Rattle.base_memory.specs.declared.stopped.Stopped.TheVariants as stopped
 use Rattle.file_study.specs.declared.sweeps.study_fault.StudySweepFault.{StudySweepFault}
-use Rattle.file_study.specs.declared.sweeps.study_fault.StudySweepFault.TheVariants as sweep_fault
 use Rattle.call_work.specs.declared.load.denial.Denial.TheVariants as denial
 use Rattle.call_work.specs.declared.load.halt.Halt.{Halt}
 use Rattle.call_work.specs.declared.load.halt.Halt.TheVariants as halt
@@ -63,13 +63,16 @@ given_of from = given (source_in from)
 abbrev pub as_read : Studied → Given
 as_read of halted holds = holds of
 
+-- how a reader's end halts a call: what is told of its fault, or want of memory
+abbrev pub halt_by : {F : Type 0} → (F → Halt) → Stopped F → Halt
+halt_by told (stopped.Fault fault) = told fault
+halt_by told stopped.Memory = halt.Stopped stop.Memory
+
 -- why a study says nothing
 abbrev pub study_halt : StudyFault → Halt
-study_halt study_fault.Memory = halt.Stopped stop.Memory
 study_halt why = halt.Denied (denial.Study why)
 
 abbrev pub scripts_halt : StudySweepFault → Halt
-scripts_halt sweep_fault.Memory = halt.Stopped stop.Memory
 scripts_halt why = halt.Denied (denial.Scripts why)
 
 -- the first refusal

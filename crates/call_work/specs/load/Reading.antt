@@ -9,14 +9,12 @@ use Rattle.model_timing.specs.NamedValues.{NamedValues}
 use Rattle.file_tables.specs.timing.Timings.{timings_of}
 use Rattle.call_ask.specs.declared.explain.ExplainForm.{ExplainForm}
 use Rattle.call_work.specs.explain.Picked.{picked}
-use Rattle.call_work.specs.declared.explain.{stop.ExplainStop.ExplainStop, unpicked.Unpicked.Unpicked}
-use Rattle.call_work.specs.declared.explain.stop.ExplainStop.TheVariants as explain_stop
-use Rattle.call_files.specs.Stops.{record_stop}
+use Rattle.call_work.specs.declared.explain.{fault.ExplainFault.ExplainFault, unpicked.Unpicked.Unpicked}
+use Rattle.call_work.specs.declared.explain.fault.ExplainFault.TheVariants as explain_fault
 use Rattle.judge_match.specs.matching.Waves.{SeenValues, records_said}
 use Rattle.call_ask.specs.declared.map.MapForm.{MapForm}
 use Rattle.call_work.specs.map.Asked.{Both, asked_of}
-use Rattle.call_work.specs.declared.map.denial.{MapDenial.MapDenial, MapStop.MapStop}
-use Rattle.call_work.specs.declared.map.denial.MapStop.TheVariants as map_stop
+use Rattle.call_work.specs.declared.map.denial.MapDenial.{MapDenial}
 use Rattle.call_files.specs.Said.{of_record, of_timings}
 use Rattle.call_files.specs.declared.stop.File.{File}
 use Rattle.call_files.specs.declared.refusal.Refusal.TheVariants as refusal
@@ -144,27 +142,25 @@ explain_in within form line scripts record_bytes script halted holds =
     (λ records. of_pick (picked which records) halted
     (holds (explain within form which line scripts record_bytes))))
 
--- why nothing is said of it, or no memory was left
-abbrev pub explain_halt : ExplainStop → Halt
-explain_halt explain_stop.Memory = halt.Stopped stop.Memory
-explain_halt explain_stop.TooManyScripts = halt.Denied denial.TooManyScripts
-explain_halt (explain_stop.Record why) = halt.Stopped (record_stop why)
-explain_halt (explain_stop.Unpicked why) = halt.Denied (denial.Record why)
+-- why nothing is said of it
+abbrev pub explain_halt : ExplainFault → Halt
+explain_halt explain_fault.TooManyScripts = halt.Denied denial.TooManyScripts
+explain_halt (explain_fault.Record why) = refused_by (refusal.Record why)
+explain_halt (explain_fault.Unpicked why) = halt.Denied (denial.Record why)
 
 abbrev pub explain_of : ℕ → ExplainForm → Given → List ℕ → Option (List ℕ) → Reading
 explain_of within form given record_bytes script halted holds =
     given halted (λ studied. unless_denied (at_most 64 (length studied.scripts)) halted
     (explain_in within form studied.line studied.scripts record_bytes script halted holds))
 
+-- why there is no such map
+abbrev pub map_halt : MapDenial → Halt
+map_halt why = halt.Denied (denial.Map why)
+
 -- what holds of the axes that words ask for, or of why there is no such map
 abbrev pub of_axes : Result Both MapDenial → (Halt → Type 0) → (Both → Type 0) → Type 0
 of_axes (Ok both) halted holds = holds both
-of_axes (Err why) halted holds = halted (halt.Denied (denial.Map why))
-
--- why there is none, or no memory was left
-abbrev pub map_halt : MapStop → Halt
-map_halt (map_stop.Denied why) = halt.Denied (denial.Map why)
-map_halt map_stop.Memory = halt.Stopped stop.Memory
+of_axes (Err why) halted holds = halted (map_halt why)
 
 -- a map of one setting or two, by the words of its axes
 abbrev pub map_of : MapForm → List ℕ → Option (List ℕ) → Given → Reading

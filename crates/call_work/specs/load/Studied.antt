@@ -1,5 +1,5 @@
 -- What a source says: a line and the scripts of its faults, or why it says none.
-use Rattle.std.specs.Prelude.{◌≡◌, ◌⊎◌, ℕ, Bool, true, false, IsTrue, List, codes}
+use Rattle.std.specs.Prelude.{◌≡◌, ◌⊎◌, ℕ, List, codes}
 use Rattle.std.specs.Prelude.{Result, Ok, Err, map}
 use Rattle.model_line.specs.{declared.line.Line.Line, declared.script.Script.Script}
 use Rattle.file_line.specs.Lines.{line_values}
@@ -9,7 +9,6 @@ use Rattle.file_study.specs.sweeps.Groups.{group_values, single_group}
 use Rattle.file_study.specs.declared.sweeps.group.Group.{Group}
 use Rattle.file_study.specs.sweeps.Studies.{AreScriptsOf, IsStudyRefused}
 use Rattle.file_study.specs.declared.sweeps.study_fault.StudySweepFault.{StudySweepFault}
-use Rattle.file_study.specs.declared.sweeps.study_fault.StudySweepFault.TheVariants as sweep_fault
 use Rattle.call_files.specs.Said.{of_study}
 use Rattle.call_files.specs.declared.refusal.Refusal.{Refusal}
 use Rattle.call_files.specs.declared.stop.Stop.TheVariants as stop
@@ -50,17 +49,11 @@ pub record IsOf (values : StudyValues) (studied : Studied) : Type 0 where
   pub line : line_values studied.line ≡ values.line
   pub scripts : AreScriptsOf studied.line values.faults studied.scripts studied.groups
 
--- it is no want of memory, of which nothing is said
-abbrev pub is_told : StudySweepFault → Bool
-is_told sweep_fault.Memory = false
-is_told _ = true
-
 -- and those that come to none
 pub record IsNone (values : StudyValues) (why : StudySweepFault) : Type 0 where
   pub line : Line
   pub is : line_values line ≡ values.line
   pub refused : IsStudyRefused line values.faults why
-  pub told : IsTrue (is_told why)
 
 abbrev pub of_values : Result StudyValues StudyFault → Given
 of_values (Ok values) halted holds =

@@ -2,6 +2,7 @@
 use Rattle.std.specs.Prelude.{◌≡◌, ◌+◌, ◌-◌, ◌*◌, ◌/◌, ◌==◌, ℕ, List, [], ◌∷◌, Option, None, Some}
 use Rattle.std.specs.Prelude.{Result, Ok, Err, nat_lt, if◌then◌else◌}
 use Rattle.std.specs.List.{list_any}
+use Rattle.base_memory.specs.Gives.{◌>>=◌}
 use Rattle.model_line.specs.declared.line.Line.{Line}
 use Rattle.model_line.specs.NamesByNumber.{parameter_name}
 use Rattle.judge_margins.specs.{declared.map.axis.Axis.Axis, declared.map.axis.Axes.Axes}
@@ -34,12 +35,6 @@ moved_by line side words =
 pub record Both : Type 0 where
   pub x : Moved
   pub y : Option Moved
-
-infixl 10 ◌>>=◌
-abbrev pub ◌>>=◌ : {A B : Type 0} → Result A MapDenial → (A → Result B MapDenial)
-    → Result B MapDenial
-(Ok x) >>= next = next x
-(Err why) >>= next = Err why
 
 abbrev pub second_by : Line → Option (List ℕ) → Result (Option Moved) MapDenial
 second_by line None = Ok None

@@ -2,38 +2,40 @@
 
 ghost use Rattle.std.specs.Prelude.{MatchResult};
 ghost use Rattle.call_answer.specs.Answers.{Says};
-ghost use Rattle.call_work.specs.explain.Explain.{IsAsked, IsExplainStop, explain_answer};
+ghost use Rattle.base_memory.specs.Gives.{OfFault};
+ghost use Rattle.call_work.specs.explain.Explain.{IsAsked, IsExplainFault, explain_answer};
 
 use crate::explain::answer::said_of;
 use crate::explain::asked::Asked;
+use crate::explain::fault::ExplainFault;
 use crate::explain::pick::pick;
-use crate::explain::stop::ExplainStop;
+use base_memory::Stopped;
 use call_answer::Said;
 use judge_match::explain::explain;
-use judge_match::matching::{SeenFault, read_seen};
+use judge_match::matching::read_seen;
 use std::alloc::Global;
 
 /// What is said of a record: the changes of a timing that explains it, or the timing as a file, with
 /// status 0; that no timing inside does, with status 1; or that it is open, with status 2.
-pub fn explain_said(alloc: Global, asked: &Asked) -> Result<Said, ExplainStop>
+pub fn explain_said(alloc: Global, asked: &Asked) -> Result<Said, Stopped<ExplainFault>>
     requires { IsAsked asked.now }
     ensures { MatchResult result
         (Says (explain_answer asked.now.compiled.line.now asked.now.scripts.now asked.now.record.now
         asked.now.script asked.now.within asked.now.form))
-        (IsExplainStop asked.now.compiled.line.now asked.now.scripts.now asked.now.record.now
-        asked.now.script) }
+        (OfFault (IsExplainFault asked.now.compiled.line.now asked.now.scripts.now asked.now.record.now
+        asked.now.script)) }
 {
     if asked.scripts.len() > 64 {
-        return Err(ExplainStop::TooManyScripts);
+        return Err(Stopped::Fault(ExplainFault::TooManyScripts));
     }
     let records = match read_seen(alloc, asked.compiled.line, asked.scripts, asked.record) {
         Ok(records) => records,
-        Err(SeenFault::Memory) => return Err(ExplainStop::Memory),
-        Err(fault) => return Err(ExplainStop::Record(fault)),
+        Err(Stopped::Fault(fault)) => return Err(Stopped::Fault(ExplainFault::Record(fault))),
+        Err(Stopped::Memory) => return Err(Stopped::Memory),
     };
     let seen = match pick(asked.script, &records) {
         Ok(seen) => seen,
-        Err(why) => return Err(ExplainStop::Unpicked(why)),
+        Err(why) => return Err(Stopped::Fault(ExplainFault::Unpicked(why))),
     };
     let script = &asked.scripts[seen.script as usize];
     let explanation = explain(

@@ -109,10 +109,6 @@ fn put_scripts<K: Sink>(sink: &mut K, fault: &StudySweepFault) -> Result<(), Put
     match fault {
         StudySweepFault::Refused(i, name, why) => put_fault(sink, *i, name, why),
         StudySweepFault::Twice(i, name, _) => put_twice(sink, *i, name),
-        StudySweepFault::Memory => put_pieces(
-            sink,
-            &[b"refused study: ", b"memory ran out", b"\n"],
-        ),
     }
 }
 

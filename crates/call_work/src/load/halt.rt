@@ -4,18 +4,18 @@ ghost use Rattle.std.specs.Prelude.{◌≡◌};
 ghost use Rattle.call_answer.specs.Sinks.{Puts, sink_view};
 ghost use Rattle.call_files.specs.declared.stop.Stop.TheVariants.{Memory, Sink};
 ghost use Rattle.call_work.specs.load.Halts.{halt_line, status_of as end_status};
-ghost use Rattle.call_work.specs.declared.load.halt.Halt.TheVariants.{Denied, Stopped};
+ghost use Rattle.call_work.specs.declared.load.halt.Halt.TheVariants as halt_of;
 
-use crate::explain::ExplainStop;
+use crate::explain::ExplainFault;
 use crate::load::denial::{Denial, put_denial};
-use crate::map::MapStop;
+use crate::map::MapDenial;
+use base_memory::{Memory, Stopped};
 use base_text::store::{PutFailed, Sink};
 use call_answer::Done;
-use call_files::{Stop, put_message};
+use call_files::{Refusal, Stop, put_message};
 use file_study::study::StudyFault;
 use file_study::sweeps::StudySweepFault;
 use file_tables::timing::TimingFault;
-use model_line::Memory;
 
 /// Why it is not done: what stops `pilot` too, or what the files and the words alone deny.
 #[derive(Clone, Copy)]
@@ -68,7 +68,7 @@ pub fn put_halt<K: Sink>(sink: &mut K, halt: &Halt) -> Result<(), PutFailed>
 }
 
 impl From<Stop> for Halt {
-    ghost from_gives = { λ stop halt. halt ≡ Stopped stop };
+    ghost from_gives = { λ stop halt. halt ≡ halt_of.Stopped stop };
 
     fn from(stop: Stop) -> Self {
         Halt::Stopped(stop)
@@ -76,7 +76,7 @@ impl From<Stop> for Halt {
 }
 
 impl From<Denial> for Halt {
-    ghost from_gives = { λ why halt. halt ≡ Denied why };
+    ghost from_gives = { λ why halt. halt ≡ halt_of.Denied why };
 
     fn from(why: Denial) -> Self {
         Halt::Denied(why)
@@ -84,7 +84,7 @@ impl From<Denial> for Halt {
 }
 
 impl From<Memory> for Halt {
-    ghost from_gives = { λ _ halt. halt ≡ Stopped Memory };
+    ghost from_gives = { λ _ halt. halt ≡ halt_of.Stopped Memory };
 
     fn from(_: Memory) -> Self {
         Halt::Stopped(Stop::Memory)
@@ -92,73 +92,78 @@ impl From<Memory> for Halt {
 }
 
 impl From<PutFailed> for Halt {
-    ghost from_gives = { λ _ halt. halt ≡ Stopped Sink };
+    ghost from_gives = { λ _ halt. halt ≡ halt_of.Stopped Sink };
 
     fn from(_: PutFailed) -> Self {
         Halt::Stopped(Stop::Sink)
     }
 }
 
-impl From<TimingFault> for Halt {
-    ghost use Rattle.call_files.specs.Stops.{timing_stop};
+impl From<Stopped<TimingFault>> for Halt {
+    ghost use Rattle.call_files.specs.Stops.{stop_by};
+    ghost use Rattle.call_files.specs.declared.refusal.Refusal.TheVariants as refusal;
 
-    ghost from_gives = { λ fault halt. halt ≡ Stopped (timing_stop fault) };
+    ghost from_gives = { λ why halt. halt ≡ halt_of.Stopped (stop_by refusal.Timings why) };
 
-    fn from(fault: TimingFault) -> Self {
-        Halt::Stopped(Stop::from(fault))
+    fn from(why: Stopped<TimingFault>) -> Self {
+        Halt::Stopped(Stop::from(why))
     }
 }
 
-impl From<StudyFault> for Halt {
-    ghost use Rattle.call_work.specs.load.Loaded.{study_halt};
+impl From<Stopped<StudyFault>> for Halt {
+    ghost use Rattle.call_work.specs.load.Loaded.{halt_by, study_halt};
 
-    ghost from_gives = { λ fault halt. halt ≡ study_halt fault };
+    ghost from_gives = { λ why halt. halt ≡ halt_by study_halt why };
 
-    fn from(fault: StudyFault) -> Self {
-        match fault {
-            StudyFault::Memory => Halt::Stopped(Stop::Memory),
-            fault => Halt::Denied(Denial::Study(fault)),
+    fn from(why: Stopped<StudyFault>) -> Self {
+        match why {
+            Stopped::Fault(fault) => Halt::Denied(Denial::Study(fault)),
+            Stopped::Memory => Halt::Stopped(Stop::Memory),
         }
     }
 }
 
-impl From<ExplainStop> for Halt {
+impl From<Stopped<ExplainFault>> for Halt {
+    ghost use Rattle.call_work.specs.load.Loaded.{halt_by};
     ghost use Rattle.call_work.specs.load.Reading.{explain_halt};
 
-    ghost from_gives = { λ why halt. halt ≡ explain_halt why };
+    ghost from_gives = { λ why halt. halt ≡ halt_by explain_halt why };
 
-    fn from(why: ExplainStop) -> Self {
+    fn from(why: Stopped<ExplainFault>) -> Self {
         match why {
-            ExplainStop::Memory => Halt::Stopped(Stop::Memory),
-            ExplainStop::TooManyScripts => Halt::Denied(Denial::TooManyScripts),
-            ExplainStop::Record(fault) => Halt::Stopped(Stop::from(fault)),
-            ExplainStop::Unpicked(why) => Halt::Denied(Denial::Record(why)),
+            Stopped::Fault(ExplainFault::TooManyScripts) => Halt::Denied(Denial::TooManyScripts),
+            Stopped::Fault(ExplainFault::Record(fault)) => {
+                Halt::Stopped(Stop::Refused(Refusal::Record(fault)))
+            }
+            Stopped::Fault(ExplainFault::Unpicked(why)) => Halt::Denied(Denial::Record(why)),
+            Stopped::Memory => Halt::Stopped(Stop::Memory),
         }
     }
 }
 
-impl From<MapStop> for Halt {
+impl From<Stopped<MapDenial>> for Halt {
+    ghost use Rattle.call_work.specs.load.Loaded.{halt_by};
     ghost use Rattle.call_work.specs.load.Reading.{map_halt};
 
-    ghost from_gives = { λ why halt. halt ≡ map_halt why };
+    ghost from_gives = { λ why halt. halt ≡ halt_by map_halt why };
 
-    fn from(why: MapStop) -> Self {
+    fn from(why: Stopped<MapDenial>) -> Self {
         match why {
-            MapStop::Denied(why) => Halt::Denied(Denial::Map(why)),
-            MapStop::Memory => Halt::Stopped(Stop::Memory),
+            Stopped::Fault(denial) => Halt::Denied(Denial::Map(denial)),
+            Stopped::Memory => Halt::Stopped(Stop::Memory),
         }
     }
 }
 
-impl From<StudySweepFault> for Halt {
-    ghost use Rattle.call_work.specs.load.Loaded.{scripts_halt};
+impl From<Stopped<StudySweepFault>> for Halt {
+    ghost use Rattle.call_work.specs.load.Loaded.{halt_by, scripts_halt};
 
-    ghost from_gives = { λ fault halt. halt ≡ scripts_halt fault };
+    ghost from_gives = { λ why halt. halt ≡ halt_by scripts_halt why };
 
-    fn from(fault: StudySweepFault) -> Self {
-        match fault {
-            StudySweepFault::Memory => Halt::Stopped(Stop::Memory),
-            fault => Halt::Denied(Denial::Scripts(fault)),
+    fn from(why: Stopped<StudySweepFault>) -> Self {
+        match why {
+            Stopped::Fault(fault) => Halt::Denied(Denial::Scripts(fault)),
+            Stopped::Memory => Halt::Stopped(Stop::Memory),
         }
     }
 }

@@ -6,25 +6,31 @@ ghost use Rattle.std.specs.List.{list_any};
 ghost use Rattle.std.specs.Option.{option_copied};
 ghost use Rattle.model_line.specs.Parameters.{param_count};
 ghost use Rattle.judge_margins.specs.map.Axes.{AreAxes, CanMoveBoth, IsAxis, IsSecond};
-ghost use Rattle.judge_margins.specs.map.Placed.{AreParams};
+ghost use Rattle.judge_margins.specs.map.Placed.{AreOfLine};
 ghost use Rattle.draw_map.specs.Maps.{IsSmallSecond};
 ghost use Rattle.call_work.specs.map.Asked.{AreAxesOf, Both as BothOf, IsAxisOf, IsSecondOf, Moved as MovedOf};
 ghost use Rattle.call_work.specs.map.Asked.{Tells, asked_of, first_among as first_among_of, moved_by};
 ghost use Rattle.call_work.specs.map.Asked.{second_by, twice_by};
 ghost use Rattle.call_work.specs.declared.map.denial.MapDenial.{MapDenial as DenialOf};
-ghost use Rattle.call_work.specs.declared.map.denial.MapStop.TheVariants.{Denied};
+ghost use Rattle.base_memory.specs.declared.stopped.Stopped.TheVariants.{Fault};
 
-use crate::map::denial::{MapDenial, MapStop, Side};
+use crate::map::denial::{MapDenial, Side};
+use base_memory::Stopped;
 use file_study::times::{names_of, params_of, read_steps};
 use judge_margins::map::{Axes, Axis, map_fault};
 use model_line::Line;
 use std::alloc::Global;
 
 /// The axes that these words ask for, which a map can be made of; or the first fault.
-pub fn axes_of(alloc: Global, line: &Line, x: &[u8], y: Option<&[u8]>) -> Result<Axes, MapStop>
+pub fn axes_of(
+    alloc: Global,
+    line: &Line,
+    x: &[u8],
+    y: Option<&[u8]>,
+) -> Result<Axes, Stopped<MapDenial>>
     ensures are { IfOk result (λ axes. (both : BothOf)
         × (asked_of line.now x.now (option_copied y.entry) ≡ Ok both) × AreAxesOf both axes) }
-    ensures denied { (why : DenialOf) → result ≡ Err (Denied why) →
+    ensures denied { (why : DenialOf) → result ≡ Err (Fault why) →
         asked_of line.now x.now (option_copied y.entry) ≡ Err why }
     ensures axes { IfOk result (AreAxes line.now) }
     ensures can { IfOk result (CanMoveBoth line.now) }
@@ -35,16 +41,16 @@ pub fn axes_of(alloc: Global, line: &Line, x: &[u8], y: Option<&[u8]>) -> Result
     let y = second_of(alloc, line, y)?;
     let axes = Axes { x, y };
     match denied(line, &axes) {
-        Some(why) => Err(MapStop::Denied(why)),
+        Some(why) => Err(Stopped::Fault(why)),
         None => Ok(axes),
     }
 }
 
 // The axis that these words ask for.
-fn axis_of(alloc: Global, line: &Line, side: Side, words: &[u8]) -> Result<Axis, MapStop>
+fn axis_of(alloc: Global, line: &Line, side: Side, words: &[u8]) -> Result<Axis, Stopped<MapDenial>>
     ensures is { IfOk result (λ axis. (moved : MovedOf)
         × (moved_by line.now side words.now ≡ Ok moved) × IsAxisOf moved axis) }
-    ensures denied { (why : DenialOf) → result ≡ Err (Denied why) →
+    ensures denied { (why : DenialOf) → result ≡ Err (Fault why) →
         moved_by line.now side words.now ≡ Err why }
     ensures axis { IfOk result (IsAxis line.now) }
     ensures small { IfOk result (λ axis. axis.step ≤ 4000) }
@@ -59,15 +65,19 @@ fn axis_of(alloc: Global, line: &Line, side: Side, words: &[u8]) -> Result<Axis,
                 step: steps.step,
             })
         }
-        Err(why) => Err(MapStop::Denied(MapDenial::Words(side, why))),
+        Err(why) => Err(Stopped::Fault(MapDenial::Words(side, why))),
     }
 }
 
 // The second axis, if there are words for one.
-fn second_of(alloc: Global, line: &Line, words: Option<&[u8]>) -> Result<Option<Axis>, MapStop>
+fn second_of(
+    alloc: Global,
+    line: &Line,
+    words: Option<&[u8]>,
+) -> Result<Option<Axis>, Stopped<MapDenial>>
     ensures is { IfOk result (λ axis. (moved : OptionOf MovedOf)
         × (second_by line.now (option_copied words.entry) ≡ Ok moved) × IsSecondOf moved axis) }
-    ensures denied { (why : DenialOf) → result ≡ Err (Denied why) →
+    ensures denied { (why : DenialOf) → result ≡ Err (Fault why) →
         second_by line.now (option_copied words.entry) ≡ Err why }
     ensures axis { IfOk result (IsSecond line.now) }
     ensures small { IfOk result IsSmallSecond }
@@ -108,7 +118,7 @@ fn twice(line: &Line, x: &Axis, y: &Option<Axis>) -> Option<u32>
 
 // The first of these parameters that is one of the others too.
 fn first_among(line: &Line, others: &[u32], params: &[u32]) -> Option<u32>
-    requires { AreParams line.now params.now }
+    requires { AreOfLine line.now params.now }
     ensures is { result ≡ first_among_of others.now params.now }
     ensures exists { IfSome result (λ param. param < param_count line.now) }
 {

@@ -7,15 +7,16 @@ ghost use Rattle.call_work.specs.map.Denials.{fault_pieces, map_denial_pieces, n
 ghost use Rattle.call_work.specs.map.Denials.{number_words, pieces_of};
 ghost use Rattle.call_work.specs.map.Denials.{map_denial_status, side_words as words_of_side};
 ghost use Rattle.call_work.specs.map.Denials.{where_words as words_of_place, words_status as status_of_words};
-ghost use Rattle.call_work.specs.declared.map.denial.MapStop.TheVariants.{Memory as NoMemory};
+ghost use Rattle.base_memory.specs.declared.stopped.Stopped.TheVariants as stopped;
 ghost use Rattle.file_study.specs.times.AxisWords.{what_words};
 
+use base_memory::Stopped;
 use base_text::store::{PutFailed, Sink};
 use call_answer::put_pieces;
 use file_study::times::AxisFault;
 use itoa::Buffer;
 use judge_margins::map::MapFault;
-use model_line::{Memory, Name};
+use model_line::Name;
 
 /// The axis of the columns, or that of the rows.
 #[derive(Clone, Copy)]
@@ -25,7 +26,7 @@ pub enum Side {
 }
 
 /// Why there is no such map: the first fault, in the order of the words, then of both axes together.
-#[derive(Clone, Copy)]
+#[derive(Clone, Copy, Drop)]
 pub enum MapDenial {
     /// The words of an axis are refused.
     Words(Side, AxisFault),
@@ -35,20 +36,11 @@ pub enum MapDenial {
     Fault(MapFault),
 }
 
-/// Why nothing is said.
-#[derive(Clone, Copy)]
-pub enum MapStop {
-    /// There is no such map.
-    Denied(MapDenial),
-    /// Memory ran out.
-    Memory,
-}
+impl From<MapDenial> for Stopped<MapDenial> {
+    ghost from_gives = { λ denial why. why ≡ stopped.Fault denial };
 
-impl From<Memory> for MapStop {
-    ghost from_gives = { λ _ stop. stop ≡ NoMemory };
-
-    fn from(_: Memory) -> Self {
-        MapStop::Memory
+    fn from(denial: MapDenial) -> Self {
+        Stopped::Fault(denial)
     }
 }
 

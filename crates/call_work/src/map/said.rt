@@ -12,10 +12,11 @@ ghost use Rattle.call_work.specs.map.Answers.{IsDrawingText, IsTextOver, map_ans
 ghost use Rattle.call_work.specs.map.Mapped.{IsMapped};
 ghost use Rattle.call_work.specs.map.Asked.{Both as BothOf, asked_of};
 ghost use Rattle.call_work.specs.declared.map.denial.MapDenial.{MapDenial as DenialOf};
-ghost use Rattle.call_work.specs.declared.map.denial.MapStop.TheVariants.{Denied};
+ghost use Rattle.base_memory.specs.declared.stopped.Stopped.TheVariants.{Fault};
 
 use crate::map::axes::axes_of;
-use crate::map::denial::MapStop;
+use crate::map::denial::MapDenial;
+use base_memory::Stopped;
 use call_answer::{Said, Study};
 use call_ask::{MapAsk, MapForm};
 use draw_map::{Map, grid_of};
@@ -27,13 +28,13 @@ use std::alloc::Global;
 
 /// Where each obligation is held, fails or is open, as the settings of the words move: as a drawing,
 /// or as records `x,y,cell,lost`. Status 0.
-pub fn map_of(alloc: Global, study: &Study, ask: &MapAsk) -> Result<Said, MapStop>
+pub fn map_of(alloc: Global, study: &Study, ask: &MapAsk) -> Result<Said, Stopped<MapDenial>>
     requires { IsMapped study.now }
     ensures said { IfOk result (λ said. (both : BothOf)
         × (asked_of study.now.line ask.now.x.now (option_copied ask.now.y) ≡ Ok both)
         × Says (map_answer study.now.line study.now.scripts.items ask.now.form ask.now.x.now
         (option_copied ask.now.y) both) said) }
-    ensures denied { (why : DenialOf) → result ≡ Err (Denied why) →
+    ensures denied { (why : DenialOf) → result ≡ Err (Fault why) →
         asked_of study.now.line ask.now.x.now (option_copied ask.now.y) ≡ Err why }
 {
     let axes = axes_of(alloc, &study.line, ask.x, ask.y)?;

@@ -1,6 +1,8 @@
 -- What the waves of gates say of keys, trips and verdicts.
 use Rattle.std.proofs.Common.{◌≡◌, ℕ, ◌<◌, List, length, ◌∙◌, ap}
 use Rattle.std.specs.Prelude.{get_or, Result, Ok, Err, IfOk, MatchResult, []}
+use Rattle.base_memory.specs.{Gives.OfFault, declared.stopped.Stopped.Stopped}
+use Rattle.base_memory.specs.declared.stopped.Stopped.TheVariants as stopped
 use Rattle.run_signal.specs.declared.tern.Tern.{Tern}
 use Rattle.model_line.specs.{declared.script.Script.Script, declared.line.Line.Line}
 use Rattle.model_logic.specs.PairMean.{PairSignals, pair_mean}
@@ -10,7 +12,6 @@ use Rattle.run_waves.specs.waves.Waves.{wave_at}
 use Rattle.cert_claims.specs.text.Grammar.{Claims}
 use Rattle.cert_claims.specs.declared.check.claim.ClaimFault.{ClaimFault}
 use Rattle.cert_claims.specs.declared.check.claim.ClaimFault.TheVariants.{NotCovered, NotHeld, No}
-use Rattle.cert_claims.specs.declared.check.claim.ClaimFault.TheVariants.{Memory}
 use Rattle.run_waves.specs.derived.Claims.{AreGateWaves, declared_world, pairs_of}
 use Rattle.cert_claims.specs.check.Verdicts.{IsVerdictFault, IsFirstFault, AreSupported, AreAccepted}
 
@@ -34,21 +35,21 @@ pub after_keys : (line : Line) (script : Script) (said : Claims) (fault : ClaimF
 after_keys line script said (NotCovered u) covered h = absurd h.wrong
 after_keys line script said (NotHeld k) covered h = record { covered = covered; verdict = h }
 after_keys line script said (No k fault) covered h = record { covered = covered; verdict = h }
-after_keys line script said Memory covered h = tt
 
 -- the answer for the verdicts is that for all, where the keys cover
 pub with_keys : {U : Type 0} (line : Line) (script : Script) (said : Claims)
-    → AreCovered line script (declared_box line) (pairs_of said.keys) → (r : Result U ClaimFault)
+    → AreCovered line script (declared_box line) (pairs_of said.keys)
+    → (r : Result U (Stopped ClaimFault))
     → MatchResult r (λ _. AreSupported line script (pairs_of said.keys) said.verdicts)
-    (λ fault. IsVerdictFault line script (pairs_of said.keys) said.verdicts fault)
-    → MatchResult r (λ _. AreAccepted line script said)
-    (λ fault. IsFirstFault line script said fault)
+    (OfFault (IsVerdictFault line script (pairs_of said.keys) said.verdicts))
+    → MatchResult r (λ _. AreAccepted line script said) (OfFault (IsFirstFault line script said))
 with_keys line script said covered (Ok x) h = record { covered = covered; supported = h }
-with_keys line script said covered (Err fault) h = after_keys line script said fault covered h
+with_keys line script said covered (Err (stopped.Fault fault)) h =
+    after_keys line script said fault covered h
+with_keys line script said covered (Err stopped.Memory) h = tt
 
 -- what follows from an answer that is good
-pub where_good : {U : Type 0} (good told : Type 0) (wrong : ClaimFault → Type 0)
-    (r : Result U ClaimFault) → MatchResult r (λ _. good) wrong → (good → told)
-    → IfOk r (λ _. told)
+pub where_good : {U E : Type 0} (good told : Type 0) (wrong : E → Type 0) (r : Result U E)
+    → MatchResult r (λ _. good) wrong → (good → told) → IfOk r (λ _. told)
 where_good good told wrong (Ok x) h f = f h
 where_good good told wrong (Err fault) h f = tt

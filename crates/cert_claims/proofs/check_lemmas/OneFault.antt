@@ -1,5 +1,5 @@
 -- Claims have one first fault.
-use Rattle.std.proofs.Common.{◌≡◌, ◌≢◌, ℕ, suc, Bool, List, get_or, refl, sym}
+use Rattle.std.proofs.Common.{◌≡◌, ℕ, suc, Bool, List, get_or, sym}
 use Rattle.std.proofs.Common.{◌∙◌, ap, arith, subst}
 use Rattle.model_history.specs.Rails.{Rails}
 use Rattle.run_signal.specs.{declared.tern.Tern.Tern}
@@ -12,7 +12,6 @@ use Rattle.model_logic.specs.PairMean.{PairSignals}
 use Rattle.cert_claims.specs.text.Grammar.{Claims, Verdict, yes, no, undecided}
 use Rattle.cert_claims.specs.declared.check.claim.ClaimFault.{ClaimFault}
 use Rattle.cert_claims.specs.declared.check.claim.ClaimFault.TheVariants.{NotCovered, NotHeld, No}
-use Rattle.cert_claims.specs.declared.check.claim.ClaimFault.TheVariants.{Memory}
 use Rattle.cert_claims.specs.declared.check.no.NoFault.{NoFault}
 use Rattle.cert_claims.specs.declared.check.no.NoFault.TheVariants.{Outside, Passes}
 use Rattle.run_waves.specs.waves.FirstTick.{IsFirstOnAt}
@@ -137,38 +136,29 @@ module _ (line : Line) (script : Script) (have : HaveHistories line script) (k :
   yes_or_no trip (no values) f a b = a
   yes_or_no trip undecided f a b = a
 
-  fault_once : (trip : ℕ → Rails) (verdict : Verdict) (f g : ClaimFault) → f ≢ Memory
-      → g ≢ Memory → IsFaultOf line script k trip verdict f
-      → IsFaultOf line script k trip verdict g → f ≡ g
-  fault_once trip verdict (NotCovered u) g some other a b = absurd a
-  fault_once trip verdict Memory g some other a b = absurd (some refl)
-  fault_once trip verdict (NotHeld j) (NotCovered u) some other a b = absurd b
-  fault_once trip verdict (NotHeld j) (NotHeld l) some other a b = ap NotHeld (a.0 ∙ sym b.0)
-  fault_once trip verdict (NotHeld j) (No l w) some other a b =
-      absurd (yes_or_no trip verdict w a.1 b.1)
-  fault_once trip verdict (NotHeld j) Memory some other a b = absurd (other refl)
-  fault_once trip verdict (No j v) (NotCovered u) some other a b = absurd b
-  fault_once trip verdict (No j v) (NotHeld l) some other a b =
-      absurd (yes_or_no trip verdict v b.1 a.1)
-  fault_once trip verdict (No j v) (No l w) some other a b =
+  fault_once : (trip : ℕ → Rails) (verdict : Verdict) (f g : ClaimFault)
+      → IsFaultOf line script k trip verdict f → IsFaultOf line script k trip verdict g → f ≡ g
+  fault_once trip verdict (NotCovered u) g a b = absurd a
+  fault_once trip verdict (NotHeld j) (NotCovered u) a b = absurd b
+  fault_once trip verdict (NotHeld j) (NotHeld l) a b = ap NotHeld (a.0 ∙ sym b.0)
+  fault_once trip verdict (NotHeld j) (No l w) a b = absurd (yes_or_no trip verdict w a.1 b.1)
+  fault_once trip verdict (No j v) (NotCovered u) a b = absurd b
+  fault_once trip verdict (No j v) (NotHeld l) a b = absurd (yes_or_no trip verdict v b.1 a.1)
+  fault_once trip verdict (No j v) (No l w) a b =
       let terminal : j ≡ l = a.0 ∙ sym b.0 in
       let fault : v ≡ w = wrong_no_once verdict v w a.1 b.1 in
       cc
-  fault_once trip verdict (No j v) Memory some other a b = absurd (other refl)
 
 -- the first verdict that does not stand has one fault
 verdict_fault_once : (line : Line) (script : Script) → HaveHistories line script
-    → (claims : PairSignals) (verdicts : List Verdict) (f g : ClaimFault) → f ≢ Memory → g ≢ Memory
+    → (claims : PairSignals) (verdicts : List Verdict) (f g : ClaimFault)
     → IsVerdictFault line script claims verdicts f → IsVerdictFault line script claims verdicts g
     → f ≡ g
-verdict_fault_once line script have claims verdicts f g some other a b =
+verdict_fault_once line script have claims verdicts f g a b =
     let trip = derived_trip line script claims in
     wrong_once (λ k. IsSupported line script k (trip k)) (λ k. IsFaultOf line script k (trip k))
-    (λ f. f ≢ Memory)
-    (λ k verdict f told h stands.
-    verdict_refused line script have k (trip k) verdict f told h stands)
-    verdicts (λ k verdict f g. fault_once line script have k (trip k) verdict f g)
-    f g some other a b
+    (λ k verdict f h stands. verdict_refused line script have k (trip k) verdict f h stands)
+    verdicts (λ k verdict f g. fault_once line script have k (trip k) verdict f g) f g a b
 
 -- ---- both
 
@@ -179,29 +169,23 @@ module _ (line : Line) (script : Script) (have : HaveHistories line script) (sai
   covered_or_not u g a b =
       a.tick.fails (b.covered u.terminal u.tick a.terminal.inside a.tick.inside)
 
-  after_keys_once : (f g : ClaimFault) → f ≢ Memory → g ≢ Memory
-      → IsFirstVerdictFault line script said f → IsFirstVerdictFault line script said g → f ≡ g
-  after_keys_once f g some other a b =
-      verdict_fault_once line script have (pairs_of said.keys) said.verdicts f g some other
-      a.verdict b.verdict
+  after_keys_once : (f g : ClaimFault) → IsFirstVerdictFault line script said f
+      → IsFirstVerdictFault line script said g → f ≡ g
+  after_keys_once f g a b =
+      verdict_fault_once line script have (pairs_of said.keys) said.verdicts f g a.verdict b.verdict
 
   -- a fault of the verdicts, and another fault
-  verdict_then : (f g : ClaimFault) → f ≢ Memory → g ≢ Memory
-      → IsFirstVerdictFault line script said f → IsFirstFault line script said g → f ≡ g
-  verdict_then f (NotCovered u) some other a b = absurd (covered_or_not u f b a)
-  verdict_then f (NotHeld k) some other a b = after_keys_once f (NotHeld k) some other a b
-  verdict_then f (No k fault) some other a b = after_keys_once f (No k fault) some other a b
-  verdict_then f Memory some other a b = absurd (other refl)
+  verdict_then : (f g : ClaimFault) → IsFirstVerdictFault line script said f
+      → IsFirstFault line script said g → f ≡ g
+  verdict_then f (NotCovered u) a b = absurd (covered_or_not u f b a)
+  verdict_then f (NotHeld k) a b = after_keys_once f (NotHeld k) a b
+  verdict_then f (No k fault) a b = after_keys_once f (No k fault) a b
 
-  pub first_fault_once : (f g : ClaimFault) → f ≢ Memory → g ≢ Memory
-      → IsFirstFault line script said f → IsFirstFault line script said g → f ≡ g
-  first_fault_once (NotCovered u) (NotCovered v) some other a b =
+  pub first_fault_once : (f g : ClaimFault) → IsFirstFault line script said f
+      → IsFirstFault line script said g → f ≡ g
+  first_fault_once (NotCovered u) (NotCovered v) a b =
       ap NotCovered (uncovered_once line script (pairs_of said.keys) u v a b)
-  first_fault_once (NotCovered u) (NotHeld k) some other a b =
-      absurd (covered_or_not u (NotHeld k) a b)
-  first_fault_once (NotCovered u) (No k fault) some other a b =
-      absurd (covered_or_not u (No k fault) a b)
-  first_fault_once (NotCovered u) Memory some other a b = absurd (other refl)
-  first_fault_once (NotHeld k) g some other a b = verdict_then (NotHeld k) g some other a b
-  first_fault_once (No k fault) g some other a b = verdict_then (No k fault) g some other a b
-  first_fault_once Memory g some other a b = absurd (some refl)
+  first_fault_once (NotCovered u) (NotHeld k) a b = absurd (covered_or_not u (NotHeld k) a b)
+  first_fault_once (NotCovered u) (No k fault) a b = absurd (covered_or_not u (No k fault) a b)
+  first_fault_once (NotHeld k) g a b = verdict_then (NotHeld k) g a b
+  first_fault_once (No k fault) g a b = verdict_then (No k fault) g a b

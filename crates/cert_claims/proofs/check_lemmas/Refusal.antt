@@ -1,5 +1,5 @@
 -- A first fault refuses the claims.
-use Rattle.std.proofs.Common.{◌≢◌, ℕ, List, refl}
+use Rattle.std.proofs.Common.{ℕ, List}
 use Rattle.model_history.specs.Rails.{Rails}
 use Rattle.model_line.specs.{declared.script.Script.Script, declared.line.Line.Line}
 use Rattle.model_logic.specs.Histories.{History, IsLineHistory}
@@ -7,7 +7,6 @@ use Rattle.model_timing.specs.Inside.{IsTimingInside}
 use Rattle.cert_claims.specs.text.Grammar.{Claims, Verdict, yes, no, undecided}
 use Rattle.cert_claims.specs.declared.check.claim.ClaimFault.{ClaimFault}
 use Rattle.cert_claims.specs.declared.check.claim.ClaimFault.TheVariants.{NotCovered, NotHeld, No}
-use Rattle.cert_claims.specs.declared.check.claim.ClaimFault.TheVariants.{Memory}
 use Rattle.cert_claims.specs.declared.check.no.NoFault.{NoFault}
 use Rattle.cert_claims.specs.declared.check.no.NoFault.TheVariants.{Outside, Passes}
 use Rattle.cert_claims.specs.check.Refutations.{IsRefutation, IsMetInside, choice_of, steady_timing}
@@ -51,28 +50,22 @@ module _ (line : Line) (script : Script) (have : HaveHistories line script) (k :
   wrong_no_refused trip undecided fault h none = h
 
   pub verdict_refused : (trip : ℕ → Rails) (verdict : Verdict) (fault : ClaimFault)
-      → fault ≢ Memory → IsFaultOf line script k trip verdict fault
-      → IsSupported line script k trip verdict → ⊥
-  verdict_refused trip verdict (NotCovered u) some h stands = h
-  verdict_refused trip verdict (NotHeld j) some h stands =
-      not_held_refused trip verdict h.1 stands
-  verdict_refused trip verdict (No j fault) some h stands =
+      → IsFaultOf line script k trip verdict fault → IsSupported line script k trip verdict → ⊥
+  verdict_refused trip verdict (NotCovered u) h stands = h
+  verdict_refused trip verdict (NotHeld j) h stands = not_held_refused trip verdict h.1 stands
+  verdict_refused trip verdict (No j fault) h stands =
       wrong_no_refused trip verdict fault h.1 stands
-  verdict_refused trip verdict Memory some h stands = some refl
 
 module _ (line : Line) (script : Script) (have : HaveHistories line script) (said : Claims)
     (accepted : AreAccepted line script said) where
-  by_verdict : (fault : ClaimFault) → fault ≢ Memory → IsFirstVerdictFault line script said fault
-      → ⊥
-  by_verdict fault some first =
+  by_verdict : (fault : ClaimFault) → IsFirstVerdictFault line script said fault → ⊥
+  by_verdict fault first =
       let h = first.verdict in
-      verdict_refused line script have h.place _ h.item fault some h.wrong
+      verdict_refused line script have h.place _ h.item fault h.wrong
       (accepted.supported h.place h.item h.is)
 
-  pub fault_refuses : (fault : ClaimFault) → fault ≢ Memory
-      → IsFirstFault line script said fault → ⊥
-  fault_refuses (NotCovered u) some h =
+  pub fault_refuses : (fault : ClaimFault) → IsFirstFault line script said fault → ⊥
+  fault_refuses (NotCovered u) h =
       h.tick.fails (accepted.covered u.terminal u.tick h.terminal.inside h.tick.inside)
-  fault_refuses (NotHeld k) some h = by_verdict (NotHeld k) some h
-  fault_refuses (No k fault) some h = by_verdict (No k fault) some h
-  fault_refuses Memory some h = some refl
+  fault_refuses (NotHeld k) h = by_verdict (NotHeld k) h
+  fault_refuses (No k fault) h = by_verdict (No k fault) h

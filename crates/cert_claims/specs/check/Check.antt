@@ -7,10 +7,9 @@ use Rattle.cert_claims.specs.declared.check.claim.ClaimFault.TheVariants as wron
 use Rattle.cert_claims.specs.declared.check.no.NoFault.TheVariants as no
 use Rattle.cert_claims.specs.declared.check.fault.CheckFault.TheVariants.{Line as Line', NotCovered}
 use Rattle.cert_claims.specs.declared.check.fault.CheckFault.TheVariants.{NotHeld, Outside, Passes}
-use Rattle.cert_claims.specs.declared.check.fault.CheckFault.TheVariants.{Memory}
 use Rattle.cert_claims.specs.{declared.check.counts.Counts.Counts, declared.check.fault.CheckFault.CheckFault}
 use Rattle.cert_claims.specs.{check.Counts.all_verdicts, check.Scripts.EachBelow, check.Scripts.IsAllGood}
-use Rattle.cert_claims.specs.{check.Scripts.IsFirstWrong, check.Verdicts.AreAccepted, check.Verdicts.AreSound}
+use Rattle.cert_claims.specs.{check.Scripts.IsFirstWrong, check.Verdicts.AreAccepted, check.Verdicts.AreSoundClaims}
 use Rattle.cert_claims.specs.check.Verdicts.{IsFirstFault}
 
 -- The bytes are a certificate; what is said of each script is accepted; and these are the counts
@@ -21,10 +20,10 @@ IsAccepted line scripts bytes counts =
     scripts counts
 
 -- whatever the certificate says, each history of each choice inside meets what has a `yes`
-abbrev pub IsSound : Line → List Script → List ℕ → Type 0
-IsSound line scripts bytes =
+abbrev pub IsSoundText : Line → List Script → List ℕ → Type 0
+IsSoundText line scripts bytes =
     (claims : List Claims) → IsCertificate line scripts claims bytes
-    → EachBelow (AreSound line) scripts claims (length scripts)
+    → EachBelow (AreSoundClaims line) scripts claims (length scripts)
 
 -- The bytes are a certificate; what is said of each script before script i is accepted; and this is
 -- the first fault of what is said of script i.
@@ -33,8 +32,7 @@ IsScriptFault line scripts bytes i fault =
     IsFirstWrong (λ claims. IsCertificate line scripts claims bytes) (AreAccepted line)
     (IsFirstFault line) scripts i fault
 
--- The first fault: the first line that leaves the grammar, else that of the first script that has
--- one. Want of memory says nothing.
+-- the first fault: the first line that leaves the grammar, else that of the first script that has one
 abbrev pub IsCheckFault : Line → List Script → List ℕ → CheckFault → Type 0
 IsCheckFault line scripts bytes (Line' n) = LeavesGrammar line scripts bytes n
 IsCheckFault line scripts bytes (NotCovered i k t claimed derived) =
@@ -46,7 +44,6 @@ IsCheckFault line scripts bytes (Outside i k p value) =
     IsScriptFault line scripts bytes i (wrong.No k (no.Outside p value))
 IsCheckFault line scripts bytes (Passes i k t) =
     IsScriptFault line scripts bytes i (wrong.No k (no.Passes t))
-IsCheckFault line scripts bytes Memory = Unit {0}
 
 -- ---- as the code tells the fault of a script
 
@@ -55,4 +52,3 @@ fault_in i (wrong.NotCovered u) = NotCovered i u.terminal u.tick u.claimed u.der
 fault_in i (wrong.NotHeld k) = NotHeld i k
 fault_in i (wrong.No k (no.Outside p value)) = Outside i k p value
 fault_in i (wrong.No k (no.Passes t)) = Passes i k t
-fault_in i wrong.Memory = Memory

@@ -7,6 +7,8 @@ use Rattle.std.proofs.lemmas.Option.{same_Some, slice_get_read, slice_get_within
 use Rattle.std.proofs.Math.ListN.{get_or-map}
 use Rattle.std.specs.Prelude.{slice_get, Result, Ok, Err, IfOk}
 use Rattle.std.specs.List.{All}
+use Rattle.base_memory.specs.{Gives.OfFault, declared.stopped.Stopped.Stopped}
+use Rattle.base_memory.specs.declared.stopped.Stopped.TheVariants as stopped
 use Rattle.model_line.specs.declared.script.Script.{Script}
 use Rattle.cert_claims.specs.text.Grammar.{Verdict}
 use Rattle.cert_claims.specs.declared.check.counts.Counts.{Counts}
@@ -60,31 +62,43 @@ one_more {X} P xs i x at before now k y lt is =
 
 -- ---- what is wrong with the first of several
 
+-- where all before one are good, what is wrong with that one
+pub first_wrong : {X Fault : Type 0} (IsGood : ℕ → X → Type 0) (IsWrong : ℕ → X → Fault → Type 0)
+    (xs : List X) (i : ℕ) (x : X) → slice_get xs i ≡ Some x → EachOf IsGood xs i
+    → (why : Stopped Fault) → OfFault (IsWrong i x) why
+    → OfFault (IsWrongFirst IsGood IsWrong xs) why
+first_wrong IsGood IsWrong xs i x is before (stopped.Fault fault) wrong = record {
+  place = i;
+  item = x;
+  is = is;
+  before = before;
+  wrong = wrong;
+}
+first_wrong IsGood IsWrong xs i x is before stopped.Memory wrong = tt
+
 module _ {X Fault : Type 0} (IsGood : ℕ → X → Type 0) (IsWrong : ℕ → X → Fault → Type 0)
-    (tells : Fault → Type 0)
-    (refused : (k : ℕ) (x : X) (f : Fault) → tells f → IsWrong k x f → ¬ (IsGood k x))
+    (refused : (k : ℕ) (x : X) (f : Fault) → IsWrong k x f → ¬ (IsGood k x))
     (xs : List X) where
-  pub wrong_refuses : (f : Fault) → tells f → IsWrongFirst IsGood IsWrong xs f
+  pub wrong_refuses : (f : Fault) → IsWrongFirst IsGood IsWrong xs f
       → EachOf IsGood xs (length xs) → ⊥
-  wrong_refuses f told h good =
-      refused h.place h.item f told h.wrong
+  wrong_refuses f h good =
+      refused h.place h.item f h.wrong
       (good h.place h.item (slice_get_within xs h.place h.item h.is) h.is)
 
   -- the place of one is not before that of another
-  not_sooner : (f g : Fault) → tells f → (a : IsWrongFirst IsGood IsWrong xs f)
+  not_sooner : (f g : Fault) → (a : IsWrongFirst IsGood IsWrong xs f)
       → (b : IsWrongFirst IsGood IsWrong xs g) → ¬ (a.place < b.place)
-  not_sooner f g told a b lt =
-      refused a.place a.item f told a.wrong (b.before a.place a.item lt a.is)
+  not_sooner f g a b lt =
+      refused a.place a.item f a.wrong (b.before a.place a.item lt a.is)
 
-  pub wrong_once : ((k : ℕ) (x : X) (f g : Fault) → tells f → tells g → IsWrong k x f
-      → IsWrong k x g → f ≡ g) → (f g : Fault) → tells f → tells g
-      → IsWrongFirst IsGood IsWrong xs f → IsWrongFirst IsGood IsWrong xs g → f ≡ g
-  wrong_once once f g told other a b =
+  pub wrong_once : ((k : ℕ) (x : X) (f g : Fault) → IsWrong k x f → IsWrong k x g → f ≡ g)
+      → (f g : Fault) → IsWrongFirst IsGood IsWrong xs f → IsWrongFirst IsGood IsWrong xs g → f ≡ g
+  wrong_once once f g a b =
       let k : b.place ≡ a.place =
-      same_number b.place a.place (not_sooner g f other b a) (not_sooner f g told a b) in
+      same_number b.place a.place (not_sooner g f b a) (not_sooner f g a b) in
       let x : b.item ≡ a.item =
       same_Some b.item a.item (sym b.is ∙ ap (slice_get xs) k ∙ a.is) in
-      once a.place a.item f g told other a.wrong
+      once a.place a.item f g a.wrong
       (subst (λ (y : X). IsWrong a.place y g) x
       (subst (λ (j : ℕ). IsWrong j b.item g) k b.wrong))
 
@@ -125,16 +139,15 @@ pub record IsOneText {Said : Type 0} (Says : List Said → Type 0) (leaves : ℕ
 
 -- one thing at most is wrong with what is said of a script, and nothing where that is good
 pub record AreApart {Said Fault : Type 0} (IsGood : Script → Said → Type 0)
-    (IsWrong : Script → Said → Fault → Type 0) (tells : Fault → Type 0) : Type 0 where
-  pub refused : (script : Script) (said : Said) (f : Fault) → tells f → IsWrong script said f
+    (IsWrong : Script → Said → Fault → Type 0) : Type 0 where
+  pub refused : (script : Script) (said : Said) (f : Fault) → IsWrong script said f
       → ¬ (IsGood script said)
-  pub one : (script : Script) (said : Said) (f g : Fault) → tells f → tells g
-      → IsWrong script said f → IsWrong script said g → f ≡ g
+  pub one : (script : Script) (said : Said) (f g : Fault) → IsWrong script said f
+      → IsWrong script said g → f ≡ g
 
 module _ {Said Fault Whole : Type 0} (Says : List Said → Type 0) (leaves : ℕ → Type 0)
     (IsGood : Script → Said → Type 0) (IsWrong : Script → Said → Fault → Type 0)
-    (tells : Fault → Type 0) (scripts : List Script) (at_line : ℕ → Whole)
-    (in_script : ℕ → Fault → Whole) where
+    (scripts : List Script) (at_line : ℕ → Whole) (in_script : ℕ → Fault → Whole) where
   -- a fault of the text
   pub record IsOfText (f : Whole) : Type 0 where
     pub number : ℕ
@@ -145,7 +158,6 @@ module _ {Said Fault Whole : Type 0} (Says : List Said → Type 0) (leaves : ℕ
   pub record IsOfScript (f : Whole) : Type 0 where
     pub place : ℕ
     pub fault : Fault
-    pub told : tells fault
     pub first : IsFirstWrong Says IsGood IsWrong scripts place fault
     pub same : f ≡ in_script place fault
 
@@ -153,7 +165,7 @@ module _ {Said Fault Whole : Type 0} (Says : List Said → Type 0) (leaves : ℕ
   abbrev pub IsOfEither : Whole → Type 0
   IsOfEither f = IsOfText f ⊎ IsOfScript f
 
-  module _ (text : IsOneText Says leaves) (apart : AreApart IsGood IsWrong tells) where
+  module _ (text : IsOneText Says leaves) (apart : AreApart IsGood IsWrong) where
     pub refuses : (all_verdicts : List Said → List Verdict) (counts : Counts) (f : Whole)
         → IsOfEither f → ¬ (IsAllGood Says IsGood all_verdicts scripts counts)
     refuses all_verdicts counts f of good =
@@ -161,27 +173,24 @@ module _ {Said Fault Whole : Type 0} (Says : List Said → Type 0) (leaves : ℕ
         (λ y.
         let h = y.first in
         let same : h.claims ≡ good.claims = text.one h.claims good.claims h.is good.is in
-        apart.refused h.script h.said y.fault y.told h.wrong
+        apart.refused h.script h.said y.fault h.wrong
         (good.each y.place h.script h.said (slice_get_within scripts y.place h.script h.script_is)
         h.script_is (ap (λ (l : List Said). slice_get l y.place) (sym same) ∙ h.said_is)))
         of
 
     -- the script of a fault is not before that of another
-    not_before : (i j : ℕ) (f g : Fault) → tells f
-        → (h : IsFirstWrong Says IsGood IsWrong scripts i f)
+    not_before : (i j : ℕ) (f g : Fault) → (h : IsFirstWrong Says IsGood IsWrong scripts i f)
         → IsFirstWrong Says IsGood IsWrong scripts j g → ¬ (i < j)
-    not_before i j f g told h k lt =
+    not_before i j f g h k lt =
         let same : k.claims ≡ h.claims = text.one k.claims h.claims k.is h.is in
-        apart.refused h.script h.said f told h.wrong
+        apart.refused h.script h.said f h.wrong
         (k.before i h.script h.said lt h.script_is
         (ap (λ (l : List Said). slice_get l i) same ∙ h.said_is))
 
-    script_once : (i j : ℕ) (f g : Fault) → tells f → tells g
-        → IsFirstWrong Says IsGood IsWrong scripts i f
+    script_once : (i j : ℕ) (f g : Fault) → IsFirstWrong Says IsGood IsWrong scripts i f
         → IsFirstWrong Says IsGood IsWrong scripts j g → in_script i f ≡ in_script j g
-    script_once i j f g told other h k =
-        let place : i ≡ j =
-        same_number i j (not_before i j f g told h k) (not_before j i g f other k h) in
+    script_once i j f g h k =
+        let place : i ≡ j = same_number i j (not_before i j f g h k) (not_before j i g f k h) in
         let claims : k.claims ≡ h.claims = text.one k.claims h.claims k.is h.is in
         let script : k.script ≡ h.script =
         same_Some k.script h.script
@@ -191,7 +200,7 @@ module _ {Said Fault Whole : Type 0} (Says : List Said → Type 0) (leaves : ℕ
         (sym k.said_is ∙ ap (λ (l : List Said). slice_get l j) claims
         ∙ ap (slice_get h.claims) (sym place) ∙ h.said_is) in
         let fault : f ≡ g =
-        apart.one h.script h.said f g told other h.wrong
+        apart.one h.script h.said f g h.wrong
         (subst (λ (c : Said). IsWrong h.script c g) said
         (subst (λ (s : Script). IsWrong s k.said g) script k.wrong)) in
         ap (λ (n : ℕ). in_script n f) place ∙ ap (in_script j) fault
@@ -205,6 +214,6 @@ module _ {Said Fault Whole : Type 0} (Says : List Said → Type 0) (leaves : ℕ
         (λ y. absurd (text.none y.first.claims x.number x.leaves_there y.first.is)) other)
         (λ x. ⊎_elim
         (λ y. absurd (text.none x.first.claims y.number y.leaves_there x.first.is))
-        (λ y. x.same ∙ script_once x.place y.place x.fault y.fault x.told y.told x.first y.first
+        (λ y. x.same ∙ script_once x.place y.place x.fault y.fault x.first y.first
         ∙ sym y.same) other)
         of

@@ -11,7 +11,6 @@ use Rattle.model_line.specs.Parameters.{terminal_count}
 use Rattle.cert_claims.specs.text.Grammar.{Claims, Verdict, yes, no, undecided}
 use Rattle.cert_claims.specs.declared.check.claim.ClaimFault.{ClaimFault}
 use Rattle.cert_claims.specs.declared.check.claim.ClaimFault.TheVariants.{NotCovered, NotHeld, No}
-use Rattle.cert_claims.specs.declared.check.claim.ClaimFault.TheVariants.{Memory}
 use Rattle.cert_claims.specs.declared.check.no.NoFault.{NoFault}
 use Rattle.run_waves.specs.derived.Claims.{derived_key, derived_trip, pairs_of}
 use Rattle.cert_claims.specs.{check.NoFaults.IsNoFault, check.Refutations.IsRefutation}
@@ -58,12 +57,11 @@ IsWrongNo line script k yes fault = ⊥
 IsWrongNo line script k (no values) fault = IsNoFault line script k values fault
 IsWrongNo line script k undecided fault = ⊥
 
--- what is wrong with the verdict of terminal k; want of memory says nothing
+-- what is wrong with the verdict of terminal k
 abbrev pub IsFaultOf : Line → Script → ℕ → (ℕ → Rails) → Verdict → ClaimFault → Type 0
 IsFaultOf line script k trip verdict (NotCovered u) = ⊥
 IsFaultOf line script k trip verdict (NotHeld j) = (j ≡ k) × IsNotHeld line script trip verdict
 IsFaultOf line script k trip verdict (No j fault) = (j ≡ k) × IsWrongNo line script k verdict fault
-IsFaultOf line script k trip verdict Memory = Unit {0}
 
 -- each verdict stands, by the trips that follow from the claims
 abbrev pub AreSupported : Line → Script → PairSignals → List Verdict → Type 0
@@ -90,16 +88,15 @@ pub record IsFirstVerdictFault (line : Line) (script : Script) (said : Claims) (
   pub covered : AreCovered line script (declared_box line) (pairs_of said.keys)
   pub verdict : IsVerdictFault line script (pairs_of said.keys) said.verdicts fault
 
--- the first fault: that of the keys, else that of the verdicts. Want of memory says nothing.
+-- the first fault: that of the keys, else that of the verdicts
 abbrev pub IsFirstFault : Line → Script → Claims → ClaimFault → Type 0
 IsFirstFault line script said (NotCovered u) =
     IsFirstUncovered line script (pairs_of said.keys) u
 IsFirstFault line script said (NotHeld k) = IsFirstVerdictFault line script said (NotHeld k)
 IsFirstFault line script said (No k fault) = IsFirstVerdictFault line script said (No k fault)
-IsFirstFault line script said Memory = Unit {0}
 
 -- each history of each choice inside meets what has a `yes`
-abbrev pub AreSound : Line → Script → Claims → Type 0
-AreSound line script said =
+abbrev pub AreSoundClaims : Line → Script → Claims → Type 0
+AreSoundClaims line script said =
     (k : ℕ) → slice_get said.verdicts k ≡ Some yes → (choice : Choice) (h : History)
     → IsInside line choice → IsLineHistory line script choice h → Meets line script k h

@@ -6,9 +6,9 @@ use Rattle.run_signal.specs.declared.tern.Tern.{Tern}
 use Rattle.model_line.specs.Parameters.{terminal_count, param_count}
 use Rattle.model_line.specs.{declared.line.Line.Line, declared.script.Script.Script}
 use Rattle.run_waves.specs.waves.Text.{runs_text}
-use Rattle.base_text.specs.{lines.Named.named, declared.lines.fault.TextFault.TextFault}
+use Rattle.base_text.specs.lines.Named.{named}
 use Rattle.base_text.specs.lines.SpacedNumbers.{numbers_text}
-use Rattle.base_text.specs.lines.Grammar.{Grammar, IsFixed, Parts, IsText, LeavesText, IsTextFault}
+use Rattle.base_text.specs.lines.Grammar.{Grammar, IsFixed, Parts, IsText, LeavesText}
 use Rattle.cert_claims.specs.declared.text.claim.Claim.TheVariants.{Yes, No, Undecided}
 use Rattle.cert_claims.specs.{declared.text.claim.Claim.Claim, declared.text.claim.ScriptClaims.ScriptClaims}
 
@@ -176,8 +176,3 @@ claims_in claims = record {
   keys = claims.keys.items;
   verdicts = map verdict_in claims.verdicts.items;
 }
-
--- the fault of a whole text: the first line that leaves the grammar
-abbrev pub IsCertificateFault : Line → List Script → List ℕ → TextFault → Type 0
-IsCertificateFault line scripts bytes f =
-    IsTextFault (script_parts line) head_text scripts end_text bytes f

@@ -9,7 +9,7 @@ use run_signal::Tern;
 
 /// The first fault of a certificate: of its text, else of the first script whose claims are not
 /// acceptable. Scripts and terminals are told by their places.
-#[derive(Clone, Copy)]
+#[derive(Clone, Copy, Drop)]
 pub enum CheckFault {
     /// The first line, counted from 1, that leaves the grammar.
     Line(u32),
@@ -39,8 +39,6 @@ pub enum CheckFault {
         terminal: u32,
         tick: u32,
     },
-    /// Memory ran out. Nothing else is answered by it.
-    Memory,
 }
 
 /// The fault of a script's claims, told with the script.
@@ -69,6 +67,5 @@ pub(crate) fn in_script(script: u32, fault: ClaimFault) -> CheckFault
                 tick,
             },
         },
-        ClaimFault::Memory => CheckFault::Memory,
     }
 }

@@ -1,6 +1,6 @@
 //! The laws of acceptance.
 
-ghost use Rattle.std.specs.Prelude.{◌≡◌, ◌≢◌, ℕ, List};
+ghost use Rattle.std.specs.Prelude.{◌≡◌, ℕ, List};
 ghost use Rattle.model_line.specs.{declared.line.Line.Line, declared.script.Script.Script};
 ghost use Rattle.cert_claims.specs.text.Grammar.{Claims, IsCertificate, LeavesGrammar};
 ghost use Rattle.cert_claims.specs.declared.check.claim.ClaimFault.{ClaimFault};
@@ -19,7 +19,7 @@ use model_timing::timings_inside_are_choices_inside;
 /// are, but for want of memory.
 pub fn a_fault_refuses_the_claims()
     ensures { (line : Line) (script : Script) (said : Claims) (fault : ClaimFault) →
-        fault ≢ ClaimFault.Memory → IsFirstFault line script said fault →
+        IsFirstFault line script said fault →
         ¬ (AreAccepted line script said) }
 {
     each_choice_has_one_history();
@@ -30,7 +30,6 @@ pub fn a_fault_refuses_the_claims()
 /// Claims have at most one first fault.
 pub fn claims_have_one_first_fault()
     ensures { (line : Line) (script : Script) (said : Claims) (fault other : ClaimFault) →
-        fault ≢ ClaimFault.Memory → other ≢ ClaimFault.Memory →
         IsFirstFault line script said fault → IsFirstFault line script said other →
         fault ≡ other }
 {
@@ -59,7 +58,7 @@ fn texts_and_claims_are_told_apart()
         IsOneText (λ claims. IsCertificate line scripts claims bytes)
         (LeavesGrammar line scripts bytes) }
     ensures claims { (line : Line) →
-        AreApart (AreAccepted line) (IsFirstFault line) (λ fault. fault ≢ ClaimFault.Memory) }
+        AreApart (AreAccepted line) (IsFirstFault line) }
 {
     a_fault_refuses_the_claims();
     claims_have_one_first_fault();
@@ -71,8 +70,7 @@ fn texts_and_claims_are_told_apart()
 /// exactly where there is none, but for want of memory.
 pub fn a_fault_refuses_the_certificate()
     ensures { (line : Line) (scripts : List Script) (bytes : List ℕ) (counts : Counts)
-        (fault : CheckFault) → fault ≢ CheckFault.Memory →
-        IsCheckFault line scripts bytes fault → ¬ (IsAccepted line scripts bytes counts) }
+        (fault : CheckFault) → IsCheckFault line scripts bytes fault → ¬ (IsAccepted line scripts bytes counts) }
 {
     texts_and_claims_are_told_apart();
 }
@@ -81,7 +79,6 @@ pub fn a_fault_refuses_the_certificate()
 /// for want of memory.
 pub fn a_certificate_has_one_first_fault()
     ensures { (line : Line) (scripts : List Script) (bytes : List ℕ) (fault other : CheckFault) →
-        fault ≢ CheckFault.Memory → other ≢ CheckFault.Memory →
         IsCheckFault line scripts bytes fault → IsCheckFault line scripts bytes other →
         fault ≡ other }
 {

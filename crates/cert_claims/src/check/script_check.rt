@@ -2,6 +2,7 @@
 
 ghost use Rattle.std.specs.Prelude.{◌≡◌, ◌<◌, ℕ, length, map, IfOk, MatchResult};
 ghost use Rattle.std.specs.List.{All};
+ghost use Rattle.base_memory.specs.Gives.{OfFault};
 ghost use Rattle.model_history.specs.Rails.{Rails};
 ghost use Rattle.model_logic.specs.PairMean.{PairSignals};
 ghost use Rattle.model_line.specs.{Parameters.terminal_count, Fits.Fits};
@@ -9,7 +10,7 @@ ghost use Rattle.run_waves.specs.waves.Waves.{wave_at, AreWaves};
 ghost use Rattle.cert_claims.specs.text.Grammar.{HasNumbers, claims_in, verdict_in};
 ghost use Rattle.cert_claims.specs.text.Text.{CanBeWritten};
 ghost use Rattle.run_waves.specs.derived.Claims.{AreGateWaves};
-ghost use Rattle.cert_claims.specs.check.Verdicts.{IsSupported, IsFaultOf, AreSound, IsVerdictFault};
+ghost use Rattle.cert_claims.specs.check.Verdicts.{IsSupported, IsFaultOf, AreSoundClaims, IsVerdictFault};
 ghost use Rattle.cert_claims.specs.check.Verdicts.{AreSupported, AreAccepted, IsFirstFault};
 
 use crate::check::claim::ClaimFault;
@@ -17,6 +18,7 @@ use crate::check::cover::first_uncovered;
 use crate::check::held::is_held;
 use crate::check::no::check_no;
 use crate::text::{Claim, ScriptClaims};
+use base_memory::Stopped;
 use model_line::Script;
 use model_line::laws::deadlines_are_below_the_horizon;
 use model_logic::laws::{
@@ -35,14 +37,14 @@ pub fn check_claims(
     compiled: &Compiled<'_>,
     script: &Script,
     said: &ScriptClaims,
-) -> Result<(), ClaimFault>
+) -> Result<(), Stopped<ClaimFault>>
     requires fits { Fits compiled.now.line.now script.now }
     requires written { CanBeWritten compiled.now.line.now (claims_in said.now) }
     ensures exact { MatchResult result
         (λ _. AreAccepted compiled.now.line.now script.now (claims_in said.now))
-        (λ fault. IsFirstFault compiled.now.line.now script.now (claims_in said.now) fault) }
+        (OfFault (IsFirstFault compiled.now.line.now script.now (claims_in said.now))) }
     // Whatever the claims are: each history of each choice inside meets what has a `yes`.
-    ensures yes { IfOk result (λ _. AreSound compiled.now.line.now script.now
+    ensures yes { IfOk result (λ _. AreSoundClaims compiled.now.line.now script.now
         (claims_in said.now)) }
 {
     each_line_has_a_choice_inside();
@@ -52,7 +54,7 @@ pub fn check_claims(
     let keys = said.keys.as_slice();
     let waves = gate_waves(alloc, compiled, script, keys)?;
     if let Some(uncovered) = first_uncovered(compiled, keys, waves.as_slice()) {
-        return Err(ClaimFault::NotCovered(uncovered));
+        return Err(Stopped::Fault(ClaimFault::NotCovered(uncovered)));
     }
     check_verdicts(
         alloc,
@@ -70,7 +72,7 @@ fn check_verdicts(
     script: &Script,
     waves: &[Runs],
     verdicts: &[Claim],
-) -> Result<(), ClaimFault>
+) -> Result<(), Stopped<ClaimFault>>
     requires fits { Fits compiled.now.line.now script.now }
     requires waves { AreWaves (length compiled.now.net.now.gates) compiled.now.line.now.horizon
         waves.now }
@@ -80,8 +82,8 @@ fn check_verdicts(
         AreGateWaves compiled.now.line.now script.now compiled.now.net.now.gates claims waves.now →
         MatchResult result
         (λ _. AreSupported compiled.now.line.now script.now claims (map verdict_in verdicts.now))
-        (λ fault. IsVerdictFault compiled.now.line.now script.now claims
-        (map verdict_in verdicts.now) fault) }
+        (OfFault (IsVerdictFault compiled.now.line.now script.now claims
+        (map verdict_in verdicts.now))) }
 {
     for i in 0..verdicts.len() {
         let terminal = i as u32;
@@ -99,7 +101,7 @@ fn check_claim(
     terminal: u32,
     trip: &Runs,
     claim: &Claim,
-) -> Result<(), ClaimFault>
+) -> Result<(), Stopped<ClaimFault>>
     requires fits { Fits compiled.now.line.now script.now }
     requires terminal { terminal < terminal_count compiled.now.line.now }
     requires trip { length trip.now ≡ compiled.now.line.now.horizon }
@@ -108,8 +110,8 @@ fn check_claim(
         ((t : ℕ) → t < compiled.now.line.now.horizon → wave_at trip.now t ≡ pairs t) → MatchResult
         result
         (λ _. IsSupported compiled.now.line.now script.now terminal pairs (verdict_in claim.now))
-        (λ fault. IsFaultOf compiled.now.line.now script.now terminal pairs (verdict_in claim.now)
-        fault) }
+        (OfFault (IsFaultOf compiled.now.line.now script.now terminal pairs
+        (verdict_in claim.now))) }
 {
     the_rule_is_exact();
     deadlines_are_below_the_horizon();
@@ -118,12 +120,12 @@ fn check_claim(
             if is_held(script, trip) {
                 Ok(())
             } else {
-                Err(ClaimFault::NotHeld(terminal))
+                Err(Stopped::Fault(ClaimFault::NotHeld(terminal)))
             }
         }
         Claim::No(values) => {
             match check_no(alloc, compiled, script, terminal, values.as_slice())? {
-                Some(fault) => Err(ClaimFault::No { terminal, fault }),
+                Some(fault) => Err(Stopped::Fault(ClaimFault::No { terminal, fault })),
                 None => Ok(()),
             }
         }

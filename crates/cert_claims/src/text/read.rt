@@ -2,14 +2,16 @@
 
 ghost use Rattle.std.specs.Prelude.{◌≡◌, ◌<◌, ◌++◌, [], List, map, get_or, MatchResult, refl};
 ghost use Rattle.model_line.specs.Parameters.{terminal_count};
+ghost use Rattle.base_memory.specs.Gives.{OfFault};
 ghost use Rattle.base_text.specs.lines.Grammar.{Reads, IsFault};
 ghost use Rattle.cert_claims.specs.text.Grammar.{Place, key_of, verdict_of, says_key, says_verdict};
 ghost use Rattle.cert_claims.specs.text.Grammar.{Claims, HasOneEach, verdict_in, claims_in, grammar_of};
 ghost use Rattle.cert_claims.specs.text.Grammar.{terminal_names, claim_places, claims_said};
-ghost use Rattle.cert_claims.specs.text.Grammar.{script_parts, IsCertificate, IsCertificateFault};
+ghost use Rattle.cert_claims.specs.text.Grammar.{script_parts, IsCertificate, LeavesGrammar};
 
 use crate::text::claim::{Claim, ScriptClaims};
 use crate::text::words::read_words;
+use base_memory::Stopped;
 use base_text::lines::{
     LineCursor, LineReader, PartReader, TextFault, after_name, read_lines, read_text,
 };
@@ -94,13 +96,13 @@ fn read_claims(
     alloc: Global,
     line: &Line,
     lines: &mut LineCursor<'_>,
-) -> Result<ScriptClaims, TextFault>
+) -> Result<ScriptClaims, Stopped<TextFault>>
     ensures { (later : List Place) → MatchResult result
         (λ claims. HasOneEach line.now (claims_in claims)
         × Reads (grammar_of line.now) (claim_places line.now) (claims_said (claims_in claims)) later
         lines.old.rest.now lines.old.number lines.new.rest.now lines.new.number)
-        (λ fault. IsFault (grammar_of line.now) (claim_places line.now ++ later)
-        lines.old.rest.now lines.old.number fault) }
+        (λ why. IsFault (grammar_of line.now) (claim_places line.now ++ later)
+        lines.old.rest.now lines.old.number why) }
 {
     let terminals = line.terminals.as_slice();
     let keys = read_lines(alloc, &KeyReader { line }, terminals, lines)?;
@@ -130,7 +132,7 @@ impl<'a> PartReader for ScriptReader<'a> {
         alloc: Global,
         script: &Script,
         lines: &mut LineCursor<'_>,
-    ) -> Result<ScriptClaims, TextFault> {
+    ) -> Result<ScriptClaims, Stopped<TextFault>> {
         lines.take_named(b"script ", script.name.bytes())?;
         read_claims(alloc, self.line, lines)
     }
@@ -143,10 +145,10 @@ pub fn read_certificate(
     line: &Line,
     scripts: &[Script],
     bytes: &[u8],
-) -> Result<Vec<ScriptClaims>, TextFault>
+) -> Result<Vec<ScriptClaims>, Stopped<TextFault>>
     ensures { MatchResult result
         (λ claims. IsCertificate line.now scripts.now (map claims_in claims.items) bytes.now)
-        (λ fault. IsCertificateFault line.now scripts.now bytes.now fault) }
+        (OfFault (λ fault. LeavesGrammar line.now scripts.now bytes.now fault.line)) }
 {
     read_text(
         alloc,

@@ -7,7 +7,8 @@ use Rattle.model_line.specs.{declared.line.Line.Line, declared.script.Script.Scr
 use Rattle.model_logic.specs.{Choice.Box, HeldOver.IsHeldOver}
 use Rattle.judge_split.specs.Trees.{SplitTree, Yes, Undecided, Split}
 use Rattle.model_history.specs.ListLaws.{at_append, before_append, after_append}
-use Rattle.judge_split.specs.Leaves.{Leaf, leaves, lower_half, upper_half, AreSound}
+use Rattle.judge_split.specs.Leaves.{Leaf, leaves, IsSoundSplit}
+use Rattle.model_logic.specs.Boxes.{lower_half, upper_half}
 use Rattle.cert_split.specs.check.FirstLeaf.{IsFirstNotHeld}
 
 module _ (line : Line) (script : Script) (k : ℕ) where
@@ -17,7 +18,7 @@ module _ (line : Line) (script : Script) (k : ℕ) where
       → IsHeldOver line script k leaf.box
 
   -- of a sound tree each is
-  pub sound_held : (tree : SplitTree) (box : Box) → AreSound line script k box tree
+  pub sound_held : (tree : SplitTree) (box : Box) → IsSoundSplit line script k box tree
       → YesHeld (leaves box tree)
   sound_held Yes box held zero leaf at on =
       let same : box ≡ leaf.box = cc in

@@ -1,15 +1,15 @@
 -- The results of a script have one first fault, and none where they are supported.
-use Rattle.std.proofs.Common.{◌≡◌, ◌≢◌, ℕ, List, refl, sym, ◌∙◌, subst}
+use Rattle.std.proofs.Common.{◌≡◌, ℕ, List, sym, ◌∙◌, subst}
 use Rattle.model_line.specs.{declared.line.Line.Line, declared.script.Script.Script}
 use Rattle.model_logic.specs.Choice.{declared_box}
 use Rattle.cert_claims.specs.declared.check.no.NoFault.{NoFault}
 use Rattle.cert_claims.specs.{check.NoFaults.IsNoFault, check.Refutations.IsRefutation}
 use Rattle.cert_claims.specs.check.ScriptLaws.{wrong_refuses, wrong_once}
 use Rattle.judge_split.specs.declared.node.Node.{Node}
-use Rattle.judge_split.specs.{Trees.SplitTree, Leaves.leaves, Leaves.AreSound}
+use Rattle.judge_split.specs.{Trees.SplitTree, Leaves.leaves, Leaves.IsSoundSplit}
 use Rattle.cert_split.specs.text.Grammar.{SplitResult, tree, fails}
 use Rattle.cert_split.specs.declared.check.fault.ResultFault.{ResultFault}
-use Rattle.cert_split.specs.declared.check.fault.ResultFault.TheVariants.{NotHeld, No, Memory}
+use Rattle.cert_split.specs.declared.check.fault.ResultFault.TheVariants.{NotHeld, No}
 use Rattle.cert_split.specs.check.FirstLeaf.{IsTreeHeld, IsTreeNotHeld, IsFirstNotHeld}
 use Rattle.cert_split.specs.check.Results.{IsSupported, IsTreeFault, IsFailsFault, IsFaultOf}
 use Rattle.cert_split.specs.check.Results.{AreSupported, IsFirstFault}
@@ -31,8 +31,8 @@ module _ (law : OneNo) (line : Line) (script : Script) (k : ℕ) where
   tree_refused nodes n wrong held =
       let same : held.tree ≡ wrong.tree = one_tree held.tree wrong.tree nodes held.are wrong.are in
       let first = wrong.first in
-      let sound : AreSound line script k (declared_box line) wrong.tree =
-      subst (λ (t : SplitTree). AreSound line script k (declared_box line) t) same held.sound in
+      let sound : IsSoundSplit line script k (declared_box line) wrong.tree =
+      subst (λ (t : SplitTree). IsSoundSplit line script k (declared_box line) t) same held.sound in
       first.not_held
       (sound_held line script k wrong.tree (declared_box line) sound n first.leaf first.at first.yes)
 
@@ -44,56 +44,49 @@ module _ (law : OneNo) (line : Line) (script : Script) (k : ℕ) where
       (subst (λ (t : SplitTree). IsFirstNotHeld line script k (leaves (declared_box line) t) m) same
       b.first)
 
-  refused : (result : SplitResult) (f : ResultFault) → f ≢ Memory
-      → IsFaultOf line script k result f → IsSupported line script k result → ⊥
-  refused (tree nodes) (NotHeld j n) some wrong held = tree_refused nodes n wrong.1 held
-  refused (tree nodes) (No j fault) some wrong held = wrong
-  refused (tree nodes) Memory some wrong held = some refl
-  refused (fails values) (NotHeld j n) some wrong held = wrong
-  refused (fails values) (No j fault) some wrong held =
+  refused : (result : SplitResult) (f : ResultFault) → IsFaultOf line script k result f
+      → IsSupported line script k result → ⊥
+  refused (tree nodes) (NotHeld j n) wrong held = tree_refused nodes n wrong.1 held
+  refused (tree nodes) (No j fault) wrong held = wrong
+  refused (fails values) (NotHeld j n) wrong held = wrong
+  refused (fails values) (No j fault) wrong held =
       law.refused line script k values fault wrong.1 held
-  refused (fails values) Memory some wrong held = some refl
 
-  fails_once : (values : List ℕ) (f g : ResultFault) → f ≢ Memory → g ≢ Memory
-      → IsFailsFault line script k values f → IsFailsFault line script k values g → f ≡ g
-  fails_once values (NotHeld j n) g some other a b = absurd a
-  fails_once values Memory g some other a b = absurd (some refl)
-  fails_once values (No j v) (NotHeld l n) some other a b = absurd b
-  fails_once values (No j v) (No l w) some other a b =
+  fails_once : (values : List ℕ) (f g : ResultFault) → IsFailsFault line script k values f
+      → IsFailsFault line script k values g → f ≡ g
+  fails_once values (NotHeld j n) g a b = absurd a
+  fails_once values (No j v) (NotHeld l n) a b = absurd b
+  fails_once values (No j v) (No l w) a b =
       let terminal : j ≡ l = a.0 ∙ sym b.0 in
       let fault : v ≡ w = law.one line script k values v w a.1 b.1 in
       cc
-  fails_once values (No j v) Memory some other a b = absurd (other refl)
 
-  nodes_once : (nodes : List Node) (f g : ResultFault) → f ≢ Memory → g ≢ Memory
-      → IsTreeFault line script k nodes f → IsTreeFault line script k nodes g → f ≡ g
-  nodes_once nodes (No j v) g some other a b = absurd a
-  nodes_once nodes Memory g some other a b = absurd (some refl)
-  nodes_once nodes (NotHeld j n) (No l w) some other a b = absurd b
-  nodes_once nodes (NotHeld j n) Memory some other a b = absurd (other refl)
-  nodes_once nodes (NotHeld j n) (NotHeld l m) some other a b =
+  nodes_once : (nodes : List Node) (f g : ResultFault) → IsTreeFault line script k nodes f
+      → IsTreeFault line script k nodes g → f ≡ g
+  nodes_once nodes (No j v) g a b = absurd a
+  nodes_once nodes (NotHeld j n) (No l w) a b = absurd b
+  nodes_once nodes (NotHeld j n) (NotHeld l m) a b =
       let terminal : j ≡ l = a.0 ∙ sym b.0 in
       let leaf : n ≡ m = tree_once nodes n m a.1 b.1 in
       cc
 
-  fault_once : (result : SplitResult) (f g : ResultFault) → f ≢ Memory → g ≢ Memory
-      → IsFaultOf line script k result f → IsFaultOf line script k result g → f ≡ g
-  fault_once (tree nodes) f g some other a b = nodes_once nodes f g some other a b
-  fault_once (fails values) f g some other a b = fails_once values f g some other a b
+  fault_once : (result : SplitResult) (f g : ResultFault) → IsFaultOf line script k result f
+      → IsFaultOf line script k result g → f ≡ g
+  fault_once (tree nodes) f g a b = nodes_once nodes f g a b
+  fault_once (fails values) f g a b = fails_once values f g a b
 
 -- ---- the results of a script
 
 module _ (law : OneNo) (line : Line) (script : Script) (results : List SplitResult) where
-  pub results_refused : (f : ResultFault) → f ≢ Memory → IsFirstFault line script results f
+  pub results_refused : (f : ResultFault) → IsFirstFault line script results f
       → ¬ (AreSupported line script results)
-  results_refused f some first supported =
-      wrong_refuses (IsSupported line script) (IsFaultOf line script) (λ f. f ≢ Memory)
-      (λ k result f told h stands. refused law line script k result f told h stands) results f some
-      first supported
+  results_refused f first supported =
+      wrong_refuses (IsSupported line script) (IsFaultOf line script)
+      (λ k result f h stands. refused law line script k result f h stands) results f first supported
 
-  pub results_once : (f g : ResultFault) → f ≢ Memory → g ≢ Memory
-      → IsFirstFault line script results f → IsFirstFault line script results g → f ≡ g
-  results_once f g some other a b =
-      wrong_once (IsSupported line script) (IsFaultOf line script) (λ f. f ≢ Memory)
-      (λ k result f told h stands. refused law line script k result f told h stands) results
-      (λ k result f g. fault_once law line script k result f g) f g some other a b
+  pub results_once : (f g : ResultFault) → IsFirstFault line script results f
+      → IsFirstFault line script results g → f ≡ g
+  results_once f g a b =
+      wrong_once (IsSupported line script) (IsFaultOf line script)
+      (λ k result f h stands. refused law line script k result f h stands) results
+      (λ k result f g. fault_once law line script k result f g) f g a b

@@ -9,12 +9,12 @@ use Rattle.model_logic.specs.Choice.{Box, Choice, IsWithin, LeastFromOne, declar
 use Rattle.model_logic.specs.Histories.{History, IsLineHistory, Meets}
 use Rattle.judge_split.specs.Trees.{SplitTree, Yes, Undecided, Split, preorder, height, are_yes}
 use Rattle.judge_split.specs.Trees.{is_decided}
-use Rattle.judge_split.specs.{declared.node.Node.Node, Leaves.leaves, Leaves.AreSound}
+use Rattle.judge_split.specs.{declared.node.Node.Node, Leaves.leaves, Leaves.IsSoundSplit}
 use Rattle.cert_split.specs.text.Grammar.{SplitResult, tree, fails, AreTree}
-use Rattle.cert_split.specs.declared.check.fault.ResultFault.{ResultFault}
-use Rattle.cert_split.specs.declared.check.fault.ResultFault.TheVariants as wrong
-use Rattle.cert_split.specs.check.Results.{IsSupported, IsTold, IsTreeFault}
-use Rattle.cert_split.specs.{check.FirstLeaf.IsFirstNotHeld, check.Walks.IsWalkFault}
+use Rattle.cert_split.specs.declared.check.tree.NotHeld.{NotHeld}
+use Rattle.cert_split.specs.check.Results.{IsSupported, IsTold}
+use Rattle.cert_split.specs.check.FirstLeaf.{IsFirstNotHeld, IsTreeNotHeld}
+use Rattle.cert_split.specs.check.Walks.{IsNotHeldFrom}
 
 -- ---- few nodes
 
@@ -49,21 +49,18 @@ tree_few line nodes are =
 
 -- ---- a whole tree
 
-pub whole_fault : (line : Line) (script : Script) (k : ℕ) (nodes : List Node) (t : SplitTree)
-    (f : ResultFault) → nodes ≡ preorder t
-    → IsWalkFault line script k (declared_box line) t 0 f → IsTreeFault line script k nodes f
-whole_fault line script k nodes t (wrong.NotHeld j n) are h =
-    let place : h.1.place ≡ n = omega (arith, h.1.is) in (
-      h.0,
-      record {
-        tree = t;
-        are = are;
-        first = subst (λ (m : ℕ). IsFirstNotHeld line script k (leaves (declared_box line) t) m)
-            place h.1.leaf;
-      },
-    )
-whole_fault line script k nodes t (wrong.No j fault) are h = absurd h
-whole_fault line script k nodes t wrong.Memory are h = tt
+pub whole_not_held : (line : Line) (script : Script) (k : ℕ) (nodes : List Node) (t : SplitTree)
+    (fault : NotHeld) → nodes ≡ preorder t
+    → IsNotHeldFrom line script k (declared_box line) t 0 fault
+    → IsTreeNotHeld line script k nodes fault.leaf
+whole_not_held line script k nodes t fault are h =
+    let place : h.place ≡ fault.leaf = omega (arith, h.is) in
+    record {
+      tree = t;
+      are = are;
+      first = subst (λ (m : ℕ). IsFirstNotHeld line script k (leaves (declared_box line) t) m) place
+          h.leaf;
+    }
 
 -- ---- what is supported is so
 
@@ -79,7 +76,7 @@ decided_yes (Split param mid first second) =
 abbrev pub Speaks : Type 0
 Speaks = (line : Line) (script : Script) (k : ℕ) (box : Box) (t : SplitTree)
     → script.deadline < line.horizon → k < terminal_count line → LeastFromOne line box
-    → AreSound line script k box t → IsTrue (are_yes t) → (choice : Choice) (h : History)
+    → IsSoundSplit line script k box t → IsTrue (are_yes t) → (choice : Choice) (h : History)
     → IsWithin line choice box → IsLineHistory line script choice h → Meets line script k h
 
 pub supported_told : Speaks → (line : Line) (script : Script) (k : ℕ) (result : SplitResult)

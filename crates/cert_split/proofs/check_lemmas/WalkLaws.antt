@@ -3,6 +3,8 @@ use Rattle.std.proofs.Common.{◌≡◌, ◌<◌, ◌≤◌, ◌+◌, ℕ, List,
 use Rattle.std.proofs.Common.{true, refl, sym, ◌∙◌, ap, subst, arith, length-append, append_assoc}
 use Rattle.std.proofs.Math.Seq.{drop-append_seam}
 use Rattle.std.proofs.lemmas.List.{drop-drop, get_or-drop, length-drop}
+use Rattle.base_memory.specs.{Gives.OfFault, declared.stopped.Stopped.Stopped}
+use Rattle.base_memory.specs.declared.stopped.Stopped.TheVariants as stopped
 use Rattle.model_line.specs.{declared.line.Line.Line, declared.script.Script.Script}
 use Rattle.model_line.specs.SetBounds.{SameButParams}
 use Rattle.model_logic.specs.Choice.{Box, declared_box}
@@ -10,11 +12,10 @@ use Rattle.model_logic.specs.HeldOver.{IsHeldOver}
 use Rattle.judge_split.specs.declared.node.Node.{Node}
 use Rattle.judge_split.specs.declared.node.Node.TheVariants as node
 use Rattle.judge_split.specs.Trees.{SplitTree, Yes, Undecided, Split, preorder}
-use Rattle.judge_split.specs.Leaves.{leaves, lower_half, upper_half, CanSplit, Splits}
-use Rattle.cert_split.specs.declared.check.fault.ResultFault.{ResultFault}
-use Rattle.cert_split.specs.declared.check.fault.ResultFault.TheVariants as wrong
-use Rattle.cert_split.specs.declared.check.tree.Passed.{Passed}
-use Rattle.cert_split.specs.check.Walks.{IsWalked, IsNotHeldFrom, IsWalkFault, IsLeafFault}
+use Rattle.judge_split.specs.Leaves.{leaves, Splits}
+use Rattle.model_logic.specs.Boxes.{CanSplit, lower_half, upper_half}
+use Rattle.cert_split.specs.declared.check.tree.{NotHeld.NotHeld, Passed.Passed}
+use Rattle.cert_split.specs.check.Walks.{IsWalked, IsNotHeldFrom, IsLeafFault}
 use Rattle.cert_split.proofs.check_lemmas.FirstLeafLaws.{sound_held, not_held_first, not_held_second}
 
 -- ---- the root
@@ -148,11 +149,12 @@ module _ (line : Line) (script : Script) (k : ℕ) where
   }
   walked_undecided (Split p m first second) box passed walked is nodes count = absurd (cc)
 
-  yes_not_held : (tree : SplitTree) (box : Box) (leaf : ℕ) → root_of tree ≡ node.Yes
-      → ¬ (IsHeldOver line script k box) → IsNotHeldFrom line script k box tree leaf leaf
-  yes_not_held Yes box leaf is never = record {
+  yes_not_held : (tree : SplitTree) (box : Box) (leaf : ℕ) (fault : NotHeld)
+      → root_of tree ≡ node.Yes → fault.leaf ≡ leaf → ¬ (IsHeldOver line script k box)
+      → IsNotHeldFrom line script k box tree leaf fault
+  yes_not_held Yes box leaf fault is at never = record {
     place = 0;
-    is = omega arith;
+    is = omega (arith, at);
     leaf = record {
       leaf = record { box = box; yes = true };
       at = refl;
@@ -161,21 +163,18 @@ module _ (line : Line) (script : Script) (k : ℕ) where
       before = λ i earlier lt at yes. absurd (omega (arith, lt));
     };
   }
-  yes_not_held Undecided box leaf is never = absurd (cc)
-  yes_not_held (Split p m first second) box leaf is never = absurd (cc)
+  yes_not_held Undecided box leaf fault is at never = absurd (cc)
+  yes_not_held (Split p m first second) box leaf fault is at never = absurd (cc)
 
   -- what is wrong with the leaf of a part is wrong with the tree that it is
-  pub fault_leaf : (part : Line) (tree : SplitTree) (box : Box) (leaf : ℕ) (f : ResultFault)
+  pub fault_leaf : (part : Line) (tree : SplitTree) (box : Box) (leaf : ℕ)
+      (why : Stopped NotHeld)
       → (IsHeldOver line script k box → IsHeldOver part script k (declared_box part))
-      → root_of tree ≡ node.Yes → IsLeafFault part script k leaf f
-      → IsWalkFault line script k box tree leaf f
-  fault_leaf part tree box leaf (wrong.NotHeld j n) back is h = (
-    h.0,
-    subst (λ (m : ℕ). IsNotHeldFrom line script k box tree leaf m) (sym h.1.0)
-        (yes_not_held tree box leaf is (λ held. h.1.1 (back held))),
-  )
-  fault_leaf part tree box leaf (wrong.No j fault) back is h = absurd h
-  fault_leaf part tree box leaf wrong.Memory back is h = tt
+      → root_of tree ≡ node.Yes → OfFault (IsLeafFault part script k leaf) why
+      → OfFault (IsNotHeldFrom line script k box tree leaf) why
+  fault_leaf part tree box leaf (stopped.Fault fault) back is h =
+      yes_not_held tree box leaf fault is h.0 (λ held. h.1 (back held))
+  fault_leaf part tree box leaf stopped.Memory back is h = tt
 
   -- ---- a split
 
@@ -211,36 +210,27 @@ module _ (line : Line) (script : Script) (k : ℕ) where
       sound = (can, (one.sound, two.sound));
     }
 
-    pub fault_first : (leaf : ℕ) (f : ResultFault)
-        → IsWalkFault line script k (lower_half box param mid) first leaf f
-        → IsWalkFault line script k box (Split param mid first second) leaf f
-    fault_first leaf (wrong.NotHeld j n) h = (
-      h.0,
-      record {
-        place = h.1.place;
-        is = h.1.is;
-        leaf = not_held_first line script k (leaves lower first) (leaves upper second) h.1.place
-            h.1.leaf;
-      },
-    )
-    fault_first leaf (wrong.No j fault) h = h
-    fault_first leaf wrong.Memory h = tt
+    pub fault_first : (leaf : ℕ) (why : Stopped NotHeld)
+        → OfFault (IsNotHeldFrom line script k (lower_half box param mid) first leaf) why
+        → OfFault (IsNotHeldFrom line script k box (Split param mid first second) leaf) why
+    fault_first leaf (stopped.Fault fault) h = record {
+      place = h.place;
+      is = h.is;
+      leaf = not_held_first line script k (leaves lower first) (leaves upper second) h.place h.leaf;
+    }
+    fault_first leaf stopped.Memory h = tt
 
-    pub fault_second : (below between : Passed) (f : ResultFault)
+    pub fault_second : (below between : Passed) (why : Stopped NotHeld)
         → IsWalked line script k (lower_half box param mid) first below between
-        → IsWalkFault line script k (upper_half box param mid) second between.leaves f
-        → IsWalkFault line script k box (Split param mid first second) below.leaves f
-    fault_second below between (wrong.NotHeld j n) one h = (
-      h.0,
-      record {
-        place = length (leaves lower first) + h.1.place;
-        is = omega (arith, h.1.is, one.leaves);
-        leaf = not_held_second line script k (leaves lower first) (leaves upper second) h.1.place
-            (sound_held line script k first lower one.sound) h.1.leaf;
-      },
-    )
-    fault_second below between (wrong.No j fault) one h = h
-    fault_second below between wrong.Memory one h = tt
+        → OfFault (IsNotHeldFrom line script k (upper_half box param mid) second between.leaves) why
+        → OfFault (IsNotHeldFrom line script k box (Split param mid first second) below.leaves) why
+    fault_second below between (stopped.Fault fault) one h = record {
+      place = length (leaves lower first) + h.place;
+      is = omega (arith, h.is, one.leaves);
+      leaf = not_held_second line script k (leaves lower first) (leaves upper second) h.place
+          (sound_held line script k first lower one.sound) h.leaf;
+    }
+    fault_second below between stopped.Memory one h = tt
 
 -- ---- parts
 

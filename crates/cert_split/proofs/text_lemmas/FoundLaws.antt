@@ -11,15 +11,15 @@ use Rattle.judge_split.specs.{declared.node.Node.Node, declared.node.Outcome.Out
 use Rattle.judge_split.specs.declared.node.Outcome.TheVariants as outcome
 use Rattle.judge_split.specs.Trees.{SplitTree, height}
 use Rattle.judge_split.specs.Search.{Tree, Fails, IsSearch}
-use Rattle.judge_split.specs.{Leaves.Splits, Leaves.AreSound, Found.IsFound, Found.AreNodes}
+use Rattle.judge_split.specs.{Leaves.Splits, Leaves.IsSoundSplit, Found.IsFound, Found.AreNodes}
 use Rattle.cert_split.specs.text.Grammar.{AreTree, IsSplitResult}
 use Rattle.cert_split.specs.{text.Known.Known, text.Piece.IsPrintable, text.Piece.written_as}
 
 -- what is known of searches
 pub record Searches (line : Line) (script : Script) (k : ℕ) : Type 0 where
   pub sound : (n : ℕ) (tree : SplitTree) → IsSearch script k n line (Tree tree)
-      → AreSound line script k (declared_box line) tree
-  pub splits : (tree : SplitTree) → AreSound line script k (declared_box line) tree
+      → IsSoundSplit line script k (declared_box line) tree
+  pub splits : (tree : SplitTree) → IsSoundSplit line script k (declared_box line) tree
       → Splits line (declared_box line) tree
   pub deep : (n : ℕ) (tree : SplitTree) → IsSearch script k n line (Tree tree) → height tree ≤ n
   pub fails : (n : ℕ) (timing : TimingValues) → IsSearch script k n line (Fails timing)

@@ -11,7 +11,8 @@ use Rattle.model_logic.specs.Choice.{Box, declared_box}
 use Rattle.judge_split.specs.declared.node.Node.{Node}
 use Rattle.judge_split.specs.declared.node.Node.TheVariants as node
 use Rattle.model_line.specs.NamesByNumber.{parameter_name}
-use Rattle.judge_split.specs.{Leaves.CanSplit, Parts.IsPart}
+use Rattle.judge_split.specs.{Parts.IsPart}
+use Rattle.model_logic.specs.Boxes.{CanSplit}
 use Rattle.cert_split.specs.text.Known.{Known}
 use Rattle.cert_split.specs.text.Grammar.{Said, says_nothing, says_fails, says_node, MayStand}
 use Rattle.cert_split.specs.text.Grammar.{IsNode}

@@ -1,5 +1,5 @@
 -- Trees printed one after another.
-use Rattle.std.proofs.Common.{◌≡◌, ◌+◌, ℕ, List, [], ◌∷◌, ◌++◌}
+use Rattle.std.proofs.Common.{◌≡◌, ℕ, List, [], ◌∷◌, ◌++◌}
 use Rattle.std.proofs.Common.{sym, subst, append_assoc}
 use Rattle.std.proofs.lemmas.List.Elements.{All-nil, All-cons, All-append}
 use Rattle.std.specs.List.{All}
@@ -9,28 +9,29 @@ use Rattle.cert_claims.specs.text.Text.{fed}
 use Rattle.judge_split.specs.declared.node.Node.{Node}
 use Rattle.judge_split.specs.declared.node.Node.TheVariants as node
 use Rattle.judge_split.specs.Trees.{SplitTree, Yes, Undecided, Split, preorder}
-use Rattle.judge_split.specs.Leaves.{Splits, lower_half, upper_half}
+use Rattle.judge_split.specs.Leaves.{Splits}
+use Rattle.model_logic.specs.Boxes.{lower_half, upper_half}
 use Rattle.cert_split.specs.text.Grammar.{SplitResult, tree_text, AreTree}
-use Rattle.cert_split.specs.text.Text.{IsKnown, result_text, trees_text}
+use Rattle.cert_split.specs.text.Text.{IsNodeOfLine, result_text, trees_text}
 
 -- the splits of a tree that splits a box name parameters
 known_preorder : (line : Line) (box : Box) (t : SplitTree) → Splits line box t
-    → All (IsKnown line) (preorder t)
+    → All (IsNodeOfLine line) (preorder t)
 known_preorder line box Yes splits =
-    All-cons (IsKnown line) node.Yes [] tt (All-nil (IsKnown line))
+    All-cons (IsNodeOfLine line) node.Yes [] tt (All-nil (IsNodeOfLine line))
 known_preorder line box Undecided splits =
-    All-cons (IsKnown line) node.Undecided [] tt (All-nil (IsKnown line))
+    All-cons (IsNodeOfLine line) node.Undecided [] tt (All-nil (IsNodeOfLine line))
 known_preorder line box (Split param mid first second) splits =
-    All-cons (IsKnown line) (node.Split param mid) (preorder first ++ preorder second)
+    All-cons (IsNodeOfLine line) (node.Split param mid) (preorder first ++ preorder second)
     splits.0.exists
-    (All-append (IsKnown line) (preorder first) (preorder second)
+    (All-append (IsNodeOfLine line) (preorder first) (preorder second)
     (known_preorder line (lower_half box param mid) first splits.1.0)
     (known_preorder line (upper_half box param mid) second splits.1.1))
 
 pub known_nodes : (line : Line) (nodes : List Node) → AreTree line nodes
-    → All (IsKnown line) nodes
+    → All (IsNodeOfLine line) nodes
 known_nodes line nodes is =
-    subst (λ (l : List Node). All (IsKnown line) l) (sym is.are)
+    subst (λ (l : List Node). All (IsNodeOfLine line) l) (sym is.are)
     (known_preorder line _ is.tree is.splits)
 
 -- the lines of a terminal

@@ -4,12 +4,13 @@ use Rattle.std.proofs.Common.{arith, append_assoc}
 use Rattle.std.proofs.lemmas.List.{map-append}
 use Rattle.model_line.specs.declared.line.Line.{Line}
 use Rattle.model_logic.specs.Choice.{Box}
+use Rattle.base_memory.specs.declared.stopped.Stopped.{Stopped}
 use Rattle.base_text.specs.declared.lines.fault.TextFault.{TextFault}
 use Rattle.base_text.specs.{lines.LineLaws.goes_then, lines.Grammar.IsFault}
 use Rattle.judge_split.specs.declared.node.Node.{Node}
 use Rattle.judge_split.specs.declared.node.Node.TheVariants as node
 use Rattle.judge_split.specs.Trees.{Yes, Undecided, Split, preorder}
-use Rattle.judge_split.specs.Leaves.{lower_half, upper_half}
+use Rattle.model_logic.specs.Boxes.{lower_half, upper_half}
 use Rattle.cert_split.specs.text.Reading.{IsBelow, IsOver}
 use Rattle.cert_split.specs.text.Grammar.{Place, node_over, Said, says_node, Stands, opens, below}
 use Rattle.cert_split.specs.text.Grammar.{MayStand, MaySplit, grammar_of}
@@ -24,7 +25,7 @@ split_can line n box root param mid is may =
 
 -- below a split, a tree over each half is expected
 pub halves_fault : (line : Line) (n : ℕ) (box : Box) (root : Node) (param mid : ℕ)
-    (later : List Place) (text : List ℕ) (a : ℕ) (f : TextFault)
+    (later : List Place) (text : List ℕ) (a : ℕ) (f : Stopped TextFault)
     → root ≡ node.Split param mid
     → IsFault (grammar_of line) (node_over (n - 1) (lower_half box param mid)
     ∷ (node_over (n - 1) (upper_half box param mid) ∷ later)) text a f

@@ -17,7 +17,8 @@ use Rattle.cert_claims.specs.text.Text.{fed}
 use Rattle.judge_split.specs.declared.node.Node.{Node}
 use Rattle.judge_split.specs.declared.node.Node.TheVariants as node
 use Rattle.judge_split.specs.Trees.{SplitTree, Yes, Undecided, Split, preorder, height}
-use Rattle.judge_split.specs.Leaves.{Splits, lower_half, upper_half}
+use Rattle.judge_split.specs.Leaves.{Splits}
+use Rattle.model_logic.specs.Boxes.{lower_half, upper_half}
 use Rattle.base_text.specs.{lines.Lines.Lines, lines.NamedLaws.whole_append}
 use Rattle.cert_split.specs.text.Grammar.{SplitResult, tree, fails, IsSplitResult, HasOneEach}
 use Rattle.cert_split.specs.text.Grammar.{deepest}

@@ -9,7 +9,7 @@ use Rattle.cert_split.specs.declared.check.fault.ResultFault.{ResultFault}
 use Rattle.cert_split.specs.declared.check.fault.ResultFault.TheVariants as wrong
 use Rattle.cert_split.specs.declared.check.fault.SplitFault.{SplitFault}
 use Rattle.cert_split.specs.declared.check.fault.SplitFault.TheVariants.{Line as Line', NotHeld}
-use Rattle.cert_split.specs.declared.check.fault.SplitFault.TheVariants.{Outside, Passes, Memory}
+use Rattle.cert_split.specs.declared.check.fault.SplitFault.TheVariants.{Outside, Passes}
 use Rattle.cert_split.specs.check.Counts.{all_verdicts}
 use Rattle.cert_split.specs.check.Results.{AreSupported, AreTold, IsFirstFault}
 
@@ -21,8 +21,8 @@ IsAccepted line scripts bytes counts =
     scripts counts
 
 -- whatever the text says of each script and terminal is so
-abbrev pub IsSound : Line → List Script → List ℕ → Type 0
-IsSound line scripts bytes =
+abbrev pub IsSoundText : Line → List Script → List ℕ → Type 0
+IsSoundText line scripts bytes =
     (parts : List (List SplitResult)) → IsSplitText line scripts parts bytes
     → EachBelow (AreTold line) scripts parts (length scripts)
 
@@ -33,8 +33,7 @@ IsScriptFault line scripts bytes i fault =
     IsFirstWrong (λ parts. IsSplitText line scripts parts bytes) (AreSupported line)
     (IsFirstFault line) scripts i fault
 
--- The first fault: the first line that leaves the grammar, else that of the first script that has
--- one. Want of memory says nothing.
+-- the first fault: the first line that leaves the grammar, else that of the first script that has one
 abbrev pub IsSplitFault : Line → List Script → List ℕ → SplitFault → Type 0
 IsSplitFault line scripts bytes (Line' n) = LeavesGrammar line scripts bytes n
 IsSplitFault line scripts bytes (NotHeld i k n) =
@@ -43,7 +42,6 @@ IsSplitFault line scripts bytes (Outside i k p value) =
     IsScriptFault line scripts bytes i (wrong.No k (no.Outside p value))
 IsSplitFault line scripts bytes (Passes i k t) =
     IsScriptFault line scripts bytes i (wrong.No k (no.Passes t))
-IsSplitFault line scripts bytes Memory = Unit {0}
 
 -- ---- as the code tells the fault of a script
 
@@ -51,4 +49,3 @@ abbrev pub fault_in : ℕ → ResultFault → SplitFault
 fault_in i (wrong.NotHeld k n) = NotHeld i k n
 fault_in i (wrong.No k (no.Outside p value)) = Outside i k p value
 fault_in i (wrong.No k (no.Passes t)) = Passes i k t
-fault_in i wrong.Memory = Memory

@@ -3,7 +3,7 @@ use Rattle.std.specs.Prelude.{◌≡◌, ◌<◌, ℕ, List, Some, slice_get, Is
 use Rattle.model_line.specs.{declared.script.Script.Script, declared.line.Line.Line}
 use Rattle.model_logic.specs.{HeldOver.IsHeldOver, Choice.declared_box}
 use Rattle.judge_split.specs.Trees.{SplitTree, preorder}
-use Rattle.judge_split.specs.{declared.node.Node.Node, Leaves.Leaf, Leaves.leaves, Leaves.AreSound}
+use Rattle.judge_split.specs.{declared.node.Node.Node, Leaves.Leaf, Leaves.leaves, Leaves.IsSoundSplit}
 
 -- Of all leaves, numbered from 0, this is the first that is yes where the rule of terminal k is not
 -- held over its box.
@@ -21,7 +21,7 @@ pub record IsFirstNotHeld (line : Line) (script : Script) (k : ℕ) (all : List 
 pub record IsTreeHeld (line : Line) (script : Script) (k : ℕ) (nodes : List Node) : Type 0 where
   pub tree : SplitTree
   pub are : nodes ≡ preorder tree
-  pub sound : AreSound line script k (declared_box line) tree
+  pub sound : IsSoundSplit line script k (declared_box line) tree
 
 -- these are the nodes of a tree, of which this leaf is the first that is yes and not held
 pub record IsTreeNotHeld (line : Line) (script : Script) (k : ℕ) (nodes : List Node) (leaf : ℕ)

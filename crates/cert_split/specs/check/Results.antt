@@ -7,7 +7,7 @@ use Rattle.cert_claims.specs.{check.NoFaults.IsNoFault, check.Refutations.IsRefu
 use Rattle.cert_claims.specs.check.Firsts.{EachOf, IsWrongFirst}
 use Rattle.judge_split.specs.declared.node.Node.{Node}
 use Rattle.cert_split.specs.declared.check.fault.ResultFault.{ResultFault}
-use Rattle.cert_split.specs.declared.check.fault.ResultFault.TheVariants.{NotHeld, No, Memory}
+use Rattle.cert_split.specs.declared.check.fault.ResultFault.TheVariants.{NotHeld, No}
 use Rattle.cert_split.specs.{check.Counts.is_yes_tree, check.FirstLeaf.IsTreeHeld}
 use Rattle.cert_split.specs.{check.FirstLeaf.IsTreeNotHeld}
 use Rattle.cert_split.specs.text.Grammar.{SplitResult, tree, fails}
@@ -20,17 +20,15 @@ abbrev pub IsSupported : Line → Script → ℕ → SplitResult → Type 0
 IsSupported line script k (tree nodes) = IsTreeHeld line script k nodes
 IsSupported line script k (fails values) = IsRefutation line script k values
 
--- what is wrong with a tree of terminal k: a yes leaf is not held. Want of memory says nothing.
+-- what is wrong with a tree of terminal k: a yes leaf is not held
 abbrev pub IsTreeFault : Line → Script → ℕ → List Node → ResultFault → Type 0
 IsTreeFault line script k nodes (NotHeld j n) = (j ≡ k) × IsTreeNotHeld line script k nodes n
 IsTreeFault line script k nodes (No j fault) = ⊥
-IsTreeFault line script k nodes Memory = Unit {0}
 
 -- what is wrong with a `no` of terminal k, which has these numbers
 abbrev pub IsFailsFault : Line → Script → ℕ → List ℕ → ResultFault → Type 0
 IsFailsFault line script k values (NotHeld j n) = ⊥
 IsFailsFault line script k values (No j fault) = (j ≡ k) × IsNoFault line script k values fault
-IsFailsFault line script k values Memory = Unit {0}
 
 -- what is wrong with the result of terminal k
 abbrev pub IsFaultOf : Line → Script → ℕ → SplitResult → ResultFault → Type 0

@@ -3,12 +3,11 @@ use Rattle.std.specs.Prelude.{◌≡◌, ◌+◌, ◌++◌, ℕ, List, length}
 use Rattle.model_line.specs.{declared.line.Line.Line, declared.script.Script.Script}
 use Rattle.model_logic.specs.Choice.{Box, declared_box}
 use Rattle.model_logic.specs.HeldOver.{IsHeldOver}
-use Rattle.judge_split.specs.Leaves.{leaves, Splits, AreSound}
+use Rattle.judge_split.specs.Leaves.{leaves, Splits, IsSoundSplit}
 use Rattle.judge_split.specs.{declared.node.Node.Node, Trees.SplitTree, Trees.preorder}
 use Rattle.judge_split.specs.{Parts.IsPart}
-use Rattle.cert_split.specs.declared.check.fault.ResultFault.{ResultFault}
-use Rattle.cert_split.specs.declared.check.fault.ResultFault.TheVariants as wrong
-use Rattle.cert_split.specs.{declared.check.tree.Passed.Passed, check.FirstLeaf.IsFirstNotHeld}
+use Rattle.cert_split.specs.declared.check.tree.{NotHeld.NotHeld, Passed.Passed}
+use Rattle.cert_split.specs.check.FirstLeaf.{IsFirstNotHeld}
 
 -- the nodes begin with those of a tree that splits the box of which this is a part
 pub record BeginWithTree (part : Line) (nodes : List Node) : Type 0 where
@@ -25,25 +24,16 @@ pub record IsWalked (line : Line) (script : Script) (k : ℕ) (box : Box) (tree 
     (passed walked : Passed) : Type 0 where
   pub nodes : walked.nodes ≡ passed.nodes + length (preorder tree)
   pub leaves : walked.leaves ≡ passed.leaves + length (leaves box tree)
-  pub sound : AreSound line script k box tree
+  pub sound : IsSoundSplit line script k box tree
 
--- a yes leaf of it is not held, where its first leaf has number `first`
+-- this yes leaf of it is not held, where its first leaf has number `first`
 pub record IsNotHeldFrom (line : Line) (script : Script) (k : ℕ) (box : Box) (tree : SplitTree)
-    (first number : ℕ) : Type 0 where
+    (first : ℕ) (fault : NotHeld) : Type 0 where
   pub place : ℕ
-  pub is : number ≡ first + place
+  pub is : fault.leaf ≡ first + place
   pub leaf : IsFirstNotHeld line script k (leaves box tree) place
 
--- what stops a walk; want of memory says nothing
-abbrev pub IsWalkFault : Line → Script → ℕ → Box → SplitTree → ℕ → ResultFault → Type 0
-IsWalkFault line script k box tree first (wrong.NotHeld j n) =
-    (j ≡ k) × IsNotHeldFrom line script k box tree first n
-IsWalkFault line script k box tree first (wrong.No j fault) = ⊥
-IsWalkFault line script k box tree first wrong.Memory = Unit {0}
-
--- what stops a walk at a leaf of this number, which is the declared box of a line
-abbrev pub IsLeafFault : Line → Script → ℕ → ℕ → ResultFault → Type 0
-IsLeafFault part script k leaf (wrong.NotHeld j n) =
-    (j ≡ k) × ((n ≡ leaf) × ¬ (IsHeldOver part script k (declared_box part)))
-IsLeafFault part script k leaf (wrong.No j fault) = ⊥
-IsLeafFault part script k leaf wrong.Memory = Unit {0}
+-- the leaf of this number, which is the declared box of a line, is not held
+abbrev pub IsLeafFault : Line → Script → ℕ → ℕ → NotHeld → Type 0
+IsLeafFault part script k leaf fault =
+    (fault.leaf ≡ leaf) × ¬ (IsHeldOver part script k (declared_box part))

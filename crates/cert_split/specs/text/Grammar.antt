@@ -14,7 +14,8 @@ use Rattle.cert_claims.specs.text.Grammar.{terminal_names}
 use Rattle.judge_split.specs.declared.node.Node.{Node}
 use Rattle.judge_split.specs.declared.node.Node.TheVariants as node
 use Rattle.judge_split.specs.Trees.{SplitTree, preorder, height}
-use Rattle.judge_split.specs.Leaves.{CanSplit, Splits, lower_half, upper_half}
+use Rattle.judge_split.specs.Leaves.{Splits}
+use Rattle.model_logic.specs.Boxes.{CanSplit, lower_half, upper_half}
 
 -- ---- what the text says
 

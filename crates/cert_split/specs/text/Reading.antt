@@ -1,16 +1,15 @@
 -- Split trees as they are read.
 use Rattle.std.specs.Prelude.{◌≡◌, ◌≤◌, ◌++◌, ℕ, List, [], ◌∷◌, map, Vec}
 use Rattle.std.specs.declared.alloc.Global.{Global}
-use Rattle.model_line.specs.{declared.line.Line.Line, declared.script.Script.Script}
+use Rattle.model_line.specs.declared.line.Line.{Line}
 use Rattle.model_logic.specs.Choice.{Box}
-use Rattle.base_text.specs.{declared.lines.fault.TextFault.TextFault, lines.Grammar.Reads, lines.Grammar.IsTextFault}
+use Rattle.base_text.specs.lines.Grammar.{Reads}
 use Rattle.judge_split.specs.declared.node.Node.{Node}
 use Rattle.judge_split.specs.{Trees.SplitTree, Trees.preorder, Trees.height, Leaves.Splits}
 use Rattle.cert_split.specs.declared.text.claim.SplitClaim.{SplitClaim}
 use Rattle.cert_split.specs.declared.text.claim.SplitClaim.TheVariants as claim
 use Rattle.cert_split.specs.text.Grammar.{SplitResult, tree, fails, Place, says_node, grammar_of}
-use Rattle.cert_split.specs.text.Grammar.{node_over, below, script_parts, head_text}
-use Rattle.cert_claims.specs.text.Grammar.{end_text}
+use Rattle.cert_split.specs.text.Grammar.{node_over, below}
 
 -- a result as the reader answers it, and those of a script
 abbrev pub result_in : SplitClaim → SplitResult
@@ -40,8 +39,3 @@ pub record IsOver (line : Line) (n : ℕ) (box : Box) (old new : List Node)
   pub low : height tree ≤ n
   pub reads : Reads (grammar_of line) (node_over n box ∷ []) (map says_node (preorder tree)) later
       text first rest next
-
--- the fault of a whole text: the first line that leaves the grammar
-abbrev pub IsSplitTextFault : Line → List Script → List ℕ → TextFault → Type 0
-IsSplitTextFault line scripts bytes f =
-    IsTextFault (script_parts line) head_text scripts end_text bytes f

@@ -10,10 +10,10 @@ use Rattle.judge_split.specs.declared.node.Node.TheVariants as node
 use Rattle.cert_split.specs.text.Grammar.{SplitResult, tree, fails, head_text, tree_text, node_text}
 
 -- a split names a parameter of the line
-abbrev pub IsKnown : Line → Node → Type 0
-IsKnown line node.Yes = Unit {0}
-IsKnown line node.Undecided = Unit {0}
-IsKnown line (node.Split param mid) = param < param_count line
+abbrev pub IsNodeOfLine : Line → Node → Type 0
+IsNodeOfLine line node.Yes = Unit {0}
+IsNodeOfLine line node.Undecided = Unit {0}
+IsNodeOfLine line (node.Split param mid) = param < param_count line
 
 -- a line for each node
 abbrev pub nodes_text : Line → List Node → List ℕ

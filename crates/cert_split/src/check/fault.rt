@@ -4,33 +4,20 @@ ghost use Rattle.std.specs.Prelude.{◌≡◌};
 ghost use Rattle.cert_split.specs.check.Check.{fault_in};
 
 use cert_claims::check::NoFault;
-use model_line::Memory;
 
 /// What is wrong with a script's result at a terminal.
-#[derive(Clone, Copy)]
+#[derive(Clone, Copy, Drop)]
 pub enum ResultFault {
     /// A `yes` of the tree whose rule is not held over the leaf's part of the box. Leaves are
     /// numbered from 0 in the order of the text, whatever they say.
     NotHeld { terminal: u32, leaf: u32 },
     /// The numbers of a `no` do not refute its obligation.
     No { terminal: u32, fault: NoFault },
-    /// Memory ran out. Nothing else is answered by it.
-    Memory,
-}
-
-impl From<Memory> for ResultFault {
-    ghost use Rattle.cert_split.specs.declared.check.fault.ResultFault.{ResultFault};
-
-    ghost from_gives = { λ _ fault. fault ≡ ResultFault.Memory };
-
-    fn from(_memory: Memory) -> ResultFault {
-        ResultFault::Memory
-    }
 }
 
 /// The first fault of a text of split trees: of the text itself, else of the first script one of
 /// whose results does not stand. Scripts and terminals are told by their places.
-#[derive(Clone, Copy)]
+#[derive(Clone, Copy, Drop)]
 pub enum SplitFault {
     /// The first line, counted from 1, that leaves the grammar.
     Line(u32),
@@ -54,8 +41,6 @@ pub enum SplitFault {
         terminal: u32,
         tick: u32,
     },
-    /// Memory ran out. Nothing else is answered by it.
-    Memory,
 }
 
 /// The fault of a script's results, told with the script.
@@ -81,6 +66,5 @@ pub(crate) fn in_script(script: u32, fault: ResultFault) -> SplitFault
                 tick,
             },
         },
-        ResultFault::Memory => SplitFault::Memory,
     }
 }

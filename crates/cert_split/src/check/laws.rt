@@ -1,6 +1,6 @@
 //! The laws of acceptance.
 
-ghost use Rattle.std.specs.Prelude.{◌≡◌, ◌≢◌, ℕ, List, length};
+ghost use Rattle.std.specs.Prelude.{◌≡◌, ℕ, List, length};
 ghost use Rattle.std.specs.List.{All};
 ghost use Rattle.model_line.specs.{Fits.Fits, Parameters.terminal_count, declared.line.Line.Line};
 ghost use Rattle.model_line.specs.declared.script.Script.{Script};
@@ -8,9 +8,8 @@ ghost use Rattle.cert_claims.specs.declared.check.counts.Counts.{Counts};
 ghost use Rattle.cert_split.specs.declared.check.fault.SplitFault.{SplitFault};
 ghost use Rattle.cert_claims.specs.check.ScriptLaws.{IsOneText, AreApart};
 ghost use Rattle.cert_split.specs.text.Grammar.{IsSplitText, LeavesGrammar, SplitResult};
-ghost use Rattle.cert_split.specs.declared.check.fault.ResultFault.{ResultFault};
 ghost use Rattle.cert_split.specs.check.Results.{AreSupported, AreTold, IsFirstFault};
-ghost use Rattle.cert_split.specs.check.Check.{IsAccepted, IsSound, IsSplitFault};
+ghost use Rattle.cert_split.specs.check.Check.{IsAccepted, IsSoundText, IsSplitFault};
 
 use crate::text::{a_split_text_has_one_meaning, a_split_text_leaves_at_one_line};
 use cert_claims::check::a_no_has_one_fault;
@@ -25,7 +24,7 @@ fn texts_and_results_are_told_apart()
         IsOneText (λ parts. IsSplitText line scripts parts bytes)
         (LeavesGrammar line scripts bytes) }
     ensures results { (line : Line) →
-        AreApart (AreSupported line) (IsFirstFault line) (λ fault. fault ≢ ResultFault.Memory) }
+        AreApart (AreSupported line) (IsFirstFault line) }
 {
     a_no_has_one_fault();
     a_split_text_has_one_meaning();
@@ -36,8 +35,7 @@ fn texts_and_results_are_told_apart()
 /// `check_split` is good exactly where there is none, but for want of memory.
 pub fn a_fault_refuses_the_split_text()
     ensures { (line : Line) (scripts : List Script) (bytes : List ℕ) (counts : Counts)
-        (fault : SplitFault) → fault ≢ SplitFault.Memory →
-        IsSplitFault line scripts bytes fault → ¬ (IsAccepted line scripts bytes counts) }
+        (fault : SplitFault) → IsSplitFault line scripts bytes fault → ¬ (IsAccepted line scripts bytes counts) }
 {
     texts_and_results_are_told_apart();
 }
@@ -46,7 +44,6 @@ pub fn a_fault_refuses_the_split_text()
 /// the text, but for want of memory.
 pub fn a_split_text_has_one_first_fault()
     ensures { (line : Line) (scripts : List Script) (bytes : List ℕ) (fault other : SplitFault) →
-        fault ≢ SplitFault.Memory → other ≢ SplitFault.Memory →
         IsSplitFault line scripts bytes fault → IsSplitFault line scripts bytes other →
         fault ≡ other }
 {
@@ -61,7 +58,7 @@ pub fn accepted_split_trees_are_so()
         AreTold line script results }
     ensures text { (line : Line) (scripts : List Script) (bytes : List ℕ) (counts : Counts) →
         All (Fits line) scripts → IsAccepted line scripts bytes counts →
-        IsSound line scripts bytes }
+        IsSoundText line scripts bytes }
 {
     a_sound_tree_that_is_yes_speaks_for_every_choice();
     deadlines_are_below_the_horizon();

@@ -1,15 +1,16 @@
 //! The check of a tree: a walk through its nodes, each leaf with its part of the box.
 
 ghost use Rattle.std.specs.Prelude.{◌≡◌, ◌≤◌, ◌<◌, ◌+◌, ◌++◌, ◌^◌, List, length, drop, MatchResult};
+ghost use Rattle.base_memory.specs.Gives.{OfFault};
 ghost use Rattle.model_line.specs.{declared.line.Line.Line, Fits.Fits, Parameters.terminal_count};
 ghost use Rattle.model_logic.specs.Choice.{Box, declared_box};
 ghost use Rattle.model_logic.specs.HeldOver.{IsHeldOver};
 ghost use Rattle.judge_split.specs.declared.node.Node.{Node};
 ghost use Rattle.judge_split.specs.{Leaves.Splits, Parts.IsPart, Trees.SplitTree, Trees.preorder};
-ghost use Rattle.cert_split.specs.check.Walks.{BeginWithTree, IsWalked, IsWalkFault, IsLeafFault};
+ghost use Rattle.cert_split.specs.check.Walks.{BeginWithTree, IsWalked, IsLeafFault, IsNotHeldFrom};
 
-use crate::check::fault::ResultFault;
 use crate::check::held::is_held;
+use base_memory::Stopped;
 use judge_split::{Node, a_part_stands_for_its_box, lower_part, upper_part};
 use model_line::laws::{counts_do_not_rest_on_the_intervals, scripts_fit_whatever_the_intervals};
 use model_line::{Line, Script};
@@ -24,6 +25,12 @@ pub(crate) struct Passed {
     pub leaves: u32,
 }
 
+/// The number of a yes leaf whose rule is not held.
+#[derive(Clone, Copy, Drop)]
+pub(crate) struct NotHeld {
+    pub leaf: u32,
+}
+
 /// Walks through the tree that comes next among the nodes, over the declared box of `part`. The
 /// error is its first yes leaf whose rule is not held.
 pub(crate) fn walk(
@@ -33,7 +40,7 @@ pub(crate) fn walk(
     terminal: u32,
     nodes: &[Node],
     passed: Passed,
-) -> Result<Passed, ResultFault>
+) -> Result<Passed, Stopped<NotHeld>>
     requires fits { Fits part.now.line.now script.now }
     requires terminal { terminal < terminal_count part.now.line.now }
     requires few { length nodes.now < 2 ^ 32 }
@@ -43,7 +50,7 @@ pub(crate) fn walk(
         IsPart line box part.now.line.now → Splits line box tree →
         drop passed.nodes nodes.now ≡ preorder tree ++ after → MatchResult result
         (λ walked. IsWalked line script.now terminal box tree passed walked)
-        (λ fault. IsWalkFault line script.now terminal box tree passed.leaves fault) }
+        (OfFault (IsNotHeldFrom line script.now terminal box tree passed.leaves)) }
 {
     a_part_stands_for_its_box();
     nets_do_not_rest_on_the_intervals();
@@ -102,16 +109,16 @@ fn check_leaf(
     script: &Script,
     terminal: u32,
     leaf: u32,
-) -> Result<(), ResultFault>
+) -> Result<(), Stopped<NotHeld>>
     requires fits { Fits part.now.line.now script.now }
     requires terminal { terminal < terminal_count part.now.line.now }
     ensures { MatchResult result
         (λ _. IsHeldOver part.now.line.now script.now terminal (declared_box part.now.line.now))
-        (λ fault. IsLeafFault part.now.line.now script.now terminal leaf fault) }
+        (OfFault (IsLeafFault part.now.line.now script.now terminal leaf)) }
 {
     if is_held(alloc, part, script, terminal)? {
         Ok(())
     } else {
-        Err(ResultFault::NotHeld { terminal, leaf })
+        Err(Stopped::Fault(NotHeld { leaf }))
     }
 }

@@ -4,7 +4,8 @@ ghost use Rattle.std.specs.Prelude.{◌≡◌, ◌≢◌, ◌<◌, ◌^◌, ℕ,
 ghost use Rattle.model_logic.specs.Choice.{declared_box};
 ghost use Rattle.model_line.specs.Parameters.{param_count};
 ghost use Rattle.model_line.specs.NamesByNumber.{parameter_name};
-ghost use Rattle.judge_split.specs.{Leaves.CanSplit, declared.node.Node.Node};
+ghost use Rattle.judge_split.specs.{declared.node.Node.Node};
+ghost use Rattle.model_logic.specs.Boxes.{CanSplit};
 ghost use Rattle.cert_split.specs.text.Grammar.{MayStand, node_text, split_line};
 
 use base_text::lines::{after_name, is};

@@ -4,7 +4,7 @@ ghost use Rattle.std.specs.Prelude.{◌≡◌, ◌++◌, OnOk};
 ghost use Rattle.std.specs.List.{All};
 ghost use Rattle.cert_claims.specs.{text.Grammar.no_words, text.Text.fed};
 ghost use Rattle.cert_split.specs.text.Grammar.{split_line, node_text};
-ghost use Rattle.cert_split.specs.text.Text.{nodes_text, IsKnown};
+ghost use Rattle.cert_split.specs.text.Text.{nodes_text, IsNodeOfLine};
 
 use crate::text::node_line::param_name_at;
 use cert_claims::text::{push_no, push_start};
@@ -25,7 +25,7 @@ fn push_split(text: &mut Vec<u8>, name: Name, mid: u32) -> Result<(), Memory>
 
 // Appends the line of a node.
 fn push_node(text: &mut Vec<u8>, line: &Line, node: Node) -> Result<(), Memory>
-    requires { IsKnown line.now node }
+    requires { IsNodeOfLine line.now node }
     ensures { OnOk result (text.new.items ≡ text.old.items ++ fed (node_text line.now node)) }
 {
     match node {
@@ -38,7 +38,7 @@ fn push_node(text: &mut Vec<u8>, line: &Line, node: Node) -> Result<(), Memory>
 
 /// Appends the lines of a tree, its nodes in preorder.
 pub(crate) fn push_nodes(text: &mut Vec<u8>, line: &Line, nodes: &[Node]) -> Result<(), Memory>
-    requires { All (IsKnown line.now) nodes.now }
+    requires { All (IsNodeOfLine line.now) nodes.now }
     ensures { OnOk result (text.new.items ≡ text.old.items ++ nodes_text line.now nodes.now) }
 {
     for node in nodes {

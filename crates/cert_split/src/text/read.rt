@@ -2,17 +2,19 @@
 
 ghost use Rattle.std.specs.Prelude.{◌++◌, [], ◌∷◌, List, map, MatchResult};
 ghost use Rattle.model_logic.specs.Choice.{declared_box};
+ghost use Rattle.base_memory.specs.Gives.{OfFault};
 ghost use Rattle.base_text.specs.lines.Grammar.{Reads, IsFault};
 ghost use Rattle.cert_split.specs.text.Grammar.{Place, SplitResult, result_over};
 ghost use Rattle.cert_split.specs.text.Grammar.{result_said, terminal_parts, script_parts};
 ghost use Rattle.cert_split.specs.text.Grammar.{grammar_of};
-ghost use Rattle.cert_split.specs.text.Grammar.{IsSplitResult, IsSplitText};
-ghost use Rattle.cert_split.specs.text.Reading.{IsSplitTextFault, result_in, results_in};
+ghost use Rattle.cert_split.specs.text.Grammar.{IsSplitResult, IsSplitText, LeavesGrammar};
+ghost use Rattle.cert_split.specs.text.Reading.{result_in, results_in};
 
 use crate::text::claim::SplitClaim;
 use crate::text::known::laws_below;
 use crate::text::node_line::node_in;
 use crate::text::read_tree::read_below;
+use base_memory::Stopped;
 use base_text::lines::{LineCursor, PartReader, TextFault, read_each, read_text};
 use cert_claims::text::read_no;
 use model_line::{Line, Script, Terminal};
@@ -26,13 +28,13 @@ fn read_result(
     alloc: Global,
     line: &Line,
     lines: &mut LineCursor<'_>,
-) -> Result<SplitClaim, TextFault>
+) -> Result<SplitClaim, Stopped<TextFault>>
     ensures { (later : List Place) → MatchResult result
         (λ claim. IsSplitResult line.now (result_in claim)
         × Reads (grammar_of line.now) (result_over (declared_box line.now) ∷ []) (result_said (result_in claim))
         later lines.old.rest.now lines.old.number lines.new.rest.now lines.new.number)
-        (λ fault. IsFault (grammar_of line.now) (result_over (declared_box line.now) ∷ later)
-        lines.old.rest.now lines.old.number fault) }
+        (λ why. IsFault (grammar_of line.now) (result_over (declared_box line.now) ∷ later)
+        lines.old.rest.now lines.old.number why) }
 {
     laws_below();
     let number = lines.number;
@@ -41,7 +43,7 @@ fn read_result(
         return Ok(SplitClaim::Fails(numbers));
     }
     let Some(root) = node_in(line, line, DEEPEST, bytes) else {
-        return Err(TextFault::Line(number));
+        return Err(Stopped::Fault(TextFault { line: number }));
     };
     let mut nodes = Vec::new(alloc);
     read_below(alloc, line, line, DEEPEST, root, lines, &mut nodes)?;
@@ -70,7 +72,7 @@ impl<'a> PartReader for TreeReader<'a> {
         alloc: Global,
         terminal: &Terminal,
         lines: &mut LineCursor<'_>,
-    ) -> Result<SplitClaim, TextFault> {
+    ) -> Result<SplitClaim, Stopped<TextFault>> {
         lines.take_named(b"tree ", terminal.name.bytes())?;
         read_result(alloc, self.line, lines)
     }
@@ -98,7 +100,7 @@ impl<'a> PartReader for ScriptReader<'a> {
         alloc: Global,
         script: &Script,
         lines: &mut LineCursor<'_>,
-    ) -> Result<Vec<SplitClaim>, TextFault> {
+    ) -> Result<Vec<SplitClaim>, Stopped<TextFault>> {
         lines.take_named(b"script ", script.name.bytes())?;
         let line = self.line;
         read_each(
@@ -118,10 +120,10 @@ pub fn read_split_text(
     line: &Line,
     scripts: &[Script],
     bytes: &[u8],
-) -> Result<Vec<Vec<SplitClaim>>, TextFault>
+) -> Result<Vec<Vec<SplitClaim>>, Stopped<TextFault>>
     ensures { MatchResult result
         (λ parts. IsSplitText line.now scripts.now (map results_in parts.items) bytes.now)
-        (λ fault. IsSplitTextFault line.now scripts.now bytes.now fault) }
+        (OfFault (λ fault. LeavesGrammar line.now scripts.now bytes.now fault.line)) }
 {
     read_text(
         alloc,

@@ -17,22 +17,22 @@ use Rattle.model_history.specs.Rails.{Rails}
 use Rattle.model_line.specs.declared.script.Script.{Script}
 use Rattle.draw_run.specs.diagram.Traces.{ShownPairs}
 use Rattle.draw_run.specs.declared.diagram.rows.Row.{Row}
-use Rattle.draw_run.specs.diagram.Windows.{BeginsBelow, ChangesBelow, Holds, IsTickBelow}
-use Rattle.draw_run.specs.diagram.Windows.{IsChangeShown, IsShown, IsWider}
+use Rattle.draw_run.specs.diagram.Windows.{BeginsBelow, ChangesBelow, IsInWindow, IsTickBelow}
+use Rattle.draw_run.specs.diagram.Windows.{IsChangeShown, IsShown, ShowsMore}
 use Rattle.draw_run.specs.{diagram.Diagrams.IsMarkedRow, diagram.Stretches.AreStretches, diagram.Traces.trace_pair}
 use Rattle.draw_run.specs.{declared.diagram.stretch.Stretch.Stretch, declared.diagram.window.Window.Window}
 
-pub change_still_shown : (narrow wide : Window) → IsWider narrow wide → (s : Stretch)
+pub change_still_shown : (narrow wide : Window) → ShowsMore narrow wide → (s : Stretch)
     → IsChangeShown narrow s → IsChangeShown wide s
 change_still_shown narrow wide wider s shown begins =
     let held = shown begins in (omega arith, omega arith)
 
-pub marks_still_shown : (narrow wide : Window) → IsWider narrow wide → (marks : List ℕ)
-    → All (Holds narrow) marks → All (Holds wide) marks
+pub marks_still_shown : (narrow wide : Window) → ShowsMore narrow wide → (marks : List ℕ)
+    → All (IsInWindow narrow) marks → All (IsInWindow wide) marks
 marks_still_shown narrow wide wider marks shown =
-    All-weaker (Holds narrow) (Holds wide) (λ t held. (omega arith, omega arith)) marks shown
+    All-weaker (IsInWindow narrow) (IsInWindow wide) (λ t held. (omega arith, omega arith)) marks shown
 
-pub row_still_shown : (narrow wide : Window) → IsWider narrow wide → (row : Row)
+pub row_still_shown : (narrow wide : Window) → ShowsMore narrow wide → (row : Row)
     → IsShown narrow row → IsShown wide row
 row_still_shown narrow wide wider row shown = (
   All-weaker (IsChangeShown narrow) (IsChangeShown wide) (change_still_shown narrow wide wider)

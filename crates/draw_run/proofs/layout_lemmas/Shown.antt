@@ -11,7 +11,7 @@ use Rattle.draw_run.specs.{diagram.Diagrams.IsRow, diagram.Stretches.IsStretch, 
 use Rattle.draw_run.specs.declared.diagram.{rows.Row.Row, stretch.Stretch.Stretch, trace.Trace.Trace}
 use Rattle.draw_run.specs.declared.diagram.trace.Trace.TheVariants.{Seen, Lost, Logic, Key, Trip}
 use Rattle.draw_run.specs.declared.layout.scale.Scale.{Scale}
-use Rattle.draw_run.specs.layout.Covered.{Covers, CoversInFull, IsFull, ShowsTick}
+use Rattle.draw_run.specs.layout.Covered.{CoversTick, CoversInFull, IsFull, ShowsTick}
 use Rattle.draw_run.specs.{layout.Rows.bar, layout.Rows.bars, layout.Scale.place_of}
 use Rattle.draw_run.specs.diagram.Drawn.{is_off}
 use Rattle.draw_run.proofs.layout_lemmas.Bars.{is_told, seen}
@@ -41,17 +41,17 @@ module _ (scale : Scale) (t : ℕ)
     (order : (a b : ℕ) → a ≤ b → place_of scale a ≤ place_of scale b)
     (apart : place_of scale t < place_of scale (t + 1)) where
   module _ (trace : Trace) (base : ℕ) (s : Stretch) where
-    covers : s.from ≤ t → t < s.to → Covers scale t (bar scale trace base s)
+    covers : s.from ≤ t → t < s.to → CoversTick scale t (bar scale trace base s)
     covers begun open_yet =
         let left = order s.from t begun in
         let right = order (t + 1) s.to (omega (arith, open_yet)) in
         let whole = order s.from s.to (omega (arith, begun, open_yet)) in
         (left, omega (arith, right, whole))
 
-    covers_from : s.from < s.to → Covers scale t (bar scale trace base s) → s.from ≤ t
+    covers_from : s.from < s.to → CoversTick scale t (bar scale trace base s) → s.from ≤ t
     covers_from some c = grind (arith, order (t + 1) s.from, apart, c.0)
 
-    covers_to : s.from < s.to → Covers scale t (bar scale trace base s) → t < s.to
+    covers_to : s.from < s.to → CoversTick scale t (bar scale trace base s) → t < s.to
     covers_to some c = grind (arith, order s.to t, order s.from s.to, apart, c.1)
 
 -- a full bar stands for a value that is on: what the script shows is known
@@ -106,14 +106,14 @@ module _ (scale : Scale) (t : ℕ)
   abbrev IsOn : Tern → Type 0
   IsOn v = (tern_rails v).must ≡ true
 
-  covered : (pair t).may ≡ true → Any (Covers scale t) (bars scale trace base stretches)
-  covered may = seen pair t (bar scale trace base) (Covers scale t) IsOpen may_is_on
+  covered : (pair t).may ≡ true → Any (CoversTick scale t) (bars scale trace base stretches)
+  covered may = seen pair t (bar scale trace base) (CoversTick scale t) IsOpen may_is_on
       (λ s is begun open_yet tells. covers scale t order apart trace base s begun open_yet)
       (λ v is. subst (λ x. x.may ≡ true) is may) 0 horizon stretches are (omega arith) below
 
-  covered_told : Any (Covers scale t) (bars scale trace base stretches) → (pair t).may ≡ true
+  covered_told : Any (CoversTick scale t) (bars scale trace base stretches) → (pair t).may ≡ true
   covered_told a =
-      let told = is_told pair t (bar scale trace base) (Covers scale t) IsOpen
+      let told = is_told pair t (bar scale trace base) (CoversTick scale t) IsOpen
       (λ s is on c. (
         s.value,
         is.same t (covers_from scale t order apart trace base s is.some c)

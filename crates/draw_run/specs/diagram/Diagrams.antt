@@ -12,7 +12,7 @@ use Rattle.draw_run.specs.{diagram.DelaySteps.marks_of, diagram.Drawn.is_drawn}
 use Rattle.draw_run.specs.{declared.diagram.trace.Trace.Trace, diagram.Stretches.AreStretches}
 use Rattle.draw_run.specs.{diagram.Times.trip_times_of, diagram.Times.is_begun, diagram.Traces.traces_of}
 use Rattle.draw_run.specs.diagram.Traces.{ShownPairs}
-use Rattle.draw_run.specs.{diagram.Traces.trace_pair, diagram.Windows.Holds, diagram.Windows.IsShown}
+use Rattle.draw_run.specs.{diagram.Traces.trace_pair, diagram.Windows.IsInWindow, diagram.Windows.IsShown}
 use Rattle.run_waves.specs.waves.FirstTick.{first_on}
 use Rattle.judge_report.specs.Deadlines.{deadline_of}
 
@@ -45,5 +45,5 @@ pub record IsDiagramOf (line : Line) (gates : List Gate) (script : Script) (w : 
   pub within : diagram.window.last < line.horizon
   -- nothing changes at a tick that is not shown, and no delay has a step there
   pub shown : All (IsShown diagram.window) diagram.rows.items
-  pub marked : IfSome diagram.inception (Holds diagram.window)
-  pub due : IfSome diagram.deadline (Holds diagram.window)
+  pub marked : IfSome diagram.inception (IsInWindow diagram.window)
+  pub due : IfSome diagram.deadline (IsInWindow diagram.window)

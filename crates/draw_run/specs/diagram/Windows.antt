@@ -16,18 +16,18 @@ ChangesBelow horizon row =
     All (BeginsBelow horizon) row.stretches.items × All (IsTickBelow horizon) row.marks.items
 
 -- the tick is shown
-abbrev pub Holds : Window → ℕ → Type 0
-Holds window t = (window.first ≤ t) × (t ≤ window.last)
+abbrev pub IsInWindow : Window → ℕ → Type 0
+IsInWindow window t = (window.first ≤ t) × (t ≤ window.last)
 
 -- the second shows all that the first shows
-abbrev pub IsWider : Window → Window → Type 0
-IsWider narrow wide = (wide.first ≤ narrow.first) × (narrow.last ≤ wide.last)
+abbrev pub ShowsMore : Window → Window → Type 0
+ShowsMore narrow wide = (wide.first ≤ narrow.first) × (narrow.last ≤ wide.last)
 
 -- the tick at which the stretch begins is shown, if the row changes there
 abbrev pub IsChangeShown : Window → Stretch → Type 0
-IsChangeShown window s = 0 < s.from → Holds window s.from
+IsChangeShown window s = 0 < s.from → IsInWindow window s.from
 
 -- each change of the row is shown, and each of its marks
 abbrev pub IsShown : Window → Row → Type 0
 IsShown window row =
-    All (IsChangeShown window) row.stretches.items × All (Holds window) row.marks.items
+    All (IsChangeShown window) row.stretches.items × All (IsInWindow window) row.marks.items

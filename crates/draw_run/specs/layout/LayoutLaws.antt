@@ -5,7 +5,7 @@ use Rattle.model_line.specs.{declared.line.Line.Line, declared.script.Script.Scr
 use Rattle.net_gates.specs.declared.gate.Gate.{Gate}
 use Rattle.draw_run.specs.diagram.Traces.{ShownPairs}
 use Rattle.draw_run.specs.{declared.diagram.diagram.Diagram.Diagram, diagram.Diagrams.IsDiagramOf}
-use Rattle.draw_run.specs.{diagram.Traces.trace_pair, diagram.Windows.Holds}
+use Rattle.draw_run.specs.{diagram.Traces.trace_pair, diagram.Windows.IsInWindow}
 use Rattle.draw_run.specs.declared.diagram.rows.Row.{Row}
 use Rattle.draw_shapes.specs.declared.rows.Rows.{Rows}
 use Rattle.model_timing.specs.declared.step.Step.{Step}
@@ -33,7 +33,7 @@ abbrev pub BarsShowTheHistory : Type 0
 BarsShowTheHistory = (line : Line) (gates : List Gate) (script : Script) (w : ShownPairs)
     (steps : List (Step ℕ)) (which : Rows) (diagram : Diagram)
     → IsDiagramOf line gates script w steps which diagram
-    → All (λ (row : Row). (base t : ℕ) → Holds diagram.window t
+    → All (λ (row : Row). (base t : ℕ) → IsInWindow diagram.window t
     → ShowsTick (scale_of line diagram) base row t (trace_pair script w row.trace t))
     diagram.rows.items
 

@@ -2,7 +2,7 @@
 
 ghost use Rattle.std.specs.Prelude.{◌≡◌, ◌≤◌, ◌<◌, ℕ, IfSome};
 ghost use Rattle.std.specs.List.{All};
-ghost use Rattle.draw_run.specs.diagram.Windows.{Holds, IsWider, IsChangeShown, IsShown};
+ghost use Rattle.draw_run.specs.diagram.Windows.{IsInWindow, ShowsMore, IsChangeShown, IsShown};
 ghost use Rattle.draw_run.specs.diagram.Windows.{BeginsBelow, ChangesBelow, IsTickBelow};
 
 use crate::diagram::rows::Row;
@@ -30,8 +30,8 @@ pub fn shown_window(
     ensures some { result.first ≤ result.last }
     ensures within { result.last < horizon }
     ensures rows { All (IsShown result) rows.now }
-    ensures inception { IfSome inception (Holds result) }
-    ensures deadline { IfSome deadline (Holds result) }
+    ensures inception { IfSome inception (IsInWindow result) }
+    ensures deadline { IfSome deadline (IsInWindow result) }
 {
     let none = Window {
         first: horizon - 1,
@@ -43,8 +43,8 @@ pub fn shown_window(
 
 fn with_mark(window: Window, mark: Option<u32>) -> Window
     ensures below { (h : ℕ) → window.last < h → IfSome mark (λ t. t < h) → result.last < h }
-    ensures holds { IfSome mark (Holds result) }
-    ensures wider { IsWider window result }
+    ensures holds { IfSome mark (IsInWindow result) }
+    ensures wider { ShowsMore window result }
 {
     match mark {
         Some(t) => widened(window, t),
@@ -54,8 +54,8 @@ fn with_mark(window: Window, mark: Option<u32>) -> Window
 
 fn widened(window: Window, t: u32) -> Window
     ensures below { (h : ℕ) → window.last < h → t < h → result.last < h }
-    ensures holds { Holds result t }
-    ensures wider { IsWider window result }
+    ensures holds { IsInWindow result t }
+    ensures wider { ShowsMore window result }
 {
     Window {
         first: window.first.min(t),
@@ -66,7 +66,7 @@ fn widened(window: Window, t: u32) -> Window
 fn with_rows(window: Window, rows: &[Row]) -> Window
     ensures below { (h : ℕ) → window.last < h → All (ChangesBelow h) rows.now → result.last < h }
     ensures shown { All (IsShown result) rows.now }
-    ensures wider { IsWider window result }
+    ensures wider { ShowsMore window result }
 {
     let mut wide = window;
     for row in rows {
@@ -78,7 +78,7 @@ fn with_rows(window: Window, rows: &[Row]) -> Window
 fn with_row(window: Window, row: &Row) -> Window
     ensures below { (h : ℕ) → window.last < h → ChangesBelow h row.now → result.last < h }
     ensures shown { IsShown result row.now }
-    ensures wider { IsWider window result }
+    ensures wider { ShowsMore window result }
 {
     with_marks(
         with_stretches(window, row.stretches.as_slice()),
@@ -88,8 +88,8 @@ fn with_row(window: Window, row: &Row) -> Window
 
 fn with_marks(window: Window, marks: &[u32]) -> Window
     ensures below { (h : ℕ) → window.last < h → All (IsTickBelow h) marks.now → result.last < h }
-    ensures shown { All (Holds result) marks.now }
-    ensures wider { IsWider window result }
+    ensures shown { All (IsInWindow result) marks.now }
+    ensures wider { ShowsMore window result }
 {
     let mut wide = window;
     for mark in marks {
@@ -102,7 +102,7 @@ fn with_stretches(window: Window, stretches: &[Stretch]) -> Window
     ensures below { (h : ℕ) → window.last < h → All (BeginsBelow h) stretches.now →
         result.last < h }
     ensures shown { All (IsChangeShown result) stretches.now }
-    ensures wider { IsWider window result }
+    ensures wider { ShowsMore window result }
 {
     let mut wide = window;
     for stretch in stretches {
@@ -114,7 +114,7 @@ fn with_stretches(window: Window, stretches: &[Stretch]) -> Window
 fn with_stretch(window: Window, stretch: &Stretch) -> Window
     ensures below { (h : ℕ) → window.last < h → BeginsBelow h stretch.now → result.last < h }
     ensures shown { IsChangeShown result stretch.now }
-    ensures wider { IsWider window result }
+    ensures wider { ShowsMore window result }
 {
     if stretch.from > 0 {
         widened(window, stretch.from)
@@ -129,7 +129,7 @@ fn padded(window: Window, horizon: u32) -> Window
     requires within { window.last < horizon }
     ensures some { result.first ≤ result.last }
     ensures within { result.last < horizon }
-    ensures wider { IsWider window result }
+    ensures wider { ShowsMore window result }
 {
     if window.last < window.first {
         return Window {

@@ -5,7 +5,7 @@ use Rattle.toml.specs.{View.view, View.items_view, declared.value.Value.Value, D
 use Rattle.toml.proofs.Views.{items_view-drop}
 use Rattle.model_line.specs.{declared.line.Line.Line, declared.line.Terminal.Terminal}
 use Rattle.model_line.specs.Channels.{channel_number}
-use Rattle.base_records.specs.Gives.{◌>>=◌}
+use Rattle.base_memory.specs.Gives.{◌>>=◌}
 use Rattle.file_records.specs.declared.map.source.Signal.{Signal}
 use Rattle.file_records.specs.map.Paths.{numbered}
 use Rattle.file_records.specs.map.Sources.{SourceValues, source_in, sources_in}

@@ -4,7 +4,7 @@ use Rattle.std.proofs.Common.{◌∷◌, length, get_or, take, Some, None, Ok, r
 use Rattle.std.proofs.lemmas.Bool.{eq-eqb, lt-ltb}
 use Rattle.std.proofs.lemmas.List.{take_more}
 use Rattle.std.specs.Prelude.{codes, decimal, nat_lt, ◌==◌}
-use Rattle.base_records.specs.Gives.{◌>>=◌}
+use Rattle.base_memory.specs.Gives.{◌>>=◌}
 use Rattle.file_comtrade.specs.Calendar.{checked_day, clock_of, day_number, day_of, moment_of, seconds_of}
 use Rattle.file_comtrade.specs.Config.{ConfigValues, End, Said, SamplingValues, body_of, config_in}
 use Rattle.file_comtrade.specs.Config.{digital_after, end_at, factor_later, line_at, rate_after}

@@ -9,7 +9,7 @@ use Rattle.std.proofs.lemmas.List.FromFn.{map-range_with_len_more}
 use Rattle.std.proofs.lemmas.Option.{slice_get-get_or}
 use Rattle.std.specs.List.{range_with_len, slice_get}
 use Rattle.std.specs.Prelude.{decimal, nat_lt, ◌==◌, if◌then◌else◌}
-use Rattle.base_records.specs.Gives.{◌>>=◌}
+use Rattle.base_memory.specs.Gives.{◌>>=◌}
 use Rattle.run_changes.specs.rows.PlayRows.{level_word}
 use Rattle.file_comtrade.specs.Data.{SampleValues, follows, is_done, last_in, not_before, raw_at}
 use Rattle.file_comtrade.specs.Data.{sample_after, samples_in, shape_of}

@@ -1,6 +1,6 @@
 -- At each tick the sample of that tick holds, and its level is the one there.
-use Rattle.std.proofs.Common.{◌≡◌, ◌<◌, ◌+◌, ◌-◌, ◌*◌, ◌∙◌, ℕ, suc, Bool, false}
-use Rattle.std.proofs.Common.{List, [], ◌∷◌, length, get_or, map, Option, Some, Ok, Err, refl, ap}
+use Rattle.std.proofs.Common.{◌≡◌, ◌≢◌, ◌<◌, ◌+◌, ◌-◌, ◌*◌, ◌∙◌, ℕ, suc, Bool, false}
+use Rattle.std.proofs.Common.{List, [], ◌∷◌, length, get_or, map, Some, Ok, Err, ap}
 use Rattle.std.proofs.Common.{sym, arith, subst}
 use Rattle.std.proofs.Math.Nat.{suc-mul, mul_assoc}
 use Rattle.std.proofs.lemmas.List.{ext_get_or, length-map, get_or-map}
@@ -8,26 +8,20 @@ use Rattle.std.proofs.lemmas.List.FromFn.{get_or-map-range_with_len, length-map-
 use Rattle.std.proofs.lemmas.Option.{slice_get-get_or, slice_get_within, get_or_from_slice_get}
 use Rattle.std.specs.List.{range_with_len, slice_get}
 use Rattle.std.specs.Prelude.{slice_index}
-use Rattle.base_records.specs.Gives.{Fails}
 use Rattle.file_comtrade.specs.Config.{ConfigValues, config_of}
 use Rattle.file_comtrade.specs.{Data.SampleValues, Data.samples_of, Levels.NeverFalls}
 use Rattle.file_comtrade.specs.{LevelLaws.holds_once}
-use Rattle.file_comtrade.specs.{Levels.level_in, Ticks.Holds, Ticks.IsCovered, Ticks.instant_of}
-use Rattle.file_comtrade.specs.DataGives as data_gives
-use Rattle.file_comtrade.specs.Gives as config_gives
+use Rattle.file_comtrade.specs.{Levels.level_in, Ticks.IsHolding, Ticks.IsCovered, Ticks.instant_of}
 use Rattle.file_comtrade.specs.Record.{AreAt, Files, HasLevel, times_of}
 use Rattle.file_comtrade.specs.declared.channel.Named.{Named}
 use Rattle.file_comtrade.specs.declared.channel.Named.TheVariants.{Nothing, One, More}
 use Rattle.file_comtrade.specs.declared.fault.{ConfigFault.ConfigFault, DataFault.DataFault}
-use Rattle.file_comtrade.specs.declared.fault.ConfigFault.TheVariants as config_fault
-use Rattle.file_comtrade.specs.declared.fault.DataFault.TheVariants as data_fault
 use Rattle.file_comtrade.specs.declared.record.RecordFault.{RecordFault}
 use Rattle.file_comtrade.specs.declared.record.RecordFault.TheVariants as fault
 use Rattle.file_comtrade.specs.declared.ticks.Ticks.{Ticks}
-use Rattle.file_comtrade.specs.declared.ticks.TickFault.TheVariants as tick_fault
+use Rattle.file_comtrade.specs.declared.ticks.TickFault.{TickFault}
 use Rattle.file_records.specs.map.Sources.{ChannelSaid}
 use Rattle.file_records.specs.tracks.Channels.{AreLevels, AreMissing, AreSamples, IsPicked, IsRefused, picked}
-use Rattle.file_records.specs.recorded.ReadBack.{IsMemory}
 use Rattle.file_records.proofs.recorded_lemmas.DataBack.{sample_of, so_far}
 
 -- ---- the times of the samples
@@ -55,7 +49,7 @@ module _ (us : ℕ) (level : ℕ → Bool) (n : ℕ) where
       let step : (k + 1) * us ≡ k * us + us = sym (ap (λ (m : ℕ). m * us) one) ∙ more in
       omega arith
 
-  holds_there : 0 < us → (t : ℕ) → t < n → Holds (times_of (so_far us level n)) (t * us * 1000) t
+  holds_there : 0 < us → (t : ℕ) → t < n → IsHolding (times_of (so_far us level n)) (t * us * 1000) t
   holds_there some t within = record {
     inside = (let long = times_long in omega arith);
     begun = (let here = time_at t within in omega arith);
@@ -104,7 +98,7 @@ module _ (us : ℕ) (level : ℕ → Bool) (n : ℕ) where
         ∙ get_or_from_slice_get levels_all t l false e in
         record {
           sample = t;
-          holds = subst (λ (i : ℕ). Holds (times_of (so_far us level n)) i t) at (holds_there some t within);
+          holds = subst (λ (i : ℕ). IsHolding (times_of (so_far us level n)) i t) at (holds_there some t within);
           is = sym is ∙ level_there t within;
         };
   }
@@ -187,14 +181,11 @@ module _ (files : Files) (channel : ChannelSaid) (ticks : Ticks) (config : Confi
       → IsPicked files channel other named → ⊥
   none_named named apart other is = apart (picks other named is)
 
-  no_config : (f : ConfigFault) → Fails config_gives.is_memory f (config_of files.dates files.config)
-      → f ≡ config_fault.Memory
-  no_config config_fault.Memory refused = refl
+  no_config : (f : ConfigFault) → config_of files.dates files.config ≢ Err f
   no_config f refused = let both : Ok config ≡ Err f = sym said.says ∙ refused in cc
 
   no_data : (f : DataFault) (other : ConfigValues) (j : ℕ) → IsPicked files channel other (One j)
-      → Fails data_gives.is_memory f (samples_of other (j ∷ []) files.samples) → f ≡ data_fault.Memory
-  no_data data_fault.Memory other j alone refused = refl
+      → samples_of other (j ∷ []) files.samples ≢ Err f
   no_data f other j alone refused =
       let c = same_config other alone.says in
       let k = same_index other j alone in
@@ -205,21 +196,19 @@ module _ (files : Files) (channel : ChannelSaid) (ticks : Ticks) (config : Confi
       ∙ refused in
       cc
 
-  no_gap : (from : ℕ) (to : Option ℕ) → AreMissing files channel ticks (tick_fault.Gap from to) → ⊥
-  no_gap from to refused =
+  no_gap : (f : TickFault) → ¬ AreMissing files channel ticks f
+  no_gap f refused =
       let c = same_config refused.config refused.said.alone.says in
       let s = same_samples refused.config refused.samples refused.said in
       refused.missing.0
       (subst (λ (d : ConfigValues). IsCovered d.first (times_of refused.samples) ticks) (sym c)
       (subst (λ (x : List SampleValues). IsCovered config.first (times_of x) ticks) (sym s) there.covered))
 
-  -- it is refused for want of memory alone
-  pub accepted : (f : RecordFault) → IsRefused files channel ticks f → IsMemory f
+  -- it is not refused
+  pub accepted : (f : RecordFault) → ¬ IsRefused files channel ticks f
   accepted (fault.Config f) refused = no_config f refused
   accepted fault.NoChannel refused = none_named Nothing (λ e. cc) refused.config refused.found
   accepted fault.ManyChannels refused = none_named More (λ e. cc) refused.config refused.found
   accepted (fault.Data f) refused =
       no_data f refused.config refused.index refused.alone refused.refused
-  accepted (fault.Ticks tick_fault.Memory) refused = refl
-  accepted (fault.Ticks (tick_fault.Gap from to)) refused = absurd (no_gap from to refused)
-  accepted fault.Memory refused = tt
+  accepted (fault.Ticks f) refused = no_gap f refused

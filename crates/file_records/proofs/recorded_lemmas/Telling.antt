@@ -20,7 +20,7 @@ use Rattle.file_records.specs.tracks.Channels.{AreLevels, IsRefused}
 use Rattle.file_records.specs.tracks.Levels.{is_on, same_signal, tells}
 use Rattle.file_records.specs.tracks.Tracks.{AreTracks, FailsAt, IsTrack, PlacedValues, TrackValues, ticks_of, turned}
 use Rattle.file_records.specs.recorded.Channels.{id_of, level_of, signals_of}
-use Rattle.file_records.specs.recorded.ReadBack.{IsMemory, IsReadBack, levels_meant, start}
+use Rattle.file_records.specs.recorded.ReadBack.{IsReadBack, levels_meant, start}
 use Rattle.file_records.specs.recorded.Told.{IsOwnSource, PlaysAreAccepted, PlaysAreTold}
 use Rattle.file_records.proofs.recorded_lemmas.Whole.{plays_are_read_back}
 
@@ -142,8 +142,8 @@ module _ (line : Line) (script : Script) (h : History) (plain : is_plain_name sc
       (omega arith) at same)
 
   refused_so : (placed : List PlacedValues) (i : ℕ) (why : RecordFault)
-      → All (IsOwnSource line script h) placed → FailsAt placed i why → IsMemory why
-  refused_so [] i why own fails = absurd fails
+      → All (IsOwnSource line script h) placed → ¬ FailsAt placed i why
+  refused_so [] i why own fails = fails
   refused_so (p ∷ placed) zero why all fails =
       let own = All-head (IsOwnSource line script h) p placed all in
       (read_back p.source.signal own.there).accepted why

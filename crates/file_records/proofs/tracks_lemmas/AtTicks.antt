@@ -8,7 +8,7 @@ use Rattle.file_comtrade.specs.declared.ticks.Ticks.{Ticks}
 use Rattle.file_comtrade.specs.{Data.SampleValues, Levels.level_in, Levels.levels_at}
 use Rattle.file_comtrade.specs.Record.{AreAt, HasLevel, times_of}
 use Rattle.file_comtrade.specs.SampleViews.{sample_values}
-use Rattle.file_comtrade.specs.Ticks.{AreAtTicks, Holds, IsCovered, instant_of}
+use Rattle.file_comtrade.specs.Ticks.{AreAtTicks, IsHolding, IsCovered, instant_of}
 
 -- the times of samples, and of what they are
 pub times_are : (samples : List Sample)
@@ -40,7 +40,7 @@ levels_hold samples times origin ticks at same are t level e =
     let inside = found.inside in
     let many = are.many in
     let holds = are.each t (omega (arith, inside, many)) in
-    let P : List ℕ → Type 0 = λ ts. Holds ts (instant_of ticks t - origin) (slice_index at t) in
+    let P : List ℕ → Type 0 = λ ts. IsHolding ts (instant_of ticks t - origin) (slice_index at t) in
     record { sample = slice_index at t; holds = subst P same holds; is = found.is }
 
 -- the levels of the samples that were found

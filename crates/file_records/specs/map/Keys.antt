@@ -4,7 +4,7 @@ use Rattle.std.specs.Prelude.{Err, pos, negsuc, if◌then◌else◌, nat_le}
 use Rattle.toml.specs.Data.{Data, string, integer, boolean, array, table, Members, Items, no_items}
 use Rattle.toml.specs.Data.{item}
 use Rattle.toml.specs.Data.{get_member}
-use Rattle.base_records.specs.Gives.{◌>>=◌}
+use Rattle.base_memory.specs.Gives.{◌>>=◌}
 use Rattle.file_line.specs.Keys.{first_unknown}
 use Rattle.file_records.specs.declared.map.fault.MapFault.{MapFault}
 use Rattle.file_records.specs.declared.map.fault.MapFault.TheVariants as fault

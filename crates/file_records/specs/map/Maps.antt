@@ -5,7 +5,7 @@ use Rattle.toml.specs.Data.{Members}
 use Rattle.model_line.specs.declared.line.Line.{Line}
 use Rattle.model_line.specs.declared.script.Kind.TheVariants.{Internal, External}
 use Rattle.model_line.specs.{declared.script.Kind.Kind, PlainNames.is_plain_name}
-use Rattle.base_records.specs.Gives.{◌>>=◌}
+use Rattle.base_memory.specs.Gives.{◌>>=◌}
 use Rattle.file_line.specs.Keys.{document_of}
 use Rattle.file_records.specs.declared.map.fault.MapFault.{MapFault}
 use Rattle.file_records.specs.declared.map.fault.MapFault.TheVariants as fault

@@ -5,7 +5,7 @@ use Rattle.std.specs.Str.{bytes_eq}
 use Rattle.toml.specs.Data.{Data, Members, Items, no_items, item, get_member}
 use Rattle.model_line.specs.declared.line.Line.{Line}
 use Rattle.model_names.specs.NumbersByName.{terminal_named}
-use Rattle.base_records.specs.Gives.{◌>>=◌}
+use Rattle.base_memory.specs.Gives.{◌>>=◌}
 use Rattle.file_comtrade.specs.declared.config.DateOrder.{DateOrder}
 use Rattle.file_comtrade.specs.declared.config.DateOrder.TheVariants.{DayFirst, MonthFirst}
 use Rattle.file_records.specs.declared.map.fault.MapFault.{MapFault}

@@ -7,7 +7,7 @@ use Rattle.model_line.specs.declared.script.{Element.Element}
 use Rattle.model_line.specs.declared.script.Element.TheVariants.{Z1, Z2, Rv, Uv, Cur}
 use Rattle.model_line.specs.declared.script.What.TheVariants as what
 use Rattle.model_line.specs.{Channels.channel_number, Terminals.names_of}
-use Rattle.base_records.specs.Gives.{◌>>=◌}
+use Rattle.base_memory.specs.Gives.{◌>>=◌}
 use Rattle.file_records.specs.declared.map.fault.MapFault.{MapFault}
 use Rattle.file_records.specs.declared.map.source.{Signal.Signal, Signals.Signals}
 use Rattle.file_records.specs.declared.map.source.Signal.TheVariants.{Shown, Key, Trip}

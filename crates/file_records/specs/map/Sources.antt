@@ -2,7 +2,7 @@
 use Rattle.std.specs.Prelude.{◌+◌, ◌++◌, ◌==◌, ℕ, Bool, true, false, List, [], ◌∷◌, Option}
 use Rattle.std.specs.Prelude.{None, Some, Result, Ok, Err, codes, nat_lt, if◌then◌else◌}
 use Rattle.toml.specs.Data.{Data, string, array, table, Members, Items, no_items, item, get_member}
-use Rattle.base_records.specs.Gives.{◌>>=◌}
+use Rattle.base_memory.specs.Gives.{◌>>=◌}
 use Rattle.base_text.specs.store.Number.{number_of}
 use Rattle.file_records.specs.declared.map.fault.MapFault.{MapFault}
 use Rattle.file_records.specs.declared.map.fault.MapFault.TheVariants as fault

@@ -10,11 +10,7 @@ use Rattle.file_comtrade.specs.Config.{ConfigValues, config_of}
 use Rattle.file_comtrade.specs.{Data.SampleValues, Data.samples_of, Record.Files}
 use Rattle.file_comtrade.specs.declared.config.Form.TheVariants.{Ascii}
 use Rattle.file_comtrade.specs.declared.config.StampUnit.TheVariants.{Microsecond}
-use Rattle.file_comtrade.specs.declared.fault.ConfigFault.TheVariants as config_fault
-use Rattle.file_comtrade.specs.declared.fault.DataFault.TheVariants as data_fault
 use Rattle.file_comtrade.specs.declared.record.RecordFault.{RecordFault}
-use Rattle.file_comtrade.specs.declared.record.RecordFault.TheVariants as fault
-use Rattle.file_comtrade.specs.declared.ticks.TickFault.TheVariants as tick_fault
 use Rattle.file_records.specs.{recorded.Config.config_text, recorded.Data.data_text}
 use Rattle.file_records.specs.{declared.map.source.Signal.Signal, map.Sources.id}
 use Rattle.file_records.specs.tracks.Channels.{AreLevels, IsRefused}
@@ -80,17 +76,8 @@ files_of line script h = record {
   samples = data_text line script h;
 }
 
--- memory ran out
-abbrev pub IsMemory : RecordFault → Type 0
-IsMemory (fault.Config f) = f ≡ config_fault.Memory
-IsMemory fault.NoChannel = ⊥
-IsMemory fault.ManyChannels = ⊥
-IsMemory (fault.Data f) = f ≡ data_fault.Memory
-IsMemory (fault.Ticks f) = f ≡ tick_fault.Memory
-IsMemory fault.Memory = Unit {0}
-
 -- What is read of a signal, by the id of its channel: at each tick its level in the play, and nothing
--- else. It is refused for want of memory alone.
+-- else. It is not refused.
 pub record IsReadBack (line : Line) (script : Script) (h : History) (signal : Signal) : Type 0 where
   pub levels : AreLevels (files_of line script h) (id (id_of line signal)) (ticks_of line start)
       (levels_meant line (level_of script h signal))
@@ -98,8 +85,7 @@ pub record IsReadBack (line : Line) (script : Script) (h : History) (signal : Si
       → AreLevels (files_of line script h) (id (id_of line signal)) (ticks_of line start) others
       → others ≡ levels_meant line (level_of script h signal)
   pub accepted : (f : RecordFault)
-      → IsRefused (files_of line script h) (id (id_of line signal)) (ticks_of line start) f
-      → IsMemory f
+      → ¬ IsRefused (files_of line script h) (id (id_of line signal)) (ticks_of line start) f
 
 -- each signal of a play is read back
 abbrev pub PlaysAreReadBack : Type 0

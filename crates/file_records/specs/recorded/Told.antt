@@ -9,7 +9,7 @@ use Rattle.file_records.specs.{declared.map.source.Signal.Signal, map.Sources.id
 use Rattle.file_records.specs.tracks.Levels.{is_on}
 use Rattle.file_records.specs.tracks.Tracks.{AreTracks, FailsAt, PlacedValues, TrackValues, ticks_of}
 use Rattle.file_records.specs.recorded.Channels.{id_of, level_of, signals_of}
-use Rattle.file_records.specs.recorded.ReadBack.{IsMemory, files_of, start}
+use Rattle.file_records.specs.recorded.ReadBack.{files_of, start}
 
 -- The source tells a signal of the line by the id of its channel, from the files of a play, at the
 -- line's ticks from the first instant of the year 2000 on.
@@ -29,9 +29,9 @@ PlaysAreTold =
     → (signal : Signal) (t : ℕ) → t < line.horizon → Any (λ p. p.source.signal ≡ signal) placed
     → is_on tracks signal t ≡ level_of script h signal t
 
--- and none is refused but for want of memory
+-- and none is refused
 abbrev pub PlaysAreAccepted : Type 0
 PlaysAreAccepted =
     (line : Line) (script : Script) (h : History) → IsTrue (is_plain_name script.name)
     → (placed : List PlacedValues) (i : ℕ) (why : RecordFault)
-    → All (IsOwnSource line script h) placed → FailsAt placed i why → IsMemory why
+    → All (IsOwnSource line script h) placed → ¬ FailsAt placed i why

@@ -1,11 +1,8 @@
 -- The levels, at ticks, of the digital channel that a map names.
-use Rattle.std.specs.Prelude.{◌≡◌, ◌&&◌, ◌-◌, ℕ, Bool, List, [], ◌∷◌, length, nat_le, nat_lt, Ok}
+use Rattle.std.specs.Prelude.{◌≡◌, ◌&&◌, ◌-◌, ℕ, Bool, List, [], ◌∷◌, length, nat_le, nat_lt, Ok, Err}
 use Rattle.std.specs.Prelude.{if◌then◌else◌}
-use Rattle.base_records.specs.Gives.{Fails}
 use Rattle.file_comtrade.specs.{Config.ConfigValues, Config.config_of, Data.SampleValues}
 use Rattle.file_comtrade.specs.{Data.samples_of, Named.named_in}
-use Rattle.file_comtrade.specs.DataGives as data_gives
-use Rattle.file_comtrade.specs.Gives as config_gives
 use Rattle.file_comtrade.specs.Record.{Files, AreAt, times_of}
 use Rattle.file_comtrade.specs.Ticks.{IsTickFault}
 use Rattle.file_comtrade.specs.declared.channel.Named.{Named}
@@ -57,7 +54,7 @@ pub record AreRefused (files : Files) (channel : ChannelSaid) (f : DataFault) : 
   pub config : ConfigValues
   pub index : ℕ
   pub alone : IsPicked files channel config (One index)
-  pub refused : Fails data_gives.is_memory f (samples_of config (index ∷ []) files.samples)
+  pub refused : samples_of config (index ∷ []) files.samples ≡ Err f
 
 pub record AreMissing (files : Files) (channel : ChannelSaid) (ticks : Ticks) (f : TickFault)
     : Type 0 where
@@ -66,11 +63,14 @@ pub record AreMissing (files : Files) (channel : ChannelSaid) (ticks : Ticks) (f
   pub said : AreSamples files channel config samples
   pub missing : IsTickFault config.first (times_of samples) ticks f
 
+-- not each tick has a sample, where the first is taken at this instant
+abbrev pub IsGap : ℕ → List SampleValues → Ticks → RecordFault → Type 0
+IsGap first samples ticks (fault.Ticks f) = IsTickFault first (times_of samples) ticks f
+IsGap first samples ticks _ = ⊥
+
 abbrev pub IsRefused : Files → ChannelSaid → Ticks → RecordFault → Type 0
-IsRefused files channel ticks (fault.Config f) =
-    Fails config_gives.is_memory f (config_of files.dates files.config)
+IsRefused files channel ticks (fault.Config f) = config_of files.dates files.config ≡ Err f
 IsRefused files channel ticks fault.NoChannel = NamesNone files channel Nothing
 IsRefused files channel ticks fault.ManyChannels = NamesNone files channel More
 IsRefused files channel ticks (fault.Data f) = AreRefused files channel f
 IsRefused files channel ticks (fault.Ticks f) = AreMissing files channel ticks f
-IsRefused files channel ticks fault.Memory = Unit {0}

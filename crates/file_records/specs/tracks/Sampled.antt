@@ -5,7 +5,7 @@ use Rattle.std.specs.Bool.{beq}
 use Rattle.std.specs.List.{slice_get}
 use Rattle.file_comtrade.specs.{Config.ConfigValues, Data.SampleValues, Levels.level_in}
 use Rattle.file_comtrade.specs.Record.{Files, times_of}
-use Rattle.file_comtrade.specs.Ticks.{Holds, first_instant, instant_of, last_instant}
+use Rattle.file_comtrade.specs.Ticks.{IsHolding, first_instant, instant_of, last_instant}
 use Rattle.file_comtrade.specs.declared.ticks.Ticks.{Ticks}
 use Rattle.file_records.specs.map.Sources.{ChannelSaid}
 use Rattle.file_records.specs.tracks.Channels.{AreSamples}
@@ -30,8 +30,8 @@ pub record AreSampled (origin : ℕ) (samples : List SampleValues) (ticks : Tick
     : Type 0 where
   pub from : ℕ
   pub to : ℕ
-  pub begins : Holds (times_of samples) (instant_of ticks 0 - origin) from
-  pub ends : Holds (times_of samples) (instant_of ticks (ticks.count - 1) - origin) to
+  pub begins : IsHolding (times_of samples) (instant_of ticks 0 - origin) from
+  pub ends : IsHolding (times_of samples) (instant_of ticks (ticks.count - 1) - origin) to
   pub before : s.before ≡ ticks.start - first_instant origin (times_of samples)
   pub after : s.after ≡ last_instant origin (times_of samples) - ticks.start
   pub changes : s.changes ≡ changes_from samples from (to - from)

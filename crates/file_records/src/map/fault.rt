@@ -1,12 +1,11 @@
 //! Why a map is refused.
 
 ghost use Rattle.std.specs.Prelude.{◌≡◌};
-ghost use Rattle.file_records.specs.declared.map.fault.MapFault.TheVariants.{Memory};
 
 use crate::map::path::Path;
-use std::alloc::{AllocError, AllocFailed};
+use base_memory::Stopped;
 
-/// The first fault of a map, with its place, or want of memory.
+/// The first fault of a map, with its place.
 #[derive(Clone, Copy, Drop)]
 pub enum MapFault {
     /// The bytes are no TOML document.
@@ -25,22 +24,14 @@ pub enum MapFault {
     BadInstant(Path),
     /// The name of a record in one file, whose configuration and data are to be apart.
     OneFile(Path),
-    /// Memory ran out.
-    Memory,
 }
 
-impl From<AllocError> for MapFault {
-    ghost from_gives = { λ _ e. e ≡ Memory };
+impl From<MapFault> for Stopped<MapFault> {
+    ghost use Rattle.base_memory.specs.declared.stopped.Stopped.TheVariants as stopped;
 
-    fn from(_: AllocError) -> Self {
-        MapFault::Memory
-    }
-}
+    ghost from_gives = { λ fault why. why ≡ stopped.Fault fault };
 
-impl<T: Drop> From<AllocFailed<T>> for MapFault {
-    ghost from_gives = { λ _ e. e ≡ Memory };
-
-    fn from(_: AllocFailed<T>) -> Self {
-        MapFault::Memory
+    fn from(fault: MapFault) -> Self {
+        Stopped::Fault(fault)
     }
 }

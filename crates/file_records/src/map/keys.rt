@@ -5,31 +5,32 @@ ghost use Rattle.std.specs.Str.{bytes_eq};
 ghost use Rattle.std.specs.List.{list_any};
 ghost use Rattle.toml.specs.{Data.get_member, View.view, View.table_view, View.items_view};
 ghost use Rattle.file_line.specs.Keys.{document_of, first_unknown};
-ghost use Rattle.file_records.specs.map.Reading.{Gives, seen};
+ghost use Rattle.base_memory.specs.Gives.{Gives, seen};
 ghost use Rattle.file_records.specs.map.Keys.{opened, all_known, value_at, number_in, number_at};
 ghost use Rattle.file_records.specs.map.Keys.{text_in, text_at, flag_or_false, array_in, array_at};
 ghost use Rattle.file_records.specs.map.Keys.{table_in, counted};
 
 use crate::map::fault::MapFault;
 use crate::map::path::Path;
+use base_memory::Stopped;
 use model_line::Name;
 use std::alloc::Global;
 use toml::{Table, Value};
 
 /// The document's table.
-pub fn open(alloc: Global, bytes: &[u8]) -> Result<Table, MapFault>
+pub fn open(alloc: Global, bytes: &[u8]) -> Result<Table, Stopped<MapFault>>
     ensures { Gives table_view result (opened (document_of bytes.now)) }
 {
     let Ok(text) = std::str::from_utf8(bytes) else {
-        return Err(MapFault::NotToml);
+        return Err(Stopped::Fault(MapFault::NotToml));
     };
     match toml::table_from_str(alloc, text) {
         Ok(table) => Ok(table),
         Err(error) => {
             if error.is_memory() {
-                return Err(MapFault::Memory);
+                return Err(Stopped::Memory);
             }
-            Err(MapFault::NotToml)
+            Err(Stopped::Fault(MapFault::NotToml))
         }
     }
 }

@@ -4,7 +4,7 @@ ghost use Rattle.std.specs.Prelude.{◌≡◌, ◌<◌, ◌≤◌, true, IfOk, l
 ghost use Rattle.toml.specs.View.{view, table_view};
 ghost use Rattle.model_line.specs.{Channels.channel_number, PlainNames.is_plain_name};
 ghost use Rattle.model_line.specs.Terminals.{are_plain_names, names_of};
-ghost use Rattle.file_records.specs.map.Reading.{Becomes};
+ghost use Rattle.base_memory.specs.Gives.{Becomes};
 ghost use Rattle.file_records.specs.map.Signals.{signals_values, loss_under, losses_from, losses_in};
 ghost use Rattle.file_records.specs.map.Signals.{losses_or_none, other_names};
 
@@ -13,8 +13,9 @@ use crate::map::keys::{only, table_of};
 use crate::map::path::Path;
 use crate::map::signals::push_signal;
 use crate::map::source::{Signal, Signals};
+use base_memory::Stopped;
 use model_line::{Line, Name, Terminal, What};
-use std::alloc::{AllocError, AllocFailed, Global};
+use std::alloc::{AllocError, Global};
 use toml::{Table, Value};
 
 // The names of terminals.
@@ -54,7 +55,7 @@ fn push_loss(
     channel: Option<u32>,
     table: &Table,
     signals: &mut Signals,
-) -> Result<(), MapFault>
+) -> Result<(), Stopped<MapFault>>
     requires { is_plain_name name.now ≡ true }
     ensures { Becomes result (signals_values signals.new)
         (loss_under path name.now channel (table_view table.now)
@@ -78,7 +79,7 @@ fn push_from(
     table: &Table,
     terminals: &[Terminal],
     signals: &mut Signals,
-) -> Result<(), MapFault>
+) -> Result<(), Stopped<MapFault>>
     requires plain { are_plain_names terminals.now ≡ true }
     requires few { length terminals.now ≤ 3 }
     ensures { Becomes result (signals_values signals.new)
@@ -100,7 +101,7 @@ fn push_table(
     k: u32,
     value: &Value,
     signals: &mut Signals,
-) -> Result<(), MapFault>
+) -> Result<(), Stopped<MapFault>>
     requires { k < length line.now.terminals.items }
     ensures { Becomes result (signals_values signals.new)
         (losses_in line.now path k (view value.now) (signals_values signals.old)) }
@@ -119,7 +120,7 @@ pub fn push_losses(
     k: u32,
     value: Option<&Value>,
     signals: &mut Signals,
-) -> Result<(), MapFault>
+) -> Result<(), Stopped<MapFault>>
     requires { k < length line.now.terminals.items }
     ensures { Becomes result (signals_values signals.new)
         (losses_or_none line.now path k (option_map (λ v. view v.now) value.entry)

@@ -2,7 +2,7 @@
 
 ghost use Rattle.std.specs.Prelude.{◌<◌, ◌^◌, map};
 ghost use Rattle.toml.specs.View.{table_view};
-ghost use Rattle.file_records.specs.map.Reading.{Gives};
+ghost use Rattle.base_memory.specs.Gives.{Gives};
 ghost use Rattle.file_records.specs.map.Recorders.{recorder_values};
 ghost use Rattle.file_records.specs.map.Maps.{map_values, recorders_of, map_in, map_of};
 
@@ -13,6 +13,7 @@ use crate::map::map::Map;
 use crate::map::path::Path;
 use crate::map::recorder::Recorder;
 use crate::map::recorders::recorders_in;
+use base_memory::Stopped;
 use model_line::Line;
 use std::alloc::Global;
 use toml::Table;
@@ -24,7 +25,7 @@ fn recorders(
     line: &Line,
     start: u128,
     top: &Table,
-) -> Result<Vec<Recorder>, MapFault>
+) -> Result<Vec<Recorder>, Stopped<MapFault>>
     requires { start < 2 ^ 80 }
     ensures { Gives (λ v. map recorder_values v.items) result
         (recorders_of line.now start (table_view top.now)) }
@@ -35,7 +36,7 @@ fn recorders(
 }
 
 #[tactic(auto, unfolding(crate::specs::map::Maps::map_in))]
-fn map_in(alloc: Global, line: &Line, top: &Table) -> Result<Map, MapFault>
+fn map_in(alloc: Global, line: &Line, top: &Table) -> Result<Map, Stopped<MapFault>>
     ensures { Gives map_values result (map_in line.now (table_view top.now)) }
 {
     number(Path::root(), "version", 1, 1, top)?;
@@ -55,10 +56,10 @@ fn map_in(alloc: Global, line: &Line, top: &Table) -> Result<Map, MapFault>
 
 /// The map of these bytes, for a line, or its first fault.
 ///
-/// `NotToml` comes where the bytes are no TOML document. Every other fault but `Memory` tells the
-/// first place, in the order in which a map is read, that is not as it has to be.
+/// `NotToml` comes where the bytes are no TOML document. Every other fault tells the first
+/// place, in the order in which a map is read, that is not as it has to be.
 #[tactic(auto, unfolding(crate::specs::map::Maps::map_of))]
-pub fn read_map(alloc: Global, line: &Line, bytes: &[u8]) -> Result<Map, MapFault>
+pub fn read_map(alloc: Global, line: &Line, bytes: &[u8]) -> Result<Map, Stopped<MapFault>>
     ensures { Gives map_values result (map_of line.now bytes.now) }
 {
     let table = open(alloc, bytes)?;

@@ -3,7 +3,7 @@
 ghost use Rattle.std.specs.Prelude.{◌≡◌, ◌<◌, ◌≤◌, ◌^◌, [], IfOk, map, length, option_map};
 ghost use Rattle.toml.specs.View.{view, table_view, items_view};
 ghost use Rattle.model_names.specs.NumbersByName.{terminal_named};
-ghost use Rattle.file_records.specs.map.Reading.{Gives};
+ghost use Rattle.base_memory.specs.Gives.{Gives};
 ghost use Rattle.file_records.specs.map.Recorders.{recorder_values, terminal_in, terminal_at, config_in};
 ghost use Rattle.file_records.specs.map.Recorders.{config_at, order_named, order_in, order_or_none};
 ghost use Rattle.file_records.specs.map.Recorders.{recorder_at, recorder_in, recorder_keys, recorders_in};
@@ -15,6 +15,7 @@ use crate::map::keys::{find, only, table_of, text, text_of};
 use crate::map::path::Path;
 use crate::map::recorder::Recorder;
 use crate::map::signals::signals;
+use base_memory::Stopped;
 use file_comtrade::DateOrder;
 use model_line::Line;
 use model_names::terminal_of_name;
@@ -52,7 +53,7 @@ fn terminal(line: &Line, path: Path, table: &Table) -> Result<u32, MapFault>
 }
 
 // The name of a configuration.
-fn config_in(alloc: Global, path: Path, name: &[u8]) -> Result<Vec<u8>, MapFault>
+fn config_in(alloc: Global, path: Path, name: &[u8]) -> Result<Vec<u8>, Stopped<MapFault>>
     ensures said { Gives (λ v. v.items) result (config_in path name.now) }
     ensures long { IfOk result (λ v. 4 ≤ length v.items) }
 {
@@ -60,14 +61,14 @@ fn config_in(alloc: Global, path: Path, name: &[u8]) -> Result<Vec<u8>, MapFault
         return Ok(Vec::from_slice(alloc, name)?);
     }
     if is_one_file(name) {
-        Err(MapFault::OneFile(path))
+        Err(Stopped::Fault(MapFault::OneFile(path)))
     } else {
-        Err(MapFault::BadName(path))
+        Err(Stopped::Fault(MapFault::BadName(path)))
     }
 }
 
 #[tactic(auto, unfolding(crate::specs::map::Recorders::config_at))]
-fn config(alloc: Global, path: Path, table: &Table) -> Result<Vec<u8>, MapFault>
+fn config(alloc: Global, path: Path, table: &Table) -> Result<Vec<u8>, Stopped<MapFault>>
     ensures said { Gives (λ v. v.items) result (config_at path (table_view table.now)) }
     ensures long { IfOk result (λ v. 4 ≤ length v.items) }
 {
@@ -110,7 +111,7 @@ fn recorder_in(
     start: u128,
     path: Path,
     table: &Table,
-) -> Result<Recorder, MapFault>
+) -> Result<Recorder, Stopped<MapFault>>
     requires { start < 2 ^ 80 }
     ensures { Gives recorder_values result (recorder_in line.now start path (table_view table.now)) }
 {
@@ -136,7 +137,7 @@ fn recorder(
     start: u128,
     path: Path,
     value: &Value,
-) -> Result<Recorder, MapFault>
+) -> Result<Recorder, Stopped<MapFault>>
     requires { start < 2 ^ 80 }
     ensures { Gives recorder_values result (recorder_at line.now start path (view value.now)) }
 {
@@ -152,7 +153,7 @@ pub fn recorders_in(
     start: u128,
     path: Path,
     items: &[Value],
-) -> Result<Vec<Recorder>, MapFault>
+) -> Result<Vec<Recorder>, Stopped<MapFault>>
     requires { start < 2 ^ 80 }
     ensures { Gives (λ v. map recorder_values v.items) result
         (recorders_in line.now start path 0 (items_view items.now) []) }

@@ -2,7 +2,7 @@
 
 ghost use Rattle.std.specs.Prelude.{◌≡◌, ◌<◌, length, option_map};
 ghost use Rattle.toml.specs.View.{view, table_view};
-ghost use Rattle.file_records.specs.map.Reading.{Becomes, Gives};
+ghost use Rattle.base_memory.specs.Gives.{Becomes, Gives};
 ghost use Rattle.file_records.specs.map.Signals.{signals_values, with_sources, said_or_not, signal_under, shown};
 ghost use Rattle.file_records.specs.map.Signals.{elements_of, signals_of};
 
@@ -12,6 +12,7 @@ use crate::map::losses::push_losses;
 use crate::map::path::Path;
 use crate::map::source::{Signal, Signals};
 use crate::map::sources::push_sources;
+use base_memory::Stopped;
 use model_line::{Element, Line, Place, What};
 use std::alloc::Global;
 use toml::{Table, Value};
@@ -23,7 +24,7 @@ fn push_value(
     signal: Signal,
     value: &Value,
     signals: &mut Signals,
-) -> Result<(), MapFault>
+) -> Result<(), Stopped<MapFault>>
     ensures { Becomes result (signals_values signals.new)
         (with_sources path signal (view value.now) (signals_values signals.old)) }
 {
@@ -38,7 +39,7 @@ fn push_optional(
     signal: Signal,
     value: Option<&Value>,
     signals: &mut Signals,
-) -> Result<(), MapFault>
+) -> Result<(), Stopped<MapFault>>
     ensures { Becomes result (signals_values signals.new)
         (said_or_not path signal (option_map (λ v. view v.now) value.entry)
         (signals_values signals.old)) }
@@ -57,7 +58,7 @@ pub fn push_signal(
     signal: Signal,
     table: &Table,
     signals: &mut Signals,
-) -> Result<(), MapFault>
+) -> Result<(), Stopped<MapFault>>
     ensures { Becomes result (signals_values signals.new)
         (signal_under path key.now signal (table_view table.now)
         (signals_values signals.old)) }
@@ -80,7 +81,7 @@ fn push_elements(
     k: u32,
     table: &Table,
     signals: &mut Signals,
-) -> Result<(), MapFault>
+) -> Result<(), Stopped<MapFault>>
     ensures { Becomes result (signals_values signals.new)
         (elements_of path k (table_view table.now) (signals_values signals.old)) }
 {
@@ -99,7 +100,7 @@ pub fn signals(
     path: Path,
     k: u32,
     table: &Table,
-) -> Result<Signals, MapFault>
+) -> Result<Signals, Stopped<MapFault>>
     requires { k < length line.now.terminals.items }
     ensures { Gives signals_values result
         (signals_of line.now path k (table_view table.now)) }

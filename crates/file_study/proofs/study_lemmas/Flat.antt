@@ -12,7 +12,7 @@ use Rattle.toml.specs.View.{items_of}
 use Rattle.model_line.specs.declared.bounds.Bounds.{Bounds}
 use Rattle.model_line.specs.{declared.line.Terminal.Terminal, declared.line.Channel.Channel}
 use Rattle.model_line.specs.{ParamNames.name_at, ParamNames.pair_name}
-use Rattle.base_records.specs.CheckLaws.{passed, same_ok}
+use Rattle.base_memory.specs.CheckLaws.{passed, same_ok}
 use Rattle.file_line.specs.Canonical.{put_member, table_of}
 use Rattle.file_study.specs.declared.study.fault.StudyFault.{StudyFault}
 use Rattle.file_study.specs.declared.study.units.Units.{Units}
@@ -20,7 +20,7 @@ use Rattle.file_study.specs.study.Settings.{ends_data, time_data, time_in, put_t
 use Rattle.file_study.specs.study.Settings.{put_settings, put_optional, put_section}
 use Rattle.file_study.specs.study.LineTables.{owner_members, tables_of, terminal_members}
 use Rattle.file_study.specs.study.LineTables.{channel_members, terminal_tables, channel_tables}
-use Rattle.file_study.specs.study.LineTables.{line_head, line_table, head_pairs, section_at, channels_of}
+use Rattle.file_study.specs.study.LineTables.{line_head, line_table, with_tables, head_pairs, section_at, channels_of}
 use Rattle.file_study.specs.study.LineTables.{horizon_of, terminals_of}
 use Rattle.file_study.specs.{study.Paths.under, study.Moments.bounds_of, study.Keys.table_or_none, study.Keys.member_of}
 use Rattle.file_study.specs.study.Keys.{text_at, flag_or_false}
@@ -230,20 +230,25 @@ line_head_flat units top out e =
 array_flat : (ds : List Data) → ListFlat 3 ds → IsFlat 4 (array (items_of ds))
 array_flat ds flat = let deep = flat.deep in record { deep = omega arith; dated = flat.dated }
 
+with_tables_flat : (units : Units) (ts : List Terminal) (top head out : Members)
+    → with_tables units ts top head ≡ Ok out → AreFlat 4 head → AreFlat 4 out
+unfolding with_tables
+with_tables_flat units ts top head out e flat =
+    let r = passed (section_at (codes "default")
+    (codes "terminal" ∷ codes "channel" ∷ []) top) _ out e in
+    let s = passed (terminal_tables units r.value ts top) _ out r.rest in
+    let t = passed (channel_tables units r.value ts top) _ out s.rest in
+    subst (AreFlat 4) (same_ok {F = StudyFault} _ out t.rest)
+    (put_flat 4 (codes "channel") (array (items_of t.value))
+    (put_member (codes "terminal") (array (items_of s.value)) head)
+    (array_flat t.value (channel_tables_flat units r.value ts top t.value t.was))
+    (put_flat 4 (codes "terminal") (array (items_of s.value)) head
+    (array_flat s.value (terminal_tables_flat units r.value ts top s.value s.was)) flat))
+
 pub line_flat : (units : Units) (top out : Members) → line_table units top ≡ Ok out
     → AreFlat 4 out
 unfolding line_table
 line_flat units top out e =
     let p = passed (line_head units top) _ out e in
     let q = passed (terminals_of top) _ out p.rest in
-    let r = passed (section_at (codes "default")
-    (codes "terminal" ∷ codes "channel" ∷ []) top) _ out q.rest in
-    let s = passed (terminal_tables units r.value q.value top) _ out r.rest in
-    let t = passed (channel_tables units r.value q.value top) _ out s.rest in
-    subst (AreFlat 4) (same_ok {F = StudyFault} _ out t.rest)
-    (put_flat 4 (codes "channel") (array (items_of t.value))
-    (put_member (codes "terminal") (array (items_of s.value)) p.value)
-    (array_flat t.value (channel_tables_flat units r.value q.value top t.value t.was))
-    (put_flat 4 (codes "terminal") (array (items_of s.value)) p.value
-    (array_flat s.value (terminal_tables_flat units r.value q.value top s.value s.was))
-    (line_head_flat units top p.value p.was)))
+    with_tables_flat units q.value top p.value out q.rest (line_head_flat units top p.value p.was)

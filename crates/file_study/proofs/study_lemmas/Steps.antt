@@ -6,7 +6,7 @@ use Rattle.toml.specs.{View.view, View.items_view, View.members_view, declared.v
 use Rattle.toml.specs.Data.{Data, Members, table}
 use Rattle.toml.proofs.Views.{Entry, items_view-drop}
 use Rattle.model_line.specs.declared.line.Terminal.{Terminal}
-use Rattle.base_records.specs.Gives.{◌>>=◌}
+use Rattle.base_memory.specs.Gives.{◌>>=◌}
 use Rattle.file_line.specs.Canonical.{put_member}
 use Rattle.file_line.specs.Lines.{LineValues}
 use Rattle.model_line.specs.declared.script.Kind.{Kind}

@@ -11,16 +11,17 @@ use Rattle.model_line.specs.{declared.line.Line.Line, declared.script.Script.Scr
 use Rattle.model_line.specs.Fits.{Fits}
 use Rattle.file_tables.specs.script.Values.{ScriptValues, values_of}
 use Rattle.file_tables.specs.script.SoFar.{AreOnce, names_in}
+use Rattle.base_memory.specs.{Gives.OfFault, declared.stopped.Stopped.Stopped}
+use Rattle.base_memory.specs.declared.stopped.Stopped.TheVariants as stopped
 use Rattle.file_study.specs.declared.study.stage.SweptFault.{SweptFault}
 use Rattle.file_study.specs.study.Faults.{FaultValues, fault_values}
 use Rattle.file_study.specs.sweeps.Groups.{GroupValues, group_of, group_values, own_scripts, swept_from}
 use Rattle.file_study.specs.{sweeps.Refusals.IsAccepted, sweeps.Sweeps.count_of, sweeps.Sweeps.scripts_of}
-use Rattle.file_study.specs.sweeps.Studies.{AreScriptsOf, HasTwice, IsFirstRefused, IsPushed, IsTwice}
+use Rattle.file_study.specs.sweeps.Studies.{AreScriptsOf, HasTwice, IsPushed, IsTwice}
 use Rattle.file_study.specs.sweeps.Studies.{IsRefusedBehind, IsStudyRefused, script_names}
 use Rattle.file_study.specs.declared.sweeps.group.Group.{Group}
 use Rattle.file_study.specs.declared.sweeps.study.StudyScripts.{StudyScripts}
 use Rattle.file_study.specs.declared.sweeps.study_fault.StudySweepFault.{StudySweepFault}
-use Rattle.file_study.specs.declared.sweeps.study_fault.StudySweepFault.TheVariants as fault
 use Rattle.file_study.proofs.sweeps_lemmas.Names.{values_names}
 
 pub own_of : (f : FaultValues) (own : List Script) → scripts_of f ≡ Some (map values_of own)
@@ -132,11 +133,14 @@ next_fault line fs i f old new more so pushed =
       once = pushed.once;
     })
 
-first_refused : (line : Line) (fs : List FaultValues) (i : ℕ) (f : FaultValues)
-    (scripts : List Script) (groups : List Group) (why : StudySweepFault)
+-- the first fault that has no scripts
+pub study_refused : (line : Line) (fs : List FaultValues) (i : ℕ) (f : FaultValues)
+    (scripts : List Script) (groups : List Group) (why : Stopped StudySweepFault)
     → slice_get fs i ≡ Some f → AreScriptsOf line (take i fs) scripts groups
-    → IsRefusedBehind line (map values_of scripts) i f why → IsFirstRefused line fs why
-first_refused line fs i f scripts groups why at so behind = record {
+    → OfFault (IsRefusedBehind line (map values_of scripts) i f) why
+    → OfFault (IsStudyRefused line fs) why
+study_refused line fs i f scripts groups stopped.Memory at so behind = tt
+study_refused line fs i f scripts groups (stopped.Fault why) at so behind = record {
   i = i;
   f = f;
   at = at;
@@ -147,14 +151,3 @@ first_refused line fs i f scripts groups why at so behind = record {
   refused =
       subst (λ (d : List ScriptValues). IsRefusedBehind line d i f why) so.scripts_are behind;
 }
-
--- the first fault that has no scripts
-pub study_refused : (line : Line) (fs : List FaultValues) (i : ℕ) (f : FaultValues)
-    (scripts : List Script) (groups : List Group) (why : StudySweepFault)
-    → slice_get fs i ≡ Some f → AreScriptsOf line (take i fs) scripts groups
-    → IsRefusedBehind line (map values_of scripts) i f why → IsStudyRefused line fs why
-study_refused line fs i f scripts groups (fault.Refused j name w) at so behind =
-    first_refused line fs i f scripts groups (fault.Refused j name w) at so behind
-study_refused line fs i f scripts groups (fault.Twice j name k) at so behind =
-    first_refused line fs i f scripts groups (fault.Twice j name k) at so behind
-study_refused line fs i f scripts groups fault.Memory at so behind = tt

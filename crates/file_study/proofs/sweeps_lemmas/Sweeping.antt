@@ -1,5 +1,5 @@
 -- The choices of a fault and their scripts, one after another.
-use Rattle.std.proofs.Common.{◌≡◌, ◌+◌, ◌-◌, ◌*◌, ◌<◌, ◌++◌, ℕ, suc, List, [], ◌∷◌, sym, ◌∙◌}
+use Rattle.std.proofs.Common.{◌≡◌, ◌+◌, ◌-◌, ◌*◌, ◌/◌, ◌<◌, ◌++◌, ℕ, suc, List, [], ◌∷◌, sym, ◌∙◌}
 use Rattle.std.proofs.Common.{ap, refl, length, get_or, drop, map, Option, None, Some, arith}
 use Rattle.std.proofs.Common.{append_assoc}
 use Rattle.std.proofs.lemmas.List.{drop_more, map_push}
@@ -7,7 +7,7 @@ use Rattle.model_line.specs.declared.script.Script.{Script}
 use Rattle.file_tables.specs.script.Values.{ScriptValues, values_of}
 use Rattle.file_study.specs.declared.study.stage.Stage.{Stage}
 use Rattle.file_study.specs.study.Faults.{FaultValues, stage_values}
-use Rattle.file_study.specs.sweeps.Choices.{choice_of, lasts_at}
+use Rattle.file_study.specs.sweeps.Choices.{choice_of, lasts_at, value_at}
 use Rattle.file_study.specs.sweeps.Scripts.{script_of}
 use Rattle.file_study.specs.sweeps.Sweeps.{limited, counted, script_name, scripts_from}
 
@@ -16,6 +16,22 @@ pub length_lasts : (ss : List Stage) (k : ℕ)
     → length (lasts_at (map stage_values ss) k) ≡ length ss
 length_lasts [] k = refl
 length_lasts (s ∷ ss) k = ap suc (length_lasts ss _)
+
+-- how long one stage more lasts
+pub lasts_more : (ss : List Stage) (i left : ℕ) (x : Stage) (done : List ℕ) (v rest : ℕ)
+    (total : List ℕ) → i < length ss → x ≡ get_or ss i x → v ≡ value_at x.lasts.items left
+    → rest ≡ left / length x.lasts.items
+    → done ++ lasts_at (map stage_values (drop i ss)) left ≡ total
+    → (done ++ v ∷ []) ++ lasts_at (map stage_values (drop (i + 1) ss)) rest ≡ total
+lasts_more ss i left x done v rest total below is value behind so_far =
+    let more : List ℕ = lasts_at (map stage_values (drop (i + 1) ss)) rest in
+    let step : v ∷ more ≡ lasts_at (map stage_values (drop i ss)) left =
+    ap (λ (w : ℕ). w ∷ more) value
+    ∙ (ap (λ (n : ℕ). value_at x.lasts.items left ∷ lasts_at (map stage_values (drop (i + 1) ss)) n)
+    behind
+    ∙ sym (ap (λ (r : List Stage). lasts_at (map stage_values r) left)
+    (drop_more ss i x below ∙ ap (λ (y : Stage). y ∷ drop (i + 1) ss) (sym is)))) in
+    append_assoc done (v ∷ []) more ∙ (ap (λ (r : List ℕ). done ++ r) step ∙ so_far)
 
 counted_nil : (n : Option ℕ) → counted n [] ≡ n
 counted_nil None = refl

@@ -4,7 +4,8 @@ use Rattle.file_study.specs.declared.times.fraction.Fraction.{Fraction}
 use Rattle.file_study.specs.declared.times.word.Sign.{Sign}
 use Rattle.file_study.specs.declared.times.word.Sign.TheVariants as sign
 use Rattle.file_study.specs.{times.Units.whole}
-use Rattle.file_study.specs.times.Times.{◌>>=◌, measured_at, closed, tolerated, behind_tolerance}
+use Rattle.base_memory.specs.Gives.{◌>>=◌}
+use Rattle.file_study.specs.times.Times.{measured_at, closed, tolerated, behind_tolerance}
 
 module _ (hertz : Option ℕ) (text : List ℕ) (value number : Fraction) (margin : Fraction)
     (is : Ok margin ≡ measured_at hertz text number 4) where

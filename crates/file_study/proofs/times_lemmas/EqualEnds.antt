@@ -10,7 +10,8 @@ use Rattle.file_study.specs.declared.times.word.Sign.TheVariants as sign
 use Rattle.file_study.specs.{times.Numbers.number_in}
 use Rattle.file_study.specs.times.Fractions.{times}
 use Rattle.file_study.specs.times.Words.{place_of, word_of, sign_in, sign_at}
-use Rattle.file_study.specs.times.Times.{◌>>=◌, number_at, unit_at, measured_at, ends_at, interval}
+use Rattle.base_memory.specs.Gives.{◌>>=◌}
+use Rattle.file_study.specs.times.Times.{number_at, unit_at, measured_at, ends_at, interval}
 use Rattle.file_study.specs.times.Times.{behind_value, behind_number, first_number, time_of}
 
 -- where two readings in order give something, the first does

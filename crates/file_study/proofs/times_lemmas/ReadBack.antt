@@ -22,7 +22,8 @@ use Rattle.file_study.specs.times.Words.{sign_in, sign_at}
 use Rattle.file_study.specs.times.Numbers.{is_point, is_whole, is_parted_well, whole_part, decimals}
 use Rattle.file_study.specs.times.Numbers.{number_in}
 use Rattle.file_study.specs.{times.Units.whole, times.Units.unit_in, times.Fractions.times}
-use Rattle.file_study.specs.times.Times.{◌>>=◌, time_of, interval, number_at, unit_at, first_number}
+use Rattle.base_memory.specs.Gives.{◌>>=◌}
+use Rattle.file_study.specs.times.Times.{time_of, interval, number_at, unit_at, first_number}
 use Rattle.file_study.specs.times.Times.{behind_number, behind_value}
 
 -- ---- digits are no spaces and no points

@@ -17,7 +17,6 @@ place_of (fault.BadTime path why) = Some path
 place_of (fault.Swept path) = Some path
 place_of (fault.NoInstant path) = Some path
 place_of (fault.TooMany path) = Some path
-place_of fault.Memory = None
 
 abbrev pub words_of_time : TimeFault → List ℕ
 words_of_time (time.NoValue at) = codes "a tolerance has no time before it"
@@ -42,4 +41,3 @@ words_of (fault.BadTime path why) = words_of_time why
 words_of (fault.Swept path) = codes "only the times of a fault are swept"
 words_of (fault.NoInstant path) = codes "one time is needed, no interval"
 words_of (fault.TooMany path) = codes "too many values"
-words_of fault.Memory = codes "memory ran out"

@@ -6,7 +6,7 @@ use Rattle.std.specs.List.{list_any}
 use Rattle.toml.specs.Data.{Data, Items, no_items, item, Members, get_member}
 use Rattle.model_line.specs.declared.script.Kind.TheVariants.{Internal, External}
 use Rattle.model_line.specs.{declared.script.Kind.Kind, PlainNames.is_plain_name}
-use Rattle.base_records.specs.Gives.{◌>>=◌}
+use Rattle.base_memory.specs.Gives.{◌>>=◌}
 use Rattle.file_line.specs.Lines.{LineValues}
 use Rattle.file_study.specs.declared.study.fault.StudyFault.{StudyFault}
 use Rattle.file_study.specs.declared.study.fault.StudyFault.TheVariants as fault
@@ -129,18 +129,30 @@ stages_in kind units line path i (item d ds) done = do
   stage ← stage_at kind units line (numbered path i) d
   stages_in kind units line path (i + 1) ds (done ++ stage ∷ [])
 
--- the stages of a fault: 1 to 20, or the fault itself is one
+-- 1 to 20 stages
+unfoldable pub several_stages : Kind → Units → LineValues → List ℕ → Data
+    → Result (List StageValues) StudyFault
+several_stages kind units line path d = do
+  all ← array_in path d
+  ds ← counted path 1 20 all
+  stages_in kind units line path 0 ds []
+
+-- the fault itself as its only stage
+unfoldable pub only_stage : Kind → Units → LineValues → List ℕ → Members
+    → Result (List StageValues) StudyFault
+only_stage kind units line path ms = do
+  stage ← stage_in kind units line path ms
+  Ok (stage ∷ [])
+
+-- the stages of a fault, which has no other keys
 abbrev pub stages_or_one : Kind → Units → LineValues → List ℕ → Members → Option Data
     → Result (List StageValues) StudyFault
 stages_or_one kind units line path ms None = do
   _ ← all_known path (whole_keys kind ++ terminal_names line) ms
-  stage ← stage_in kind units line path ms
-  Ok (stage ∷ [])
+  only_stage kind units line path ms
 stages_or_one kind units line path ms (Some d) = do
   _ ← all_known path (head_keys kind) ms
-  all ← array_in (under path (codes "stage")) d
-  ds ← counted (under path (codes "stage")) 1 20 all
-  stages_in kind units line (under path (codes "stage")) 0 ds []
+  several_stages kind units line (under path (codes "stage")) d
 
 unfoldable pub stages_of : Kind → Units → LineValues → List ℕ → Members
     → Result (List StageValues) StudyFault

@@ -6,7 +6,7 @@ use Rattle.toml.specs.Data.{item, get_member}
 use Rattle.toml.specs.View.{items_of}
 use Rattle.model_line.specs.{declared.line.Terminal.Terminal, declared.line.Channel.Channel}
 use Rattle.model_line.specs.{PlainNames.is_plain_name, ParamNames.name_at, ParamNames.pair_name}
-use Rattle.base_records.specs.Gives.{◌>>=◌}
+use Rattle.base_memory.specs.Gives.{◌>>=◌}
 use Rattle.file_line.specs.{Canonical.table_of, Canonical.put_all, Lines.LineValues}
 use Rattle.file_line.specs.{LineFiles.line_in}
 use Rattle.file_line.specs.declared.fault.LineFault.{LineFault}
@@ -135,15 +135,20 @@ line_head units top = do
   zone1_trip ← flag_or_false (under [] (codes "zone1_trip")) (get_member (codes "zone1_trip") top)
   Ok (table_of (head_pairs units horizon scheme zone1_trip))
 
+-- the tables of the terminals and of the channels, behind the head
+unfoldable pub with_tables : Units → List Terminal → Members → Members → Result Members StudyFault
+with_tables units ts top head = do
+  defaults ← section_at (codes "default") (codes "terminal" ∷ codes "channel" ∷ []) top
+  terminals ← terminal_tables units defaults ts top
+  channels ← channel_tables units defaults ts top
+  Ok (put_all (table_pairs terminals channels) head)
+
 -- the line file of a study, as a table
 unfoldable pub line_table : Units → Members → Result Members StudyFault
 line_table units top = do
   head ← line_head units top
   ts ← terminals_of top
-  defaults ← section_at (codes "default") (codes "terminal" ∷ codes "channel" ∷ []) top
-  terminals ← terminal_tables units defaults ts top
-  channels ← channel_tables units defaults ts top
-  Ok (put_all (table_pairs terminals channels) head)
+  with_tables units ts top head
 
 -- a place in the line file
 abbrev pub in_line : List ℕ → List ℕ
@@ -159,7 +164,6 @@ as_study (line_fault.Range path) = fault.Range (in_line path)
 as_study (line_fault.BadName path) = fault.BadName (in_line path)
 as_study (line_fault.Twice path) = fault.Twice (in_line path)
 as_study (line_fault.Channels from to) = fault.Missing (in_line from)
-as_study line_fault.Memory = fault.Memory
 
 abbrev pub as_line : Result LineValues LineFault → Result LineValues StudyFault
 as_line (Ok line) = Ok line

@@ -7,7 +7,7 @@ use Rattle.file_study.specs.declared.times.time.{Sweep.Sweep, Time.Time, Interva
 use Rattle.file_study.specs.declared.times.time.Time.TheVariants as time
 use Rattle.file_study.specs.{times.Times.time_of, times.Sweeps.value_of, times.Fractions.is_at_most}
 use Rattle.model_line.specs.declared.bounds.Bounds.{Bounds}
-use Rattle.base_records.specs.Gives.{◌>>=◌}
+use Rattle.base_memory.specs.Gives.{◌>>=◌}
 use Rattle.file_study.specs.declared.study.fault.StudyFault.{StudyFault}
 use Rattle.file_study.specs.declared.study.fault.StudyFault.TheVariants as fault
 use Rattle.file_study.specs.declared.study.units.Units.{Units}

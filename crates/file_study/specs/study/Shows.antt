@@ -9,7 +9,7 @@ use Rattle.model_line.specs.{declared.script.Element.Element}
 use Rattle.model_line.specs.declared.script.What.TheVariants as what
 use Rattle.model_line.specs.declared.line.Terminal.{Terminal}
 use Rattle.model_names.specs.NumbersByName.{has_name}
-use Rattle.base_records.specs.Gives.{◌>>=◌}
+use Rattle.base_memory.specs.Gives.{◌>>=◌}
 use Rattle.file_line.specs.Lines.{LineValues}
 use Rattle.file_study.specs.declared.study.fault.StudyFault.{StudyFault}
 use Rattle.file_study.specs.declared.study.fault.StudyFault.TheVariants as fault

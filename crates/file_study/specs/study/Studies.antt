@@ -1,7 +1,7 @@
 -- What a study says.
 use Rattle.std.specs.Prelude.{◌≡◌, ℕ, List, [], ◌∷◌, Result, Ok, Err, codes, map, string_bytes}
 use Rattle.toml.specs.Data.{Members}
-use Rattle.base_records.specs.Gives.{◌>>=◌}
+use Rattle.base_memory.specs.Gives.{◌>>=◌}
 use Rattle.file_line.specs.{Keys.document_of, Lines.LineValues, Lines.line_values}
 use Rattle.file_line.specs.{LineFiles.line_of}
 use Rattle.file_study.specs.declared.study.fault.StudyFault.{StudyFault}
@@ -41,6 +41,13 @@ faults_of units line top = do
   ds ← counted (under [] (codes "fault")) 1 1000 all
   faults_in units line (under [] (codes "fault")) 0 ds []
 
+-- what a document of this title and these units says
+unfoldable pub study_with : List ℕ → Units → Members → Result StudyValues StudyFault
+study_with title units top = do
+  line ← line_of_study units top
+  faults ← faults_of units line top
+  Ok (record { title = title; units = units; line = line; faults = faults })
+
 -- what a document says
 unfoldable pub study_in : Members → Result StudyValues StudyFault
 study_in top = do
@@ -48,9 +55,7 @@ study_in top = do
   _ ← all_known [] top_keys top
   title ← text_at [] (codes "title") top
   units ← units_of top
-  line ← line_of_study units top
-  faults ← faults_of units line top
-  Ok (record { title = title; units = units; line = line; faults = faults })
+  study_with title units top
 
 -- what these bytes say
 unfoldable pub study_of : List ℕ → Result StudyValues StudyFault

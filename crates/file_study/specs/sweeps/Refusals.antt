@@ -1,6 +1,6 @@
 -- Which choices of a fault have no script of a line, and why.
 use Rattle.std.specs.Prelude.{◌≡◌, ◌<◌, ◌+◌, ◌&&◌, ℕ, Bool, List, [], ◌∷◌, Option, None}
-use Rattle.std.specs.Prelude.{Some, ⊤, length, map, sum, max, nat_le}
+use Rattle.std.specs.Prelude.{Some, length, map, sum, max, nat_le}
 use Rattle.std.specs.Prelude.{if◌then◌else◌}
 use Rattle.std.specs.List.{list_all}
 use Rattle.model_line.specs.Fits.{deadline_fits, span_fits}
@@ -46,15 +46,6 @@ pub record IsAccepted (line : Line) (f : FaultValues) : Type 0 where
   pub count : count_of f ≡ Some n
   pub each : (k : ℕ) → k < n → choice_refusal line f n k ≡ None
 
--- this is why choice k of n has none, which is not for the count; of want of memory nothing is said
-abbrev pub RefusesSo : Line → FaultValues → ℕ → ℕ → SweepFault → Type 0
-RefusesSo line f n k fault.TooMany = ⊥
-RefusesSo line f n k (fault.BadName j) = choice_refusal line f n k ≡ Some (fault.BadName j)
-RefusesSo line f n k (fault.Horizon j ticks tick_us) =
-    choice_refusal line f n k ≡ Some (fault.Horizon j ticks tick_us)
-RefusesSo line f n k (fault.NoFit j) = choice_refusal line f n k ≡ Some (fault.NoFit j)
-RefusesSo line f n k fault.Memory = ⊤
-
 -- choice k is the first that has none
 pub record IsRefusedAt (line : Line) (f : FaultValues) (why : SweepFault) : Type 0 where
   pub n : ℕ
@@ -64,11 +55,10 @@ pub record IsRefusedAt (line : Line) (f : FaultValues) (why : SweepFault) : Type
   pub here : choice_refusal line f n k ≡ Some why
   pub before : (j : ℕ) → j < k → choice_refusal line f n j ≡ None
 
--- why the fault has no scripts; of want of memory nothing is said
+-- why the fault has no scripts
 abbrev pub IsRefused : Line → FaultValues → SweepFault → Type 0
 IsRefused line f fault.TooMany = count_of f ≡ None
 IsRefused line f (fault.BadName k) = IsRefusedAt line f (fault.BadName k)
 IsRefused line f (fault.Horizon k ticks tick_us) =
     IsRefusedAt line f (fault.Horizon k ticks tick_us)
 IsRefused line f (fault.NoFit k) = IsRefusedAt line f (fault.NoFit k)
-IsRefused line f fault.Memory = ⊤

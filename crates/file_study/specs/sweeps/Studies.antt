@@ -1,5 +1,5 @@
 -- The scripts of all faults of a study.
-use Rattle.std.specs.Prelude.{◌≡◌, ◌<◌, ℕ, List, [], ◌∷◌, ◌++◌, Some, ⊤, length, map, true}
+use Rattle.std.specs.Prelude.{◌≡◌, ◌<◌, ℕ, List, [], ◌∷◌, ◌++◌, Some, length, map, true}
 use Rattle.std.specs.Prelude.{get_or, take, slice_get}
 use Rattle.std.specs.List.{All, flat_map, list_any}
 use Rattle.std.specs.Str.{bytes_eq}
@@ -44,15 +44,15 @@ pub record IsTwice (line : Line) (done : List ScriptValues) (f : FaultValues) (n
   pub named : name ≡ get_or (names_in (own_scripts f)) k []
   pub twice : HasTwice (names_in done) (names_in (own_scripts f)) k
 
--- why fault i has no scripts behind those that are done; of want of memory nothing is said
+-- why fault i has no scripts behind those that are done
 abbrev pub IsRefusedBehind : Line → List ScriptValues → ℕ → FaultValues → StudySweepFault → Type 0
 IsRefusedBehind line done i f (fault.Refused j name why) =
     (j ≡ i) × (name ≡ f.name) × IsRefused line f why
 IsRefusedBehind line done i f (fault.Twice j name k) = (j ≡ i) × IsTwice line done f name k
-IsRefusedBehind line done i f fault.Memory = ⊤
 
--- fault i is the first that has none: those before it have, no two of one name
-pub record IsFirstRefused (line : Line) (fs : List FaultValues) (why : StudySweepFault)
+-- why a study has no scripts: fault i is the first that has none, and those before it have, no two
+-- of one name
+pub record IsStudyRefused (line : Line) (fs : List FaultValues) (why : StudySweepFault)
     : Type 0 where
   pub i : ℕ
   pub f : FaultValues
@@ -60,12 +60,6 @@ pub record IsFirstRefused (line : Line) (fs : List FaultValues) (why : StudySwee
   pub accepted : All (IsAccepted line) (take i fs)
   pub once : AreOnce (names_in (scripts_of_faults (take i fs)))
   pub refused : IsRefusedBehind line (scripts_of_faults (take i fs)) i f why
-
--- why a study has no scripts; of want of memory nothing is said
-abbrev pub IsStudyRefused : Line → List FaultValues → StudySweepFault → Type 0
-IsStudyRefused line fs (fault.Refused i name why) = IsFirstRefused line fs (fault.Refused i name why)
-IsStudyRefused line fs (fault.Twice i name k) = IsFirstRefused line fs (fault.Twice i name k)
-IsStudyRefused line fs fault.Memory = ⊤
 
 -- the scripts of one fault more, and its group
 pub record IsPushed (line : Line) (f : FaultValues) (old new : StudyScripts) : Type 0 where

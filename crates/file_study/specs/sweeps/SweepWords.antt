@@ -12,7 +12,6 @@ place_of sweep.TooMany = None
 place_of (sweep.BadName k) = Some (k + 1)
 place_of (sweep.Horizon k ticks tick_us) = Some (k + 1)
 place_of (sweep.NoFit k) = Some (k + 1)
-place_of sweep.Memory = None
 
 -- of a horizon of so many ticks that is needed; a line has at most 4,000
 abbrev pub horizon_words : ℕ → List ℕ
@@ -26,7 +25,6 @@ words_of sweep.TooMany = codes "more than 4096 scripts: write sweeps with fewer 
 words_of (sweep.BadName k) = codes ": its name is longer than 16 bytes: write a shorter name"
 words_of (sweep.Horizon k ticks tick_us) = horizon_words ticks
 words_of (sweep.NoFit k) = codes ": more than 200 spans: write fewer stages"
-words_of sweep.Memory = codes "memory ran out"
 
 -- the horizon that serves, in microseconds, where a line can have it
 abbrev pub horizon_to_write : SweepFault → Option ℕ
@@ -35,7 +33,6 @@ horizon_to_write (sweep.BadName k) = None
 horizon_to_write (sweep.Horizon k ticks tick_us) =
     if nat_le ticks 4000 then Some (ticks * tick_us) else None
 horizon_to_write (sweep.NoFit k) = None
-horizon_to_write sweep.Memory = None
 
 -- the pieces that say it
 abbrev pub place_pieces : Option ℕ → List (List ℕ)
@@ -57,4 +54,3 @@ study_pieces (fault.Refused i name why) =
 study_pieces (fault.Twice i name k) =
     codes "fault[" ∷ decimal i ∷ codes "]: another script has the name " ∷ name
     ∷ codes ": write another name of one of the faults" ∷ []
-study_pieces fault.Memory = codes "memory ran out" ∷ []

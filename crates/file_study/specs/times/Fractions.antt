@@ -16,7 +16,7 @@ abbrev pub is_at_most : Fraction → Fraction → Bool
 is_at_most a b = nat_le (a.over * b.under) (b.over * a.under)
 
 -- a number whose parts are at most so large
-pub record IsWithin (over under : ℕ) (a : Fraction) : Type 0 where
+pub record IsOfSize (over under : ℕ) (a : Fraction) : Type 0 where
   pub some : 0 < a.under
   pub under_most : a.under ≤ under
   pub over_most : a.over ≤ over

@@ -23,7 +23,7 @@ abbrev pub IsWhole : ℕ → Fraction → Type 0
 IsWhole tick_us a = (n : ℕ) × (IsAtMost (ticks tick_us n) a × IsAtMost a (ticks tick_us n))
 
 -- each time between the ends lies between these numbers of ticks
-abbrev pub Covers : ℕ → Interval → ℕ → ℕ → Type 0
-Covers tick_us ends least greatest = (a : Fraction)
+abbrev pub LiesBetween : ℕ → Interval → ℕ → ℕ → Type 0
+LiesBetween tick_us ends least greatest = (a : Fraction)
     → IsAtMost ends.least a → IsAtMost a ends.greatest
     → IsAtMost (ticks tick_us least) a × IsAtMost a (ticks tick_us greatest)

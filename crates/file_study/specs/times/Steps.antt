@@ -3,6 +3,7 @@ use Rattle.std.specs.Prelude.{◌+◌, ◌/◌, ◌%◌, ◌==◌, ◌&&◌, ◌
 use Rattle.std.specs.Prelude.{Option, None, Some, Result, Ok, Err, length, nat_le, nat_lt}
 use Rattle.std.specs.Prelude.{if◌then◌else◌}
 use Rattle.std.specs.List.{list_any, position_or_len}
+use Rattle.base_memory.specs.Gives.{◌>>=◌}
 use Rattle.base_text.specs.store.Number.{number_of as decimal_of}
 use Rattle.model_line.specs.declared.line.Line.{Line}
 use Rattle.file_study.specs.declared.times.{fault.TimeFault.TimeFault, fraction.Fraction.Fraction}
@@ -14,12 +15,6 @@ use Rattle.file_study.specs.declared.times.axis_fault.AxisFault.TheVariants as f
 use Rattle.file_study.specs.declared.times.axis_fault.Part.TheVariants as part
 use Rattle.file_study.specs.{times.Names.unknown_in, times.Parts.behind_of, times.Parts.dots_in, times.Parts.first_of}
 use Rattle.file_study.specs.times.Parts.{is_colon, is_equals, last_of, names_of, numbers_of, step_of}
-
-infixl 10 ◌>>=◌
-abbrev pub ◌>>=◌ : {A B : Type 0} → Result A AxisFault → (A → Result B AxisFault)
-    → Result B AxisFault
-(Ok x) >>= next = next x
-(Err why) >>= next = Err why
 
 -- ---- a number of ticks
 

@@ -2,6 +2,7 @@
 -- stand where it does.
 use Rattle.std.specs.Prelude.{◌+◌, ◌==◌, ◌<◌, ◌^◌, ℕ, List, Option, Result, Ok, Err}
 use Rattle.std.specs.Prelude.{if◌then◌else◌}
+use Rattle.base_memory.specs.Gives.{◌>>=◌}
 use Rattle.file_study.specs.declared.times.fault.TimeFault.{TimeFault}
 use Rattle.file_study.specs.declared.times.fault.TimeFault.TheVariants as fault
 use Rattle.file_study.specs.declared.times.fraction.Fraction.{Fraction}
@@ -9,17 +10,10 @@ use Rattle.file_study.specs.declared.times.time.{Sweep.Sweep, Time.Time}
 use Rattle.file_study.specs.declared.times.time.Time.TheVariants as time
 use Rattle.file_study.specs.declared.times.word.Sign.{Sign}
 use Rattle.file_study.specs.declared.times.word.Sign.TheVariants as sign
-use Rattle.file_study.specs.times.Fractions.{times, plus, less, is_at_most, IsAtMost, IsWithin}
+use Rattle.file_study.specs.times.Fractions.{times, plus, less, is_at_most, IsAtMost, IsOfSize}
 use Rattle.file_study.specs.times.Numbers.{number_in}
 use Rattle.file_study.specs.times.Units.{whole, unit_in}
 use Rattle.file_study.specs.times.Words.{place_of, word_of, sign_at}
-
--- One reading and then the next, which sees what the first one gave. The first fault ends it.
-infixl 10 ◌>>=◌
-abbrev pub ◌>>=◌ : {A B : Type 0} → Result A TimeFault → (A → Result B TimeFault)
-    → Result B TimeFault
-(Ok x) >>= next = next x
-(Err why) >>= next = Err why
 
 -- ---- a number, a unit, a value
 
@@ -141,11 +135,11 @@ time_of hertz text = do
 
 -- an end of an interval
 abbrev pub IsEnd : Fraction → Type 0
-IsEnd = IsWithin (10 ^ 37) (10 ^ 32)
+IsEnd = IsOfSize (10 ^ 37) (10 ^ 32)
 
 -- a number with its unit
 abbrev pub IsMeasured : Fraction → Type 0
-IsMeasured = IsWithin (10 ^ 15) (10 ^ 11)
+IsMeasured = IsOfSize (10 ^ 15) (10 ^ 11)
 
 -- a sweep whose step is not 0
 abbrev pub IsSwept : Sweep → Type 0

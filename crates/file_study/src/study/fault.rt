@@ -1,16 +1,15 @@
 //! Why a study is refused.
 
 ghost use Rattle.std.specs.Prelude.{◌≡◌};
-ghost use Rattle.file_study.specs.declared.study.fault.StudyFault.TheVariants.{Memory};
 ghost use Rattle.file_study.specs.study.FaultWords.{words_of_time};
 
 use crate::study::path::Path;
 use crate::times::TimeFault;
-use std::alloc::{AllocError, AllocFailed};
+use base_memory::Stopped;
 use std::fmt;
 
-/// The first fault of a study, with its place, or want of memory. A place that begins with `line`
-/// is one of the line file that the study comes to, as `line.terminal[0].z1.pickup`.
+/// The first fault of a study, with its place. A place that begins with `line` is one of the line
+/// file that the study comes to, as `line.terminal[0].z1.pickup`.
 #[derive(Clone, Copy, Drop)]
 pub enum StudyFault {
     /// The bytes are no TOML document.
@@ -35,14 +34,12 @@ pub enum StudyFault {
     NoInstant(Path),
     /// A sweep of more than 1,000 values, or a fault of more than 4,096 scripts.
     TooMany(Path),
-    /// Memory ran out.
-    Memory,
 }
 
 impl StudyFault {
     ghost use Rattle.file_study.specs.study.FaultWords.{words_of, place_of};
 
-    /// The place in the study; none of a document that is none, and of want of memory.
+    /// The place in the study; none of a document that is none.
     pub fn place(&self) -> Option<Path>
         ensures { result ≡ place_of self.now }
     {
@@ -57,7 +54,7 @@ impl StudyFault {
             | StudyFault::Swept(path)
             | StudyFault::NoInstant(path)
             | StudyFault::TooMany(path) => Some(*path),
-            StudyFault::NotToml | StudyFault::Memory => None,
+            StudyFault::NotToml => None,
         }
     }
 
@@ -77,7 +74,6 @@ impl StudyFault {
             StudyFault::Swept(_) => "only the times of a fault are swept",
             StudyFault::NoInstant(_) => "one time is needed, no interval",
             StudyFault::TooMany(_) => "too many values",
-            StudyFault::Memory => "memory ran out",
         }
     }
 }
@@ -108,26 +104,12 @@ fn time_words(fault: TimeFault) -> &'static str
     }
 }
 
-impl From<AllocError> for StudyFault {
-    ghost from_gives = { λ _ e. e ≡ Memory };
+impl From<StudyFault> for Stopped<StudyFault> {
+    ghost use Rattle.base_memory.specs.declared.stopped.Stopped.TheVariants as stopped;
 
-    fn from(_: AllocError) -> Self {
-        StudyFault::Memory
-    }
-}
+    ghost from_gives = { λ fault why. why ≡ stopped.Fault fault };
 
-impl<T: Drop> From<AllocFailed<T>> for StudyFault {
-    ghost from_gives = { λ _ e. e ≡ Memory };
-
-    fn from(_: AllocFailed<T>) -> Self {
-        StudyFault::Memory
-    }
-}
-
-impl From<model_line::Memory> for StudyFault {
-    ghost from_gives = { λ _ e. e ≡ Memory };
-
-    fn from(_: model_line::Memory) -> Self {
-        StudyFault::Memory
+    fn from(fault: StudyFault) -> Self {
+        Stopped::Fault(fault)
     }
 }

@@ -6,12 +6,13 @@ ghost use Rattle.std.specs.Str.{bytes_eq};
 ghost use Rattle.toml.specs.View.{view, table_view, items_view};
 ghost use Rattle.model_line.specs.PlainNames.{is_plain_name};
 ghost use Rattle.file_line.specs.Lines.{line_values};
-ghost use Rattle.file_study.specs.study.Reading.{Gives};
+ghost use Rattle.base_memory.specs.Gives.{Gives};
 ghost use Rattle.file_study.specs.study.Faults.{stage_values, fault_values, is_longer, is_later};
 ghost use Rattle.file_study.specs.study.Faults.{kind_of, kind_at, moments_at, within_at, new_name};
 ghost use Rattle.file_study.specs.study.Faults.{name_at, head_keys, whole_keys, stage_keys};
 ghost use Rattle.file_study.specs.study.Faults.{terminal_names, stage_in, stage_at, stages_in};
-ghost use Rattle.file_study.specs.study.Faults.{stages_or_one, stages_of, fault_at, faults_in};
+ghost use Rattle.file_study.specs.study.Faults.{several_stages, only_stage, stages_or_one, stages_of};
+ghost use Rattle.file_study.specs.study.Faults.{fault_at, faults_in};
 
 use crate::study::fault::StudyFault;
 use crate::study::keys::{counted, find, items_of, only, table_of, text};
@@ -20,6 +21,7 @@ use crate::study::shows::shows;
 use crate::study::stage::{Stage, SweptFault};
 use crate::study::ticks::moments;
 use crate::study::units::Units;
+use base_memory::Stopped;
 use model_line::{Kind, Line, Name, is_plain};
 use std::alloc::Global;
 use toml::{Table, Value};
@@ -115,7 +117,7 @@ fn moments_at(
     path: Path,
     key: &str,
     table: &Table,
-) -> Result<Vec<u32>, StudyFault>
+) -> Result<Vec<u32>, Stopped<StudyFault>>
     requires { 0 < units.tick_us }
     ensures { Gives (λ v. v.items) result
         (moments_at upward units path key.now (table_view table.now)) }
@@ -137,7 +139,7 @@ fn within(
     units: Units,
     path: Path,
     table: &Table,
-) -> Result<Vec<u32>, StudyFault>
+) -> Result<Vec<u32>, Stopped<StudyFault>>
     requires { 0 < units.tick_us }
     ensures { Gives (λ v. v.items) result (within_at kind units path (table_view table.now)) }
 {
@@ -156,7 +158,7 @@ fn stage_in(
     line: &Line,
     path: Path,
     table: &Table,
-) -> Result<Stage, StudyFault>
+) -> Result<Stage, Stopped<StudyFault>>
     requires { 0 < units.tick_us }
     ensures { Gives stage_values result
         (stage_in kind units (line_values line.now) path (table_view table.now)) }
@@ -176,7 +178,7 @@ fn stage(
     names: &[Name],
     path: Path,
     value: &Value,
-) -> Result<Stage, StudyFault>
+) -> Result<Stage, Stopped<StudyFault>>
     requires tick { 0 < units.tick_us }
     requires names { names.now ≡ terminal_names (line_values line.now) }
     ensures { Gives stage_values result
@@ -196,7 +198,7 @@ fn stages_in(
     names: &[Name],
     path: Path,
     items: &[Value],
-) -> Result<Vec<Stage>, StudyFault>
+) -> Result<Vec<Stage>, Stopped<StudyFault>>
     requires tick { 0 < units.tick_us }
     requires names { names.now ≡ terminal_names (line_values line.now) }
     ensures { Gives (λ v. map stage_values v.items) result
@@ -210,6 +212,44 @@ fn stages_in(
     Ok(stages)
 }
 
+// The stages of an array, 1 to 20.
+#[tactic(auto, unfolding(crate::specs::study::Faults::several_stages))]
+fn several_stages(
+    alloc: Global,
+    kind: Kind,
+    units: Units,
+    line: &Line,
+    names: &[Name],
+    path: Path,
+    value: &Value,
+) -> Result<Vec<Stage>, Stopped<StudyFault>>
+    requires tick { 0 < units.tick_us }
+    requires names { names.now ≡ terminal_names (line_values line.now) }
+    ensures { Gives (λ v. map stage_values v.items) result
+        (several_stages kind units (line_values line.now) path (view value.now)) }
+{
+    let items = counted(path, 1, 20, items_of(path, value)?)?;
+    stages_in(alloc, kind, units, line, names, path, items)
+}
+
+// The fault itself as its only stage.
+#[tactic(auto, unfolding(crate::specs::study::Faults::only_stage))]
+fn only_stage(
+    alloc: Global,
+    kind: Kind,
+    units: Units,
+    line: &Line,
+    path: Path,
+    table: &Table,
+) -> Result<Vec<Stage>, Stopped<StudyFault>>
+    requires { 0 < units.tick_us }
+    ensures { Gives (λ v. map stage_values v.items) result
+        (only_stage kind units (line_values line.now) path (table_view table.now)) }
+{
+    let stage = stage_in(alloc, kind, units, line, path, table)?;
+    Ok(vec![in alloc; stage]?)
+}
+
 // The stages of a fault, or the fault itself as its only one.
 #[tactic(auto, unfolding(crate::specs::study::Faults::stages_of))]
 fn stages(
@@ -220,7 +260,7 @@ fn stages(
     names: &[Name],
     path: Path,
     table: &Table,
-) -> Result<Vec<Stage>, StudyFault>
+) -> Result<Vec<Stage>, Stopped<StudyFault>>
     requires tick { 0 < units.tick_us }
     requires names { names.now ≡ terminal_names (line_values line.now) }
     ensures { Gives (λ v. map stage_values v.items) result
@@ -229,14 +269,11 @@ fn stages(
     match find(table, "stage") {
         Some(value) => {
             only(path, head_keys(kind), &[], table)?;
-            let path = path.key(b"stage");
-            let items = counted(path, 1, 20, items_of(path, value)?)?;
-            stages_in(alloc, kind, units, line, names, path, items)
+            several_stages(alloc, kind, units, line, names, path.key(b"stage"), value)
         }
         None => {
             only(path, whole_keys(kind), names, table)?;
-            let stage = stage_in(alloc, kind, units, line, path, table)?;
-            Ok(vec![in alloc; stage]?)
+            only_stage(alloc, kind, units, line, path, table)
         }
     }
 }
@@ -251,7 +288,7 @@ fn fault(
     path: Path,
     before: &[SweptFault],
     value: &Value,
-) -> Result<SweptFault, StudyFault>
+) -> Result<SweptFault, Stopped<StudyFault>>
     requires tick { 0 < units.tick_us }
     requires names { names.now ≡ terminal_names (line_values line.now) }
     ensures { Gives fault_values result
@@ -281,7 +318,7 @@ pub fn faults_in(
     names: &[Name],
     path: Path,
     items: &[Value],
-) -> Result<Vec<SweptFault>, StudyFault>
+) -> Result<Vec<SweptFault>, Stopped<StudyFault>>
     requires tick { 0 < units.tick_us }
     requires names { names.now ≡ terminal_names (line_values line.now) }
     ensures { Gives (λ v. map fault_values v.items) result

@@ -5,7 +5,7 @@ ghost use Rattle.std.specs.Str.{bytes_eq};
 ghost use Rattle.std.specs.List.{list_any};
 ghost use Rattle.toml.specs.{Data.get_member, View.view, View.table_view, View.items_view};
 ghost use Rattle.file_line.specs.Keys.{document_of, first_unknown};
-ghost use Rattle.file_study.specs.study.Reading.{Gives, seen};
+ghost use Rattle.base_memory.specs.Gives.{Gives, seen};
 ghost use Rattle.file_study.specs.study.Keys.{opened, all_known, value_at, number_in, number_at};
 ghost use Rattle.file_study.specs.study.Keys.{number_or_none, text_in, text_at, flag_or_false};
 ghost use Rattle.file_study.specs.study.Keys.{array_in, array_at, table_in, table_or_none, member_of};
@@ -13,24 +13,25 @@ ghost use Rattle.file_study.specs.study.Keys.{array_or_none, none_unknown, count
 
 use crate::study::fault::StudyFault;
 use crate::study::path::Path;
+use base_memory::Stopped;
 use model_line::Name;
 use std::alloc::Global;
 use toml::{Table, Value};
 
 /// The document's table.
-pub fn open(alloc: Global, bytes: &[u8]) -> Result<Table, StudyFault>
+pub fn open(alloc: Global, bytes: &[u8]) -> Result<Table, Stopped<StudyFault>>
     ensures { Gives table_view result (opened (document_of bytes.now)) }
 {
     let Ok(text) = std::str::from_utf8(bytes) else {
-        return Err(StudyFault::NotToml);
+        return Err(Stopped::Fault(StudyFault::NotToml));
     };
     match toml::table_from_str(alloc, text) {
         Ok(table) => Ok(table),
         Err(error) => {
             if error.is_memory() {
-                return Err(StudyFault::Memory);
+                return Err(Stopped::Memory);
             }
-            Err(StudyFault::NotToml)
+            Err(Stopped::Fault(StudyFault::NotToml))
         }
     }
 }

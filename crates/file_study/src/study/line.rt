@@ -9,14 +9,14 @@ ghost use Rattle.model_line.specs.{Terminals.are_plain_names, PlainNames.is_plai
 ghost use Rattle.model_line.specs.{ParamNames.pair_name};
 ghost use Rattle.file_line.specs.{Canonical.table_of, Canonical.put_member, Lines.line_values};
 ghost use Rattle.file_line.specs.{Keys.document_of};
-ghost use Rattle.file_study.specs.study.Reading.{Gives, seen};
+ghost use Rattle.base_memory.specs.Gives.{Becomes, Gives, seen};
 ghost use Rattle.file_study.specs.study.LineTables.{terminals_of, terminals_in, plain_name};
 ghost use Rattle.file_study.specs.study.LineTables.{channels_of, channels_for, units_of, horizon_of};
 ghost use Rattle.file_study.specs.study.LineTables.{section_at, terminal_tables, channel_tables, in_line};
 ghost use Rattle.file_study.specs.study.LineTables.{tables_of};
 ghost use Rattle.file_study.specs.study.LineTables.{owner_members, terminal_members, channel_members};
-ghost use Rattle.file_study.specs.study.LineTables.{line_head, line_table, line_of_study, as_study};
-ghost use Rattle.file_study.specs.study.LineTables.{head_pairs};
+ghost use Rattle.file_study.specs.study.LineTables.{line_head, with_tables, line_table, line_of_study};
+ghost use Rattle.file_study.specs.study.LineTables.{as_study, head_pairs};
 
 use crate::study::fault::StudyFault;
 use crate::study::keys::{
@@ -26,8 +26,9 @@ use crate::study::path::Path;
 use crate::study::settings::{put, put_section};
 use crate::study::ticks::instant;
 use crate::study::units::Units;
+use base_memory::{Memory, Stopped};
 use file_line::{LineFault, read_line};
-use model_line::{Channel, Line, Memory, Name, Terminal, channel_name, is_plain};
+use model_line::{Channel, Line, Name, Terminal, channel_name, is_plain};
 use std::alloc::Global;
 use toml::ser::Error;
 use toml::{Table, Value};
@@ -101,7 +102,11 @@ fn plain_name(path: Path, text: &str) -> Result<Name, StudyFault>
 }
 
 // The terminals of these names, one after another.
-fn terminals_in(alloc: Global, path: Path, names: &[Value]) -> Result<Vec<Terminal>, StudyFault>
+fn terminals_in(
+    alloc: Global,
+    path: Path,
+    names: &[Value],
+) -> Result<Vec<Terminal>, Stopped<StudyFault>>
     ensures terminals { Gives (λ v. v.items) result
         (terminals_in path 0 (items_view names.now) []) }
     ensures plain { IfOk result (λ v. are_plain_names v.items ≡ true) }
@@ -122,7 +127,7 @@ fn terminals_in(alloc: Global, path: Path, names: &[Value]) -> Result<Vec<Termin
 
 // The terminals: two or three.
 #[tactic(auto, unfolding(crate::specs::study::LineTables::terminals_of))]
-fn terminals(alloc: Global, top: &Table) -> Result<Vec<Terminal>, StudyFault>
+fn terminals(alloc: Global, top: &Table) -> Result<Vec<Terminal>, Stopped<StudyFault>>
     ensures terminals { Gives (λ v. v.items) result (terminals_of (table_view top.now)) }
     ensures plain { IfOk result (λ v. are_plain_names v.items ≡ true) }
     ensures count { IfOk result (λ v. (2 ≤ length v.items) × (length v.items ≤ 3)) }
@@ -149,7 +154,7 @@ fn with_owner(
     own: Option<&Table>,
     name: &str,
     table: Result<Table, Memory>,
-) -> Result<Table, StudyFault>
+) -> Result<Table, Stopped<StudyFault>>
     requires { 0 < units.tick_us }
     ensures { (ms : Members) → IfOk table (λ t. table_view t ≡ ms)
         → Gives table_view result
@@ -182,7 +187,7 @@ fn terminal_table(
     defaults: Option<&Table>,
     own: Option<&Table>,
     terminal: Terminal,
-) -> Result<Table, StudyFault>
+) -> Result<Table, Stopped<StudyFault>>
     requires tick { 0 < units.tick_us }
     requires plain { is_plain_name terminal.name ≡ true }
     ensures { Gives table_view result
@@ -213,7 +218,7 @@ fn channel_table(
     own: Option<&Table>,
     terminals: &[Terminal],
     channel: Channel,
-) -> Result<Table, StudyFault>
+) -> Result<Table, Stopped<StudyFault>>
     requires tick { 0 < units.tick_us }
     requires plain { are_plain_names terminals.now ≡ true }
     requires from { channel.from < length terminals.now }
@@ -239,7 +244,7 @@ fn terminal_tables(
     defaults: Option<&Table>,
     terminals: &[Terminal],
     top: &Table,
-) -> Result<Vec<Value>, StudyFault>
+) -> Result<Vec<Value>, Stopped<StudyFault>>
     requires tick { 0 < units.tick_us }
     requires plain { are_plain_names terminals.now ≡ true }
     ensures { Gives (λ vs. map view vs.items) result
@@ -257,7 +262,7 @@ fn each_terminal(
     defaults: Option<&Table>,
     own: Option<&Table>,
     terminals: &[Terminal],
-) -> Result<Vec<Value>, StudyFault>
+) -> Result<Vec<Value>, Stopped<StudyFault>>
     requires tick { 0 < units.tick_us }
     requires plain { are_plain_names terminals.now ≡ true }
     ensures { Gives (λ vs. map view vs.items) result
@@ -291,7 +296,7 @@ fn channel_tables(
     defaults: Option<&Table>,
     terminals: &[Terminal],
     top: &Table,
-) -> Result<Vec<Value>, StudyFault>
+) -> Result<Vec<Value>, Stopped<StudyFault>>
     requires tick { 0 < units.tick_us }
     requires plain { are_plain_names terminals.now ≡ true }
     requires count { (2 ≤ length terminals.now) × (length terminals.now ≤ 3) }
@@ -318,7 +323,7 @@ fn each_channel(
     own: Option<&Table>,
     terminals: &[Terminal],
     channels: &[Channel],
-) -> Result<Vec<Value>, StudyFault>
+) -> Result<Vec<Value>, Stopped<StudyFault>>
     requires tick { 0 < units.tick_us }
     requires plain { are_plain_names terminals.now ≡ true }
     requires count { (2 ≤ length terminals.now) × (length terminals.now ≤ 3) }
@@ -403,7 +408,7 @@ fn head(
 
 // The head of the line file.
 #[tactic(auto, unfolding(crate::specs::study::LineTables::line_head))]
-fn line_head(alloc: Global, units: Units, top: &Table) -> Result<Table, StudyFault>
+fn line_head(alloc: Global, units: Units, top: &Table) -> Result<Table, Stopped<StudyFault>>
     requires { 0 < units.tick_us }
     ensures { Gives table_view result (line_head units (table_view top.now)) }
 {
@@ -413,19 +418,38 @@ fn line_head(alloc: Global, units: Units, top: &Table) -> Result<Table, StudyFau
     Ok(head(alloc, units, horizon, scheme, zone1_trip)?)
 }
 
+// Puts the tables of the terminals and of the channels.
+#[tactic(auto, unfolding(crate::specs::study::LineTables::with_tables))]
+fn put_tables(
+    alloc: Global,
+    units: Units,
+    terminals: &[Terminal],
+    top: &Table,
+    table: &mut Table,
+) -> Result<(), Stopped<StudyFault>>
+    requires tick { 0 < units.tick_us }
+    requires plain { are_plain_names terminals.now ≡ true }
+    requires count { (2 ≤ length terminals.now) × (length terminals.now ≤ 3) }
+    ensures { Becomes result (table_view table.new)
+        (with_tables units terminals.now (table_view top.now) (table_view table.old)) }
+{
+    let defaults = section("default", &["terminal", "channel"], &[], top)?;
+    let terminal_values = terminal_tables(alloc, units, defaults, terminals, top)?;
+    let channel_values = channel_tables(alloc, units, defaults, terminals, top)?;
+    put(alloc, table, "terminal", Value::Array(terminal_values))?;
+    put(alloc, table, "channel", Value::Array(channel_values))?;
+    Ok(())
+}
+
 // The line file of a study, as a table.
 #[tactic(auto, unfolding(crate::specs::study::LineTables::line_table))]
-fn line_table(alloc: Global, units: Units, top: &Table) -> Result<Table, StudyFault>
+fn line_table(alloc: Global, units: Units, top: &Table) -> Result<Table, Stopped<StudyFault>>
     requires { 0 < units.tick_us }
     ensures { Gives table_view result (line_table units (table_view top.now)) }
 {
     let mut table = line_head(alloc, units, top)?;
     let terminals = terminals(alloc, top)?;
-    let defaults = section("default", &["terminal", "channel"], &[], top)?;
-    let terminal_values = terminal_tables(alloc, units, defaults, &terminals, top)?;
-    let channel_values = channel_tables(alloc, units, defaults, &terminals, top)?;
-    put(alloc, &mut table, "terminal", Value::Array(terminal_values))?;
-    put(alloc, &mut table, "channel", Value::Array(channel_values))?;
+    put_tables(alloc, units, &terminals, top, &mut table)?;
     Ok(table)
 }
 
@@ -462,13 +486,12 @@ fn as_study(why: LineFault) -> StudyFault
         LineFault::BadName(path) => StudyFault::BadName(in_line(path.bytes())),
         LineFault::Twice(path) => StudyFault::Twice(in_line(path.bytes())),
         LineFault::Channels(from, _) => StudyFault::Missing(in_line(from.bytes())),
-        LineFault::Memory => StudyFault::Memory,
     }
 }
 
 /// The line of a study: that of its line file.
 #[tactic(auto, unfolding(crate::specs::study::LineTables::line_of_study))]
-pub fn line(alloc: Global, units: Units, top: &Table) -> Result<Line, StudyFault>
+pub fn line(alloc: Global, units: Units, top: &Table) -> Result<Line, Stopped<StudyFault>>
     requires { 0 < units.tick_us }
     ensures { Gives line_values result (line_of_study units (table_view top.now)) }
 {
@@ -476,6 +499,7 @@ pub fn line(alloc: Global, units: Units, top: &Table) -> Result<Line, StudyFault
     let text = text_of_table(alloc, &table)?;
     match read_line(alloc, &text) {
         Ok(line) => Ok(line),
-        Err(why) => Err(as_study(why)),
+        Err(Stopped::Fault(why)) => Err(Stopped::Fault(as_study(why))),
+        Err(Stopped::Memory) => Err(Stopped::Memory),
     }
 }

@@ -3,9 +3,9 @@
 ghost use Rattle.std.specs.Prelude.{◌<◌, map};
 ghost use Rattle.toml.specs.View.{table_view};
 ghost use Rattle.file_line.specs.Lines.{line_values};
-ghost use Rattle.file_study.specs.study.Reading.{Gives};
+ghost use Rattle.base_memory.specs.Gives.{Gives};
 ghost use Rattle.file_study.specs.study.Faults.{fault_values};
-ghost use Rattle.file_study.specs.study.Studies.{study_values, faults_of, study_in, study_of};
+ghost use Rattle.file_study.specs.study.Studies.{study_values, faults_of, study_with, study_in, study_of};
 
 use crate::study::fault::StudyFault;
 use crate::study::faults::faults_in;
@@ -15,6 +15,7 @@ use crate::study::path::Path;
 use crate::study::stage::SweptFault;
 use crate::study::study::Study;
 use crate::study::units::Units;
+use base_memory::Stopped;
 use model_line::Line;
 use std::alloc::Global;
 use toml::Table;
@@ -41,7 +42,7 @@ fn faults(
     units: Units,
     line: &Line,
     top: &Table,
-) -> Result<Vec<SweptFault>, StudyFault>
+) -> Result<Vec<SweptFault>, Stopped<StudyFault>>
     requires { 0 < units.tick_us }
     ensures { Gives (λ v. map fault_values v.items) result
         (faults_of units (line_values line.now) (table_view top.now)) }
@@ -52,14 +53,17 @@ fn faults(
     faults_in(alloc, units, line, &names, path, items)
 }
 
-#[tactic(auto, unfolding(crate::specs::study::Studies::study_in))]
-fn read_table(alloc: Global, top: &Table) -> Result<Study, StudyFault>
-    ensures { Gives study_values result (study_in (table_view top.now)) }
+// The study of this title and these units.
+#[tactic(auto, unfolding(crate::specs::study::Studies::study_with))]
+fn study_with(
+    alloc: Global,
+    title: &str,
+    units: Units,
+    top: &Table,
+) -> Result<Study, Stopped<StudyFault>>
+    requires { 0 < units.tick_us }
+    ensures { Gives study_values result (study_with title.now units (table_view top.now)) }
 {
-    number(Path::root(), "study", 1, 1, top)?;
-    only(Path::root(), TOP_KEYS, &[], top)?;
-    let title = text(Path::root(), "title", top)?;
-    let units = units(top)?;
     let line = line(alloc, units, top)?;
     let faults = faults(alloc, units, &line, top)?;
     Ok(Study {
@@ -70,12 +74,22 @@ fn read_table(alloc: Global, top: &Table) -> Result<Study, StudyFault>
     })
 }
 
+#[tactic(auto, unfolding(crate::specs::study::Studies::study_in))]
+fn read_table(alloc: Global, top: &Table) -> Result<Study, Stopped<StudyFault>>
+    ensures { Gives study_values result (study_in (table_view top.now)) }
+{
+    number(Path::root(), "study", 1, 1, top)?;
+    only(Path::root(), TOP_KEYS, &[], top)?;
+    let title = text(Path::root(), "title", top)?;
+    study_with(alloc, title, units(top)?, top)
+}
+
 /// The study of these bytes, or its first fault.
 ///
-/// `NotToml` comes where the bytes are no TOML document. Every other fault but `Memory` tells the
-/// first place, in the order in which a study is read, that is not as it has to be.
+/// `NotToml` comes where the bytes are no TOML document. Every other fault tells the first
+/// place, in the order in which a study is read, that is not as it has to be.
 #[tactic(auto, unfolding(crate::specs::study::Studies::study_of))]
-pub fn read_study(alloc: Global, bytes: &[u8]) -> Result<Study, StudyFault>
+pub fn read_study(alloc: Global, bytes: &[u8]) -> Result<Study, Stopped<StudyFault>>
     ensures { Gives study_values result (study_of bytes.now) }
 {
     let table = open(alloc, bytes)?;

@@ -3,7 +3,7 @@
 ghost use Rattle.std.specs.Prelude.{◌≡◌, ◌<◌, IfOk, OnOk, option_map};
 ghost use Rattle.toml.specs.{Data.no_members, View.view, View.table_view};
 ghost use Rattle.file_line.specs.Canonical.{put_member};
-ghost use Rattle.file_study.specs.study.Reading.{Gives, Becomes};
+ghost use Rattle.base_memory.specs.Gives.{Becomes, Gives};
 ghost use Rattle.file_study.specs.study.Settings.{time_data, time_in, put_times, setting_in};
 ghost use Rattle.file_study.specs.study.Settings.{put_settings};
 ghost use Rattle.file_study.specs.study.Settings.{put_optional, put_section, ends_data};
@@ -13,7 +13,8 @@ use crate::study::keys::{find_in, optional_table};
 use crate::study::path::Path;
 use crate::study::ticks::bounds;
 use crate::study::units::Units;
-use model_line::{Bounds, Memory};
+use base_memory::{Memory, Stopped};
+use model_line::Bounds;
 use std::alloc::Global;
 use toml::{Table, Value};
 
@@ -38,7 +39,12 @@ fn ends_value(alloc: Global, ends: Bounds) -> Result<Value, Memory>
 
 // The time that a text says.
 #[tactic(auto, unfolding(crate::specs::study::Settings::time_data))]
-fn time_value(alloc: Global, units: Units, path: Path, text: &str) -> Result<Value, StudyFault>
+fn time_value(
+    alloc: Global,
+    units: Units,
+    path: Path,
+    text: &str,
+) -> Result<Value, Stopped<StudyFault>>
     requires { 0 < units.tick_us }
     ensures { Gives view result (time_data units path text.now) }
 {
@@ -47,13 +53,18 @@ fn time_value(alloc: Global, units: Units, path: Path, text: &str) -> Result<Val
 }
 
 // A time, which is a text.
-fn time(alloc: Global, units: Units, path: Path, value: &Value) -> Result<Value, StudyFault>
+fn time(
+    alloc: Global,
+    units: Units,
+    path: Path,
+    value: &Value,
+) -> Result<Value, Stopped<StudyFault>>
     requires { 0 < units.tick_us }
     ensures { Gives view result (time_in units path (view value.now)) }
 {
     match value {
         Value::String(text) => time_value(alloc, units, path, text.as_str()),
-        _ => Err(StudyFault::WrongKind(path)),
+        _ => Err(Stopped::Fault(StudyFault::WrongKind(path))),
     }
 }
 
@@ -64,7 +75,7 @@ fn put_times(
     path: Path,
     times: &Table,
     table: &mut Table,
-) -> Result<(), StudyFault>
+) -> Result<(), Stopped<StudyFault>>
     requires { 0 < units.tick_us }
     ensures { Becomes result (table_view table.new)
         (put_times units path (table_view times.now) (table_view table.old)) }
@@ -77,7 +88,12 @@ fn put_times(
 }
 
 // A table of times.
-fn times(alloc: Global, units: Units, path: Path, times: &Table) -> Result<Table, StudyFault>
+fn times(
+    alloc: Global,
+    units: Units,
+    path: Path,
+    times: &Table,
+) -> Result<Table, Stopped<StudyFault>>
     requires { 0 < units.tick_us }
     ensures { Gives table_view result (put_times units path (table_view times.now) no_members) }
 {
@@ -87,7 +103,12 @@ fn times(alloc: Global, units: Units, path: Path, times: &Table) -> Result<Table
 }
 
 // A setting: a time, or a table of times.
-fn setting(alloc: Global, units: Units, path: Path, value: &Value) -> Result<Value, StudyFault>
+fn setting(
+    alloc: Global,
+    units: Units,
+    path: Path,
+    value: &Value,
+) -> Result<Value, Stopped<StudyFault>>
     requires { 0 < units.tick_us }
     ensures { Gives view result (setting_in units path (view value.now)) }
 {
@@ -104,7 +125,7 @@ fn put_settings(
     path: Path,
     settings: &Table,
     table: &mut Table,
-) -> Result<(), StudyFault>
+) -> Result<(), Stopped<StudyFault>>
     requires { 0 < units.tick_us }
     ensures { Becomes result (table_view table.new)
         (put_settings units path (table_view settings.now) (table_view table.old)) }
@@ -122,7 +143,7 @@ fn put_optional(
     path: Path,
     settings: Option<&Table>,
     table: &mut Table,
-) -> Result<(), StudyFault>
+) -> Result<(), Stopped<StudyFault>>
     requires { 0 < units.tick_us }
     ensures { Becomes result (table_view table.new)
         (put_optional units path (option_map (λ t. table_view t.now) settings.entry)
@@ -143,7 +164,7 @@ pub fn put_section(
     key: &str,
     outer: Option<&Table>,
     table: &mut Table,
-) -> Result<(), StudyFault>
+) -> Result<(), Stopped<StudyFault>>
     requires { 0 < units.tick_us }
     ensures { Becomes result (table_view table.new)
         (put_section units path key.now (option_map (λ t. table_view t.now) outer.entry)

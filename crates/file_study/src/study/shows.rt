@@ -4,7 +4,7 @@ ghost use Rattle.std.specs.Prelude.{◌≡◌, ◌<◌, ◌≤◌, true, length}
 ghost use Rattle.std.specs.List.{before_first, after_first};
 ghost use Rattle.toml.specs.View.{view, table_view, items_view};
 ghost use Rattle.file_line.specs.Lines.{line_values};
-ghost use Rattle.file_study.specs.study.Reading.{Gives, Becomes};
+ghost use Rattle.base_memory.specs.Gives.{Becomes, Gives};
 ghost use Rattle.model_line.specs.{PlainNames.is_plain_name, Terminals.are_plain_names};
 ghost use Rattle.file_study.specs.study.Shows.{element_of, element_in, is_space, shift_in, shown_in};
 ghost use Rattle.file_study.specs.study.Shows.{all_shown, terminal_shows, terminals_show};
@@ -17,6 +17,7 @@ use crate::study::path::Path;
 use crate::study::stage::Shown;
 use crate::study::ticks::instant;
 use crate::study::units::Units;
+use base_memory::Stopped;
 use base_text::lines::find_byte;
 use model_line::{Element, Line, Place, Terminal, What};
 use model_names::channel_of_name;
@@ -107,7 +108,7 @@ fn push_shown(
     path: Path,
     items: &[Value],
     shows: &mut Vec<Shown>,
-) -> Result<(), StudyFault>
+) -> Result<(), Stopped<StudyFault>>
     requires { 0 < units.tick_us }
     ensures { Becomes result shows.new.items
         (all_shown upward units k path 0 (items_view items.now) shows.old.items) }
@@ -129,7 +130,7 @@ fn push_terminal(
     k: u32,
     terminal: Terminal,
     shows: &mut Vec<Shown>,
-) -> Result<(), StudyFault>
+) -> Result<(), Stopped<StudyFault>>
     requires tick { 0 < units.tick_us }
     requires plain { is_plain_name terminal.name ≡ true }
     ensures { Becomes result shows.new.items
@@ -149,7 +150,7 @@ fn push_terminals(
     table: &Table,
     terminals: &[Terminal],
     shows: &mut Vec<Shown>,
-) -> Result<(), StudyFault>
+) -> Result<(), Stopped<StudyFault>>
     requires tick { 0 < units.tick_us }
     requires plain { are_plain_names terminals.now ≡ true }
     requires few { length terminals.now ≤ 3 }
@@ -184,7 +185,7 @@ fn push_lost(
     path: Path,
     items: &[Value],
     shows: &mut Vec<Shown>,
-) -> Result<(), StudyFault>
+) -> Result<(), Stopped<StudyFault>>
     ensures { Becomes result shows.new.items
         (all_lost (line_values line.now) path 0 (items_view items.now) shows.old.items) }
 {
@@ -205,7 +206,7 @@ pub fn shows(
     line: &Line,
     path: Path,
     table: &Table,
-) -> Result<Vec<Shown>, StudyFault>
+) -> Result<Vec<Shown>, Stopped<StudyFault>>
     requires { 0 < units.tick_us }
     ensures { Gives (λ v. v.items) result
         (shows_of upward units (line_values line.now) path (table_view table.now)) }

@@ -3,7 +3,7 @@
 ghost use Rattle.std.specs.Prelude.{◌≡◌, ◌<◌, ◌≤◌, ◌+◌, IfOk, ◌^◌};
 ghost use Rattle.file_study.specs.times.Times.{IsEnd, IsReadable, IsSwept};
 ghost use Rattle.file_study.specs.study.Rounding.{down, up, rounded};
-ghost use Rattle.file_study.specs.study.Reading.{Gives};
+ghost use Rattle.base_memory.specs.Gives.{Gives};
 ghost use Rattle.file_study.specs.study.Moments.{limited, bounds_of, bounds_in, instant_at, instant_of};
 ghost use Rattle.file_study.specs.study.Moments.{told, is_instant, instant_in, swept_in, moments_in};
 ghost use Rattle.file_study.specs.study.Moments.{moments_of};
@@ -13,6 +13,7 @@ use crate::study::fault::StudyFault;
 use crate::study::path::Path;
 use crate::study::units::Units;
 use crate::times::{Fraction, Interval, Sweep, Time, read_time};
+use base_memory::Stopped;
 use model_line::Bounds;
 use std::alloc::Global;
 
@@ -145,7 +146,7 @@ pub fn moments(
     units: Units,
     path: Path,
     text: &[u8],
-) -> Result<Vec<u32>, StudyFault>
+) -> Result<Vec<u32>, Stopped<StudyFault>>
     requires { 0 < units.tick_us }
     ensures { Gives (λ v. v.items) result (moments_of upward units path text.now) }
 {
@@ -166,14 +167,14 @@ fn swept(
     tick_us: u32,
     path: Path,
     sweep: Sweep,
-) -> Result<Vec<u32>, StudyFault>
+) -> Result<Vec<u32>, Stopped<StudyFault>>
     requires tick { 0 < tick_us }
     requires swept { IsSwept sweep }
     ensures { Gives (λ v. v.items) result (swept_in upward tick_us path sweep) }
 {
     let count = sweep.count();
     if count > 1000 {
-        return Err(StudyFault::TooMany(path));
+        return Err(Stopped::Fault(StudyFault::TooMany(path)));
     }
     let mut values = Vec::new(alloc);
     for i in 0..count as u32 {

@@ -2,9 +2,7 @@
 
 ghost use Rattle.std.specs.Prelude.{◌≡◌};
 ghost use Rattle.file_study.specs.sweeps.SweepWords.{horizon_words as words_of_horizon};
-ghost use Rattle.file_study.specs.declared.sweeps.fault.SweepFault.TheVariants.{Memory};
 
-use std::alloc::{AllocError, AllocFailed};
 use std::fmt;
 
 /// Why a fault of a study comes to no scripts of its line. A place is that of a choice of its swept
@@ -20,8 +18,6 @@ pub enum SweepFault {
     Horizon(u32, u128, u32),
     /// A script of more than 200 spans, or of what the line has not.
     NoFit(u32),
-    /// Memory ran out.
-    Memory,
 }
 
 // The ticks that a line has at most.
@@ -38,7 +34,7 @@ impl SweepFault {
             SweepFault::BadName(k) | SweepFault::Horizon(k, _, _) | SweepFault::NoFit(k) => {
                 Some(*k as u64 + 1)
             }
-            SweepFault::TooMany | SweepFault::Memory => None,
+            SweepFault::TooMany => None,
         }
     }
 
@@ -52,7 +48,6 @@ impl SweepFault {
             SweepFault::BadName(_) => ": its name is longer than 16 bytes: write a shorter name",
             SweepFault::Horizon(_, ticks, _) => horizon_words(*ticks),
             SweepFault::NoFit(_) => ": more than 200 spans: write fewer stages",
-            SweepFault::Memory => "memory ran out",
         }
     }
 
@@ -89,29 +84,5 @@ impl fmt::Display for SweepFault {
             write!(f, "\"{us} us\"")?;
         }
         Ok(())
-    }
-}
-
-impl From<AllocError> for SweepFault {
-    ghost from_gives = { λ _ e. e ≡ Memory };
-
-    fn from(_: AllocError) -> Self {
-        SweepFault::Memory
-    }
-}
-
-impl<T: Drop> From<AllocFailed<T>> for SweepFault {
-    ghost from_gives = { λ _ e. e ≡ Memory };
-
-    fn from(_: AllocFailed<T>) -> Self {
-        SweepFault::Memory
-    }
-}
-
-impl From<model_line::Memory> for SweepFault {
-    ghost from_gives = { λ _ e. e ≡ Memory };
-
-    fn from(_: model_line::Memory) -> Self {
-        SweepFault::Memory
     }
 }

@@ -4,16 +4,17 @@ ghost use Rattle.std.specs.Prelude.{[], ◌≡◌, ◌<◌, ◌++◌, IfErr, IfN
 ghost use Rattle.std.specs.Prelude.{length, map, take};
 ghost use Rattle.std.specs.List.{list_any};
 ghost use Rattle.std.specs.Str.{bytes_eq};
+ghost use Rattle.base_memory.specs.Gives.{OfFault};
 ghost use Rattle.file_tables.specs.{script.SoFar.AreOnce, script.Values.values_of};
 ghost use Rattle.file_study.specs.study.Faults.{fault_values};
 ghost use Rattle.file_study.specs.sweeps.Studies.{AreScriptsOf, HasTwice, IsPushed, IsRefusedBehind};
 ghost use Rattle.file_study.specs.sweeps.Studies.{IsStudyRefused, script_names};
 
 use crate::study::{Study, SweptFault};
-use crate::sweeps::fault::SweepFault;
 use crate::sweeps::group::{Group, swept_values};
 use crate::sweeps::study_fault::StudySweepFault;
 use crate::sweeps::sweep::scripts_of_fault;
+use base_memory::Stopped;
 use model_line::{Line, Name, Script};
 use std::alloc::Global;
 
@@ -26,11 +27,14 @@ pub struct StudyScripts {
 }
 
 /// The scripts of all faults of a study, each of which fits its line, no two of one name.
-pub fn scripts_of_study(alloc: Global, study: &Study) -> Result<StudyScripts, StudySweepFault>
+pub fn scripts_of_study(
+    alloc: Global,
+    study: &Study,
+) -> Result<StudyScripts, Stopped<StudySweepFault>>
     ensures are { IfOk result (λ all. AreScriptsOf study.now.line
         (map fault_values study.now.faults.items) all.scripts.items all.groups.items) }
-    ensures refused { IfErr result (IsStudyRefused study.now.line
-        (map fault_values study.now.faults.items)) }
+    ensures refused { IfErr result (OfFault (IsStudyRefused study.now.line
+        (map fault_values study.now.faults.items))) }
 {
     let mut all = StudyScripts {
         scripts: Vec::new(alloc),
@@ -49,19 +53,21 @@ fn push_fault(
     i: usize,
     fault: &SweptFault,
     all: &mut StudyScripts,
-) -> Result<(), StudySweepFault>
+) -> Result<(), Stopped<StudySweepFault>>
     requires { AreOnce (script_names all.old.scripts.items) }
     ensures pushed { OnOk result (IsPushed line.now (fault_values fault.now) all.old all.new) }
-    ensures refused { IfErr result (IsRefusedBehind line.now
-        (map values_of all.old.scripts.items) i (fault_values fault.now)) }
+    ensures refused { IfErr result (OfFault (IsRefusedBehind line.now
+        (map values_of all.old.scripts.items) i (fault_values fault.now))) }
 {
     let mut own = match scripts_of_fault(alloc, line, fault) {
         Ok(own) => own,
-        Err(SweepFault::Memory) => return Err(StudySweepFault::Memory),
-        Err(why) => return Err(StudySweepFault::Refused(i, fault.name, why)),
+        Err(Stopped::Fault(why)) => return Err(Stopped::Fault(StudySweepFault::Refused(
+            i, fault.name, why,
+        ))),
+        Err(Stopped::Memory) => return Err(Stopped::Memory),
     };
     if let Some(k) = first_twice(&all.scripts, &own) {
-        return Err(StudySweepFault::Twice(i, own[k].name, k));
+        return Err(Stopped::Fault(StudySweepFault::Twice(i, own[k].name, k)));
     }
     let swept = swept_values(alloc, fault, own.len() as u32)?;
     all.groups.push(Group {

@@ -3,12 +3,13 @@
 ghost use Rattle.std.specs.Prelude.{◌≡◌, ◌≤◌, ◌*◌, IfErr, IfNone, IfOk, IfSome, OnOk, Some, None};
 ghost use Rattle.std.specs.Prelude.{[], ◌∷◌, false, map, true, vec_len};
 ghost use Rattle.std.specs.List.{All};
+ghost use Rattle.base_memory.specs.Gives.{OfFault};
 ghost use Rattle.model_line.specs.Fits.{Fits};
 ghost use Rattle.model_line.specs.PlainNames.{is_plain_name};
 ghost use Rattle.file_tables.specs.script.Values.{values_of};
 ghost use Rattle.file_study.specs.study.Faults.{fault_values};
 ghost use Rattle.file_study.specs.sweeps.Choices.{choice_of};
-ghost use Rattle.file_study.specs.sweeps.Refusals.{IsAccepted, IsRefused, RefusesSo, choice_refusal};
+ghost use Rattle.file_study.specs.sweeps.Refusals.{IsAccepted, IsRefused, choice_refusal};
 ghost use Rattle.file_study.specs.sweeps.Scripts.{script_of};
 ghost use Rattle.file_study.specs.sweeps.Sweeps.{count_of, counted, limited, script_name, scripts_of};
 
@@ -17,7 +18,8 @@ use crate::sweeps::choice::{choice_at, horizon_for};
 use crate::sweeps::fault::SweepFault;
 use crate::sweeps::needed::horizon_of;
 use crate::sweeps::scripts::{place_name, script};
-use model_line::{Line, Memory, Name, Script, fits, is_plain};
+use base_memory::{Memory, Stopped};
+use model_line::{Line, Name, Script, fits, is_plain};
 use std::alloc::Global;
 
 /// How many choices a fault has, if at most 4,096.
@@ -92,7 +94,7 @@ fn script_at(
     fault: &SweptFault,
     count: u32,
     k: u32,
-) -> Result<Script, SweepFault>
+) -> Result<Script, Stopped<SweepFault>>
     requires { k ≤ 4096 }
     ensures script { IfOk result (λ s. values_of s
         ≡ script_of (script_name (fault_values fault.now) count k) (fault_values fault.now)
@@ -100,20 +102,22 @@ fn script_at(
     ensures fits { IfOk result (λ s. Fits line.now s) }
     ensures accepted { OnOk result
         (choice_refusal line.now (fault_values fault.now) count k ≡ None) }
-    ensures refused { IfErr result (RefusesSo line.now (fault_values fault.now) count k) }
+    ensures refused { IfErr result (OfFault (λ why.
+        choice_refusal line.now (fault_values fault.now) count k ≡ Some why)) }
 {
     let Some(name) = script_name(alloc, fault, count, k)? else {
-        return Err(SweepFault::BadName(k));
+        return Err(Stopped::Fault(SweepFault::BadName(k)));
     };
     let choice = choice_at(alloc, fault, k)?;
     if horizon_for(&choice) > line.horizon as u128 {
-        return Err(SweepFault::Horizon(k, horizon_of(fault), line.tick_us));
+        let why = SweepFault::Horizon(k, horizon_of(fault), line.tick_us);
+        return Err(Stopped::Fault(why));
     }
     let script = script(alloc, name, fault, &choice)?;
     if fits(line, &script) {
         Ok(script)
     } else {
-        Err(SweepFault::NoFit(k))
+        Err(Stopped::Fault(SweepFault::NoFit(k)))
     }
 }
 
@@ -122,17 +126,17 @@ pub fn scripts_of_fault(
     alloc: Global,
     line: &Line,
     fault: &SweptFault,
-) -> Result<Vec<Script>, SweepFault>
+) -> Result<Vec<Script>, Stopped<SweepFault>>
     ensures scripts { IfOk result (λ v. scripts_of (fault_values fault.now)
         ≡ Some (map values_of v.items)) }
     ensures fit { IfOk result (λ v. All (Fits line.now) v.items) }
     ensures count { IfOk result (λ v. count_of (fault_values fault.now) ≡ Some (vec_len v)) }
     ensures few { IfOk result (λ v. vec_len v ≤ 4096) }
     ensures accepted { OnOk result (IsAccepted line.now (fault_values fault.now)) }
-    ensures refused { IfErr result (IsRefused line.now (fault_values fault.now)) }
+    ensures refused { IfErr result (OfFault (IsRefused line.now (fault_values fault.now))) }
 {
     let Some(count) = count(fault) else {
-        return Err(SweepFault::TooMany);
+        return Err(Stopped::Fault(SweepFault::TooMany));
     };
     let mut scripts = Vec::new(alloc);
     for k in 0..count {

@@ -6,7 +6,7 @@ ghost use Rattle.base_text.specs.store.Number.{is_digit, decimal_value};
 ghost use Rattle.file_study.specs.times.Numbers.{whole_part, decimals, is_whole};
 ghost use Rattle.file_study.specs.times.Numbers.{is_number, is_parted_well};
 ghost use Rattle.file_study.specs.times.Numbers.{number_in};
-ghost use Rattle.file_study.specs.times.Fractions.{IsWithin};
+ghost use Rattle.file_study.specs.times.Fractions.{IsOfSize};
 
 use crate::times::fault::TimeFault;
 use crate::times::fraction::Fraction;
@@ -15,7 +15,7 @@ use base_text::lines::find_byte;
 /// The number that a word at this place is, of at most nine digits.
 pub fn number_in(place: usize, word: &[u8]) -> Result<Fraction, TimeFault>
     ensures is { result ≡ number_in place word.now }
-    ensures within { IfOk result (IsWithin (10 ^ 9) (10 ^ 8)) }
+    ensures within { IfOk result (IsOfSize (10 ^ 9) (10 ^ 8)) }
 {
     if !is_number(word) {
         return Err(TimeFault::NoNumber(place));
@@ -85,7 +85,7 @@ fn decimal(whole: &[u8], decimals: &[u8]) -> Fraction
     ensures over { result.over ≡ decimal_value whole.now * 10 ^ length decimals.now
         + decimal_value decimals.now }
     ensures under { result.under ≡ 10 ^ length decimals.now }
-    ensures within { IsWithin (10 ^ 9) (10 ^ 8) result }
+    ensures within { IsOfSize (10 ^ 9) (10 ^ 8) result }
 {
     let parts = power(decimals.len());
     Fraction {

@@ -1,7 +1,7 @@
 //! What the text of a time says.
 
 ghost use Rattle.std.specs.Prelude.{◌≡◌, ◌≤◌, ◌<◌, ◌+◌, ◌*◌, ◌^◌, IfOk};
-ghost use Rattle.file_study.specs.times.Fractions.{times, plus, less, IsAtMost, IsWithin};
+ghost use Rattle.file_study.specs.times.Fractions.{times, plus, less, IsAtMost, IsOfSize};
 ghost use Rattle.file_study.specs.times.Units.{whole};
 ghost use Rattle.file_study.specs.times.Words.{sign_at};
 ghost use Rattle.file_study.specs.times.Times.{number_at, unit_at, measured_at, value_at};
@@ -49,7 +49,7 @@ impl<'a> Reading<'a> {
     // The number that a word is.
     fn number(&self, k: usize) -> Result<Fraction, TimeFault>
         ensures is { result ≡ number_at self.now.text.now k }
-        ensures within { IfOk result (IsWithin (10 ^ 9) (10 ^ 8)) }
+        ensures within { IfOk result (IsOfSize (10 ^ 9) (10 ^ 8)) }
     {
         number_in(place(self.text, k), word(self.text, k))
     }
@@ -57,14 +57,14 @@ impl<'a> Reading<'a> {
     // One of the unit that a word is.
     fn unit(&self, k: usize) -> Result<Fraction, TimeFault>
         ensures is { result ≡ unit_at self.now.hertz self.now.text.now k }
-        ensures within { IfOk result (IsWithin (10 ^ 6) (10 ^ 3)) }
+        ensures within { IfOk result (IsOfSize (10 ^ 6) (10 ^ 3)) }
     {
         unit_in(place(self.text, k), self.hertz, word(self.text, k))
     }
 
     // So many of the unit that a word is.
     fn measured(&self, number: Fraction, k: usize) -> Result<Fraction, TimeFault>
-        requires { IsWithin (10 ^ 9) (10 ^ 8) number }
+        requires { IsOfSize (10 ^ 9) (10 ^ 8) number }
         ensures is { result ≡ measured_at self.now.hertz self.now.text.now number k }
         ensures within { IfOk result IsMeasured }
     {
@@ -106,7 +106,7 @@ impl<'a> Reading<'a> {
     // The first word: a number, and no tolerance before it.
     fn first_number(&self) -> Result<Fraction, TimeFault>
         ensures is { result ≡ first_number self.now.text.now (sign_at self.now.text.now 0) }
-        ensures within { IfOk result (IsWithin (10 ^ 9) (10 ^ 8)) }
+        ensures within { IfOk result (IsOfSize (10 ^ 9) (10 ^ 8)) }
     {
         match self.sign(0) {
             Sign::PlusMinus => Err(TimeFault::NoValue(place(self.text, 0))),
@@ -116,7 +116,7 @@ impl<'a> Reading<'a> {
 
     // Behind the first number: a second end, whose unit both have, or a unit.
     fn behind_number(&self, number: Fraction) -> Result<Time, TimeFault>
-        requires { IsWithin (10 ^ 9) (10 ^ 8) number }
+        requires { IsOfSize (10 ^ 9) (10 ^ 8) number }
         ensures is { result ≡ behind_number self.now.hertz self.now.text.now number
             (sign_at self.now.text.now 1) }
         ensures readable { IfOk result IsReadable }
@@ -214,7 +214,7 @@ impl<'a> Reading<'a> {
     // Behind the number of a tolerance: a percent sign, or a unit.
     fn behind_tolerance(&self, value: Fraction, number: Fraction) -> Result<Time, TimeFault>
         requires value { IsMeasured value }
-        requires number { IsWithin (10 ^ 9) (10 ^ 8) number }
+        requires number { IsOfSize (10 ^ 9) (10 ^ 8) number }
         ensures is { result ≡ behind_tolerance self.now.hertz self.now.text.now value number
             (sign_at self.now.text.now 4) }
         ensures readable { IfOk result IsReadable }
@@ -231,7 +231,7 @@ impl<'a> Reading<'a> {
     // Behind a share: nothing, or a margin.
     fn behind_share(&self, value: Fraction, share: Fraction) -> Result<Time, TimeFault>
         requires value { IsMeasured value }
-        requires share { IsWithin (10 ^ 9) (10 ^ 10) share }
+        requires share { IsOfSize (10 ^ 9) (10 ^ 10) share }
         ensures is { result ≡ behind_share self.now.hertz self.now.text.now value share
             (sign_at self.now.text.now 5) }
         ensures readable { IfOk result IsReadable }
@@ -248,8 +248,8 @@ impl<'a> Reading<'a> {
 
 // So many of a unit.
 fn in_units(number: Fraction, one: Fraction) -> Fraction
-    requires number { IsWithin (10 ^ 9) (10 ^ 8) number }
-    requires one { IsWithin (10 ^ 6) (10 ^ 3) one }
+    requires number { IsOfSize (10 ^ 9) (10 ^ 8) number }
+    requires one { IsOfSize (10 ^ 6) (10 ^ 3) one }
     ensures is { result ≡ times number one }
     ensures within { IsMeasured result }
 {
@@ -258,9 +258,9 @@ fn in_units(number: Fraction, one: Fraction) -> Fraction
 
 // A share in percent.
 fn percent(number: Fraction) -> Fraction
-    requires { IsWithin (10 ^ 9) (10 ^ 8) number }
+    requires { IsOfSize (10 ^ 9) (10 ^ 8) number }
     ensures is { result ≡ percent number }
-    ensures within { IsWithin (10 ^ 9) (10 ^ 10) result }
+    ensures within { IsOfSize (10 ^ 9) (10 ^ 10) result }
 {
     number.times(Fraction {
         over: 1,
@@ -282,7 +282,7 @@ fn interval(least: Fraction, greatest: Fraction) -> Time
 // The value, less and more its share and the margin.
 fn tolerated(value: Fraction, share: Fraction, margin: Fraction) -> Time
     requires value { IsMeasured value }
-    requires share { IsWithin (10 ^ 9) (10 ^ 10) share }
+    requires share { IsOfSize (10 ^ 9) (10 ^ 10) share }
     requires margin { IsMeasured margin }
     ensures is { result ≡ tolerated value share margin }
     ensures readable { IsReadable result }
@@ -296,7 +296,7 @@ fn tolerated(value: Fraction, share: Fraction, margin: Fraction) -> Time
 // The least that the tolerance allows.
 fn least(value: Fraction, share: Fraction, margin: Fraction) -> Fraction
     requires value { IsMeasured value }
-    requires share { IsWithin (10 ^ 9) (10 ^ 10) share }
+    requires share { IsOfSize (10 ^ 9) (10 ^ 10) share }
     requires margin { IsMeasured margin }
     ensures is { result ≡ less (times value (less (whole 1) share)) margin }
     ensures within { IsEnd result }
@@ -309,7 +309,7 @@ fn least(value: Fraction, share: Fraction, margin: Fraction) -> Fraction
 // The greatest that the tolerance allows.
 fn greatest(value: Fraction, share: Fraction, margin: Fraction) -> Fraction
     requires value { IsMeasured value }
-    requires share { IsWithin (10 ^ 9) (10 ^ 10) share }
+    requires share { IsOfSize (10 ^ 9) (10 ^ 10) share }
     requires margin { IsMeasured margin }
     ensures is { result ≡ plus (times value (plus (whole 1) share)) margin }
     ensures within { IsEnd result }
@@ -322,9 +322,9 @@ fn greatest(value: Fraction, share: Fraction, margin: Fraction) -> Fraction
 // So many times the value.
 fn scaled(value: Fraction, by: Fraction) -> Fraction
     requires value { IsMeasured value }
-    requires by { IsWithin (2 * 10 ^ 10) (10 ^ 10) by }
+    requires by { IsOfSize (2 * 10 ^ 10) (10 ^ 10) by }
     ensures is { result ≡ times value by }
-    ensures within { IsWithin (2 * 10 ^ 25) (10 ^ 21) result }
+    ensures within { IsOfSize (2 * 10 ^ 25) (10 ^ 21) result }
 {
     value.times(by)
 }

@@ -1,7 +1,7 @@
 //! Times in ticks.
 
 ghost use Rattle.std.specs.Prelude.{◌≡◌, ◌≤◌, ◌<◌, ◌*◌, ◌↔◌, ℕ, IsTrue};
-ghost use Rattle.file_study.specs.times.Rounding.{IsRoundedDown, IsRoundedUp, IsWhole, Covers};
+ghost use Rattle.file_study.specs.times.Rounding.{IsRoundedDown, IsRoundedUp, IsWhole, LiesBetween};
 ghost use Rattle.file_study.specs.times.Times.{IsEnd};
 
 use crate::times::fraction::Fraction;
@@ -52,7 +52,7 @@ impl Interval {
         requires tick { 0 < tick_us }
         ensures least { IsRoundedDown tick_us self.least result.least }
         ensures greatest { IsRoundedUp tick_us self.greatest result.greatest }
-        ensures covers { Covers tick_us self result.least result.greatest }
+        ensures covers { LiesBetween tick_us self result.least result.greatest }
     {
         TickInterval {
             least: self.least.ticks_down(tick_us),

@@ -2,7 +2,7 @@
 
 ghost use Rattle.std.specs.Prelude.{◌≡◌, ◌^◌, IfOk};
 ghost use Rattle.file_study.specs.times.Units.{whole, cycle_in, no_unit, unit_in};
-ghost use Rattle.file_study.specs.times.Fractions.{IsWithin};
+ghost use Rattle.file_study.specs.times.Fractions.{IsOfSize};
 
 use crate::times::fault::TimeFault;
 use crate::times::fraction::Fraction;
@@ -11,7 +11,7 @@ use crate::times::word::{Sign, is, sign_in};
 /// One of the unit that a word at this place is.
 pub fn unit_in(place: usize, hertz: Option<u32>, word: &[u8]) -> Result<Fraction, TimeFault>
     ensures is { result ≡ unit_in place hertz word.now }
-    ensures within { IfOk result (IsWithin (10 ^ 6) (10 ^ 3)) }
+    ensures within { IfOk result (IsOfSize (10 ^ 6) (10 ^ 3)) }
 {
     if is(word, b"us") {
         Ok(whole(1))
@@ -39,7 +39,7 @@ pub fn whole(number: u32) -> Fraction
 // One cycle of so many hertz.
 fn cycle_in(place: usize, hertz: Option<u32>) -> Result<Fraction, TimeFault>
     ensures is { result ≡ cycle_in place hertz }
-    ensures within { IfOk result (IsWithin (10 ^ 6) (10 ^ 3)) }
+    ensures within { IfOk result (IsOfSize (10 ^ 6) (10 ^ 3)) }
 {
     match hertz {
         Some(hertz) if 1 <= hertz && hertz <= 1_000 => Ok(Fraction {

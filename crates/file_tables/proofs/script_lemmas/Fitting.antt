@@ -17,7 +17,7 @@ use Rattle.model_names.specs.NumbersByName.{terminal_named, channel_named, has_n
 use Rattle.file_tables.specs.declared.script.item.Item.{Item}
 use Rattle.file_tables.specs.declared.script.item.Item.TheVariants.{Head, Seen, Lost}
 use Rattle.file_tables.specs.script.Checks.{deadline_of, span_between, what_at}
-use Rattle.base_records.specs.CheckLaws.{filtered, tested}
+use Rattle.base_memory.specs.CheckLaws.{filtered, tested}
 use Rattle.base_records.specs.{Fields.is_empty, ListLaws.position_within}
 
 pub head_deadline_fits : (line : Line) (kind : Kind) (from to : List ℕ) (d : ℕ)

@@ -2,7 +2,7 @@
 use Rattle.std.proofs.Common.{◌≡◌, ℕ, ◌+◌, ◌≤◌, List, [], ◌∷◌, Ok, subst, arith}
 use Rattle.model_line.specs.declared.line.Line.{Line}
 use Rattle.base_records.specs.{Fields.are_fields, Records.records_of, RecordFile.after_header}
-use Rattle.base_records.specs.CheckLaws.{choice_passed, passed, same_ok}
+use Rattle.base_memory.specs.CheckLaws.{choice_passed, passed, same_ok}
 use Rattle.base_records.specs.{RecordFile.after_records, RecordFile.said_in}
 use Rattle.base_records.specs.SoFar.{SoFar, all_of, nothing}
 use Rattle.file_tables.specs.{script.Row.header_record, script.Scripts.after_record, script.Scripts.script_file}

@@ -18,10 +18,10 @@ use Rattle.file_tables.specs.declared.script.item.Item.TheVariants.{Head, Seen, 
 use Rattle.base_records.specs.SoFar.{SoFar, all_of, nothing}
 use Rattle.file_tables.specs.script.Values.{ScriptValues, AreOfOneFile, values_of, with_head, with_row}
 use Rattle.file_tables.specs.script.SoFar.{AreOnce, IsSoFar, ValuesFit, names_in, records_in}
-use Rattle.file_tables.specs.{script.Gives.Gives, declared.script.item.Item.Item, script.Row.Row, script.Checks.is_head}
+use Rattle.file_tables.specs.{declared.script.item.Item.Item, script.Row.Row, script.Checks.is_head}
 use Rattle.file_tables.specs.{script.Checks.is_taken, script.Scripts.after_item, script.Scripts.after_record}
 use Rattle.base_records.specs.ListLaws.{All-front, All-last, list_any-map}
-use Rattle.base_records.specs.CheckLaws.{same_ok}
+use Rattle.base_memory.specs.{CheckLaws.same_ok, Gives.Gives, declared.stopped.Stopped.Stopped}
 use Rattle.file_tables.specs.script.OnceLaws.{once_none, once_more}
 use Rattle.file_tables.proofs.script_lemmas.Fitting.{head_deadline_fits, row_span_fits, one_span_more}
 use Rattle.file_tables.proofs.script_lemmas.Steps.{HeadPassed, head_passed, RowPassed, row_passed, record_passed}
@@ -175,7 +175,7 @@ values_fit line (s ∷ scripts) fit =
     (All-tail (ValuesFit line) (values_of s) (map values_of scripts) fit))
 
 -- so are the scripts that a reader gives
-pub given_good : (line : Line) (n : ℕ) (s : SoFar ScriptValues) (r : Result (Vec Script Global) ScriptFault)
+pub given_good : (line : Line) (n : ℕ) (s : SoFar ScriptValues) (r : Result (Vec Script Global) (Stopped ScriptFault))
     → 2 < n → IsSoFar line n s → Gives (λ v. map values_of v.items) r (Ok (all_of s))
     → IfOk r (λ v. All (Fits line) v.items × AreOfOneFile (map values_of v.items))
 given_good line n s (Ok v) some so_far gives =

@@ -16,9 +16,10 @@ use Rattle.file_tables.specs.script.Checks.{item_of, has_good_name, is_head, is_
 use Rattle.file_tables.specs.script.Checks.{deadline_of, span_between}
 use Rattle.file_tables.specs.script.Scripts.{after_head, after_row, after_item, after_record}
 use Rattle.file_tables.specs.{declared.script.item.Item.Item, script.Row.Row, script.Row.row_in}
-use Rattle.base_records.specs.{Fields.is_empty, Gives.◌>>=◌, Gives.passes_or}
+use Rattle.base_memory.specs.Gives.{◌>>=◌, passes_or}
+use Rattle.base_records.specs.Fields.{is_empty}
 use Rattle.base_records.specs.{SoFar.SoFar, SoFar.all_of}
-use Rattle.base_records.specs.CheckLaws.{filtered, found, passed, same_ok, test_held}
+use Rattle.base_memory.specs.CheckLaws.{filtered, found, passed, same_ok, test_held}
 
 -- a head that passed
 pub record HeadPassed (line : Line) (s : SoFar ScriptValues) (row : Row) (kind : Kind)

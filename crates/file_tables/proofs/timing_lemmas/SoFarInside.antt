@@ -21,7 +21,7 @@ use Rattle.file_tables.specs.declared.timing.fault.TimingFault.TheVariants as fa
 use Rattle.file_tables.specs.declared.timing.named.Named.{Named}
 use Rattle.file_tables.specs.declared.timing.named.Named.TheVariants as named
 use Rattle.model_timing.specs.declared.named_timing.NamedTiming.{NamedTiming}
-use Rattle.file_tables.specs.timing.SoFarInside.{IsInside, IsSoFar}
+use Rattle.file_tables.specs.timing.SoFarInside.{IsNamedInside, IsSoFar}
 use Rattle.model_timing.specs.Inside.{IsStepInside, IsTimingInside}
 use Rattle.model_timing.specs.NamedValues.{NamedValues, values_of}
 use Rattle.file_tables.specs.timing.SoFar.{OpenTiming, TimingsSoFar, all_timings}
@@ -30,14 +30,15 @@ use Rattle.file_tables.specs.timing.Checks.{Opening, is_earlier, check_timing, a
 use Rattle.file_tables.specs.timing.Checks.{is_at, step_at, number_or_step, named_in, number_within}
 use Rattle.file_tables.specs.timing.Checks.{value_for}
 use Rattle.file_tables.specs.timing.Timings.{after_row, after_record}
-use Rattle.file_tables.specs.{timing.Gives.Gives, timing.Row.Row, timing.Row.row_in}
-use Rattle.base_records.specs.CheckLaws.{choice_passed, filtered, found, passed, refusal_passed}
-use Rattle.base_records.specs.CheckLaws.{same_ok, tested}
-use Rattle.base_records.specs.Gives.{◌>>=◌, passes_or}
+use Rattle.file_tables.specs.{timing.Row.Row, timing.Row.row_in}
+use Rattle.base_memory.specs.CheckLaws.{choice_passed, filtered, found, passed, refusal_passed}
+use Rattle.base_memory.specs.CheckLaws.{same_ok, tested}
+use Rattle.base_memory.specs.Gives.{◌>>=◌, Gives, passes_or}
+use Rattle.base_memory.specs.declared.stopped.Stopped.{Stopped}
 use Rattle.model_timing.specs.StepOrderLaws.{All-with_step}
 
 pub none_so_far : (line : Line) → IsSoFar line no_timings
-none_so_far line = record { done = All-nil (IsInside line); latest = tt }
+none_so_far line = record { done = All-nil (IsNamedInside line); latest = tt }
 
 -- a timing that opens has each parameter at its least
 opened_inside : (line : Line) (name : List ℕ) → IsTimingInside line (opened line name).timing
@@ -165,11 +166,11 @@ after_row_inside line t n row u all e =
 
 -- the timings before a row's and its own are inside
 pub record IsOpening (line : Line) (x : Opening) : Type 0 where
-  pub done : All (IsInside line) x.done
+  pub done : All (IsNamedInside line) x.done
   pub timing : IsTimingInside line x.timing.timing
 
 latest_inside : (line : Line) (done : List NamedValues) (n : ℕ) (name : List ℕ) (t : OpenTiming)
-    (x : Opening) → All (IsInside line) done → IsTimingInside line t.timing
+    (x : Opening) → All (IsNamedInside line) done → IsTimingInside line t.timing
     → after_latest line done n name t ≡ Ok x → IsOpening line x
 latest_inside line done n name t x all here e =
     let next : Opening = record { done = done ++ closed t ∷ []; timing = opened line name } in
@@ -186,13 +187,13 @@ latest_inside line done n name t x all here e =
           let p = refusal_passed (is_earlier done name) room (fault.Order n) x f in
           let q = choice_passed (nat_lt (length done + 1) 16) (Ok next) fault.TooMany x p.1 in
           subst (λ (y : Opening). IsOpening line y) (same_ok next x q) (record {
-            done = All-push (IsInside line) done (closed t) all here;
+            done = All-push (IsNamedInside line) done (closed t) all here;
             timing = opened_inside line name;
           })
     ] e
 
 opening_inside : (line : Line) (done : List NamedValues) (n : ℕ) (name : List ℕ)
-    (o : Option OpenTiming) (x : Opening) → All (IsInside line) done
+    (o : Option OpenTiming) (x : Opening) → All (IsNamedInside line) done
     → IfSome o (λ t. IsTimingInside line t.timing) → check_timing line done n name o ≡ Ok x
     → IsOpening line x
 opening_inside line done n name None x all here e =
@@ -229,31 +230,31 @@ record_so_far line s n fields t so_far e =
     subst (λ (y : TimingsSoFar). IsSoFar line y)
     (same_ok (record { done = c.value.done; latest = Some d.value }) t d.rest) kept
 
-all_inside : (line : Line) (s : TimingsSoFar) → IsSoFar line s → All (IsInside line) (all_timings s)
+all_inside : (line : Line) (s : TimingsSoFar) → IsSoFar line s → All (IsNamedInside line) (all_timings s)
 all_inside line s so_far =
-    All-append (IsInside line) s.done (one_or_none s.latest) so_far.done
+    All-append (IsNamedInside line) s.done (one_or_none s.latest) so_far.done
     (last_inside line s.latest so_far.latest)
   where
     last_inside : (line : Line) (o : Option OpenTiming)
-        → IfSome o (λ t. IsTimingInside line t.timing) → All (IsInside line) (one_or_none o)
-    last_inside line None here = All-nil (IsInside line)
+        → IfSome o (λ t. IsTimingInside line t.timing) → All (IsNamedInside line) (one_or_none o)
+    last_inside line None here = All-nil (IsNamedInside line)
     last_inside line (Some t) here =
-        All-cons (IsInside line) (closed t) [] here (All-nil (IsInside line))
+        All-cons (IsNamedInside line) (closed t) [] here (All-nil (IsNamedInside line))
 
-values_inside : (line : Line) (ts : List NamedTiming) → All (IsInside line) (map values_of ts)
+values_inside : (line : Line) (ts : List NamedTiming) → All (IsNamedInside line) (map values_of ts)
     → All (λ t. IsTimingInside line t.timing) ts
 values_inside line [] all = All-nil (λ t. IsTimingInside line t.timing)
 values_inside line (t ∷ ts) all =
     All-cons (λ x. IsTimingInside line x.timing) t ts
-    (All-head (IsInside line) (values_of t) (map values_of ts) all)
-    (values_inside line ts (All-tail (IsInside line) (values_of t) (map values_of ts) all))
+    (All-head (IsNamedInside line) (values_of t) (map values_of ts) all)
+    (values_inside line ts (All-tail (IsNamedInside line) (values_of t) (map values_of ts) all))
 
 -- so is every timing that a reader gives
-pub given_inside : (line : Line) (s : TimingsSoFar) (r : Result (Vec NamedTiming Global) TimingFault)
+pub given_inside : (line : Line) (s : TimingsSoFar) (r : Result (Vec NamedTiming Global) (Stopped TimingFault))
     → IsSoFar line s → Gives (λ v. map values_of v.items) r (Ok (all_timings s))
     → IfOk r (λ v. All (λ t. IsTimingInside line t.timing) v.items)
 given_inside line s (Ok v) so_far gives =
-    values_inside line v.items (subst (λ (vs : List NamedValues). All (IsInside line) vs)
+    values_inside line v.items (subst (λ (vs : List NamedValues). All (IsNamedInside line) vs)
     (same_ok {F = TimingFault} (all_timings s) (map values_of v.items) gives)
     (all_inside line s so_far))
 given_inside line s (Err e) so_far gives = tt

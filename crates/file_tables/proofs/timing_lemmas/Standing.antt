@@ -38,7 +38,8 @@ use Rattle.file_tables.specs.timing.Timings.{after_row, after_record, timing_fil
 use Rattle.file_tables.specs.timing.Printed.{name_record, number_records, step_record, timing_records}
 use Rattle.file_tables.specs.timing.Printed.{file_records, MayStand, AreOfOneFile}
 use Rattle.model_timing.specs.Timing.{comes_before, ascend, with_step}
-use Rattle.base_records.specs.{Gives.◌>>=◌, RecordFile.after_header, RecordFile.after_records}
+use Rattle.base_memory.specs.Gives.{◌>>=◌}
+use Rattle.base_records.specs.{RecordFile.after_header, RecordFile.after_records}
 use Rattle.model_timing.specs.LatestStepLaws.{all_after, ascend-tail}
 use Rattle.model_timing.specs.StepOrderLaws.{same_place}
 

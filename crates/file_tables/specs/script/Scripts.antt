@@ -3,7 +3,7 @@ use Rattle.std.specs.Prelude.{ℕ, List, Result, Ok, length, nat_lt}
 use Rattle.std.specs.{Option.ok_or, Str.bytes_eq}
 use Rattle.std.proofs.lemmas.Map.Entries.{option_filter}
 use Rattle.model_line.specs.{declared.line.Line.Line, declared.script.Kind.Kind}
-use Rattle.base_records.specs.Gives.{◌>>=◌, passes_or}
+use Rattle.base_memory.specs.Gives.{◌>>=◌, passes_or}
 use Rattle.base_records.specs.{Fields.is_empty, SoFar.SoFar, SoFar.all_of, SoFar.nothing}
 use Rattle.base_records.specs.{RecordFile.RecordFile, RecordFile.said_in, Records.records_of}
 use Rattle.base_text.specs.store.Number.{number_of}

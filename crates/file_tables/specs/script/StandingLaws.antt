@@ -37,7 +37,8 @@ use Rattle.file_tables.specs.{script.Checks.item_of, script.Checks.is_head, scri
 use Rattle.file_tables.specs.{script.Checks.deadline_of, declared.script.item.Item.Item, script.Row.Row}
 use Rattle.file_tables.specs.script.SoFar.{ValuesFit}
 use Rattle.std.proofs.lemmas.Map.Entries.{option_filter}
-use Rattle.base_records.specs.{Gives.◌>>=◌, RecordFile.after_header, RecordFile.after_records}
+use Rattle.base_memory.specs.Gives.{◌>>=◌}
+use Rattle.base_records.specs.{RecordFile.after_header, RecordFile.after_records}
 use Rattle.base_text.specs.store.DecimalLaws.{number_of-decimal}
 use Rattle.file_tables.specs.script.NamingLaws.{bytes_differ, terminal_found, channel_found}
 

@@ -13,7 +13,6 @@ fault_name (fault.Order n) = codes "Order"
 fault_name fault.TooMany = codes "TooMany"
 fault_name fault.Empty = codes "Empty"
 fault_name (fault.BadName n) = codes "Name"
-fault_name fault.Memory = codes "Memory"
 
 -- the number of the record, where the fault is of one
 abbrev pub fault_record : TimingFault → Option ℕ
@@ -26,4 +25,3 @@ fault_record (fault.Order n) = Some n
 fault_record fault.TooMany = None
 fault_record fault.Empty = None
 fault_record (fault.BadName n) = Some n
-fault_record fault.Memory = None

@@ -6,10 +6,10 @@ use Rattle.model_timing.specs.{Inside.IsTimingInside}
 use Rattle.model_timing.specs.NamedValues.{NamedValues}
 use Rattle.file_tables.specs.timing.SoFar.{TimingsSoFar}
 
-abbrev pub IsInside : Line → NamedValues → Type 0
-IsInside line v = IsTimingInside line v.timing
+abbrev pub IsNamedInside : Line → NamedValues → Type 0
+IsNamedInside line v = IsTimingInside line v.timing
 
 -- each timing so far is inside
 pub record IsSoFar (line : Line) (s : TimingsSoFar) : Type 0 where
-  pub done : All (IsInside line) s.done
+  pub done : All (IsNamedInside line) s.done
   pub latest : IfSome s.latest (λ t. IsTimingInside line t.timing)

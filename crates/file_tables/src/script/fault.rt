@@ -1,7 +1,6 @@
 //! Why a file of scripts is refused.
 
-use base_records::{Memory, print_fault};
-use std::alloc::AllocFailed;
+use base_records::print_fault;
 use std::fmt;
 
 /// Why a file of scripts is refused. The number is that of the record; the header is record 1.
@@ -25,8 +24,6 @@ pub enum ScriptFault {
     TooMany,
     /// No record follows the header.
     Empty,
-    /// Memory ran out.
-    Memory,
 }
 
 impl ScriptFault {
@@ -47,7 +44,6 @@ impl ScriptFault {
             ScriptFault::BadName(_) => "Name",
             ScriptFault::TooMany => "TooMany",
             ScriptFault::Empty => "Empty",
-            ScriptFault::Memory => "Memory",
         }
     }
 
@@ -62,8 +58,7 @@ impl ScriptFault {
             | ScriptFault::Ticks(n)
             | ScriptFault::Order(n)
             | ScriptFault::BadName(n) => Some(*n),
-            ScriptFault::Header | ScriptFault::TooMany | ScriptFault::Empty | ScriptFault::Memory =>
-                None,
+            ScriptFault::Header | ScriptFault::TooMany | ScriptFault::Empty => None,
         }
     }
 }
@@ -71,27 +66,5 @@ impl ScriptFault {
 impl fmt::Display for ScriptFault {
     fn fmt<W: fmt::Write>(&self, f: &mut fmt::Formatter<W>) -> fmt::Result {
         print_fault(f, self.name(), self.record())
-    }
-}
-
-impl<T: Drop> From<AllocFailed<T>> for ScriptFault {
-    ghost use Rattle.std.specs.Prelude.{◌≡◌};
-    ghost use Rattle.file_tables.specs.declared.script.fault.ScriptFault.TheVariants as fault;
-
-    ghost from_gives = { λ _ e. e ≡ fault.Memory };
-
-    fn from(_: AllocFailed<T>) -> Self {
-        ScriptFault::Memory
-    }
-}
-
-impl From<Memory> for ScriptFault {
-    ghost use Rattle.std.specs.Prelude.{◌≡◌};
-    ghost use Rattle.file_tables.specs.declared.script.fault.ScriptFault.TheVariants as fault;
-
-    ghost from_gives = { λ _ e. e ≡ fault.Memory };
-
-    fn from(_: Memory) -> Self {
-        ScriptFault::Memory
     }
 }

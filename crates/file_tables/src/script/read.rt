@@ -2,17 +2,19 @@
 
 ghost use Rattle.std.specs.Prelude.{◌≡◌, IfOk, IsTrue, map};
 ghost use Rattle.std.specs.List.{All};
+ghost use Rattle.base_memory.specs.Gives.{Gives};
 ghost use Rattle.model_line.specs.{Fits.Fits, PlainNames.is_plain_name};
 ghost use Rattle.base_records.specs.SoFar.{SoFar, all_of, so_far_of};
 ghost use Rattle.file_tables.specs.script.Values.{ScriptValues, values_of, AreOfOneFile};
 ghost use Rattle.file_tables.specs.script.Scripts.{scripts_of, script_file, after_record, after_head};
 ghost use Rattle.file_tables.specs.script.Scripts.{after_row};
-ghost use Rattle.file_tables.specs.{script.Gives.Gives, script.Gives.is_memory, script.Row.row_of, script.SoFar.IsSoFar};
+ghost use Rattle.file_tables.specs.{script.Row.row_of, script.SoFar.IsSoFar};
 
 use crate::script::check::{deadline, has_room, is_named_well, span, what_named};
 use crate::script::fault::ScriptFault;
 use crate::script::fields::{Fields, fields_in};
 use crate::script::item::{Item, item_named};
+use base_memory::Stopped;
 use base_records::{Reading, RecordReader, has_five, is, is_nothing, read_file};
 use csv::ByteRecord;
 use model_line::{Kind, Line, Name, Script};
@@ -35,8 +37,6 @@ impl<'a> RecordReader for ScriptReader<'a> {
 
     ghost file = { λ reader. script_file reader.line.now };
 
-    ghost is_memory = { is_memory };
-
     ghost Before = { λ reader n s. IsSoFar reader.line.now n s };
 
     fn is_header(&self, row: &ByteRecord) -> bool {
@@ -54,15 +54,15 @@ impl<'a> RecordReader for ScriptReader<'a> {
         reading: Reading<Script>,
         n: u32,
         row: &ByteRecord,
-    ) -> Result<Reading<Script>, ScriptFault> {
+    ) -> Result<Reading<Script>, Stopped<ScriptFault>> {
         let Some(fields) = fields_in(row) else {
-            return Err(ScriptFault::Fields(n));
+            return Err(Stopped::Fault(ScriptFault::Fields(n)));
         };
         if !is_named_well(&reading, fields) {
-            return Err(ScriptFault::BadName(n));
+            return Err(Stopped::Fault(ScriptFault::BadName(n)));
         }
         match item_named(fields.item) {
-            None => Err(ScriptFault::Item(n)),
+            None => Err(Stopped::Fault(ScriptFault::Item(n))),
             Some(Item::Head(kind)) => with_head(alloc, self.line, reading, n, fields, kind),
             Some(item) => with_row(self.line, reading, n, fields, item),
         }
@@ -75,10 +75,6 @@ impl<'a> RecordReader for ScriptReader<'a> {
     fn no_record(&self) -> ScriptFault {
         ScriptFault::Empty
     }
-
-    fn no_memory(&self) -> ScriptFault {
-        ScriptFault::Memory
-    }
 }
 
 // A head opens a script that has no span yet.
@@ -90,19 +86,19 @@ fn with_head(
     n: u32,
     fields: Fields,
     kind: Kind,
-) -> Result<Reading<Script>, ScriptFault>
+) -> Result<Reading<Script>, Stopped<ScriptFault>>
     requires { IsTrue (is_plain_name fields.name.now) }
     ensures { Gives (so_far_of values_of) result
         (after_head line.now (so_far_of values_of reading) n (row_of fields.entry) kind) }
 {
     if !has_room(&reading) {
-        return Err(ScriptFault::TooMany);
+        return Err(Stopped::Fault(ScriptFault::TooMany));
     }
     if !is_nothing(fields.place) {
-        return Err(ScriptFault::BadPlace(n));
+        return Err(Stopped::Fault(ScriptFault::BadPlace(n)));
     }
     let Some(deadline) = deadline(line, kind, fields.from, fields.to) else {
-        return Err(ScriptFault::Ticks(n));
+        return Err(Stopped::Fault(ScriptFault::Ticks(n)));
     };
     let script = Script {
         name: Name::plain(fields.name),
@@ -124,25 +120,25 @@ fn with_row(
     n: u32,
     fields: Fields,
     item: Item,
-) -> Result<Reading<Script>, ScriptFault>
+) -> Result<Reading<Script>, Stopped<ScriptFault>>
     ensures { Gives (so_far_of values_of) result
         (after_row line.now (so_far_of values_of reading) n (row_of fields.entry) item) }
 {
     let Reading { done, latest } = reading;
     let Some(mut script) = latest else {
-        return Err(ScriptFault::Order(n));
+        return Err(Stopped::Fault(ScriptFault::Order(n)));
     };
     if !is(script.name.bytes(), fields.name) {
-        return Err(ScriptFault::Order(n));
+        return Err(Stopped::Fault(ScriptFault::Order(n)));
     }
     if script.spans.len() >= 200 {
-        return Err(ScriptFault::TooMany);
+        return Err(Stopped::Fault(ScriptFault::TooMany));
     }
     let Some(what) = what_named(line, item, fields.place) else {
-        return Err(ScriptFault::BadPlace(n));
+        return Err(Stopped::Fault(ScriptFault::BadPlace(n)));
     };
     let Some(span) = span(line.horizon, what, fields.from, fields.to) else {
-        return Err(ScriptFault::Ticks(n));
+        return Err(Stopped::Fault(ScriptFault::Ticks(n)));
     };
     script.spans.push(span)?;
     Ok(Reading {
@@ -152,7 +148,11 @@ fn with_row(
 }
 
 /// The scripts of a file, in file order, or its first fault.
-pub fn read_scripts(alloc: Global, line: &Line, bytes: &[u8]) -> Result<Vec<Script>, ScriptFault>
+pub fn read_scripts(
+    alloc: Global,
+    line: &Line,
+    bytes: &[u8],
+) -> Result<Vec<Script>, Stopped<ScriptFault>>
     ensures said { Gives (λ v. map values_of v.items) result (scripts_of line.now bytes.now) }
     ensures fits { IfOk result (λ v. All (Fits line.now) v.items) }
     ensures one_file { IfOk result (λ v. AreOfOneFile (map values_of v.items)) }
@@ -161,7 +161,7 @@ pub fn read_scripts(alloc: Global, line: &Line, bytes: &[u8]) -> Result<Vec<Scri
 }
 
 // All scripts, in file order.
-fn finished(reading: Reading<Script>) -> Result<Vec<Script>, ScriptFault>
+fn finished(reading: Reading<Script>) -> Result<Vec<Script>, Stopped<ScriptFault>>
     ensures { Gives (λ v. map values_of v.items) result
         (Ok (all_of (so_far_of values_of reading))) }
 {

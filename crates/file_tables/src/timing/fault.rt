@@ -1,8 +1,5 @@
 //! Why a file of timings is refused.
 
-use base_records::Memory;
-use std::alloc::AllocFailed;
-
 /// Why a file of timings is refused. The number is that of the record; the header is record 1.
 #[derive(Clone, Copy, Drop)]
 pub enum TimingFault {
@@ -24,8 +21,6 @@ pub enum TimingFault {
     Empty,
     /// The name isn't plain.
     BadName(u32),
-    /// Memory ran out.
-    Memory,
 }
 
 impl TimingFault {
@@ -46,7 +41,6 @@ impl TimingFault {
             TimingFault::TooMany => "TooMany",
             TimingFault::Empty => "Empty",
             TimingFault::BadName(_) => "Name",
-            TimingFault::Memory => "Memory",
         }
     }
 
@@ -61,30 +55,7 @@ impl TimingFault {
             | TimingFault::Twice(n)
             | TimingFault::Order(n)
             | TimingFault::BadName(n) => Some(*n),
-            TimingFault::Header | TimingFault::TooMany | TimingFault::Empty | TimingFault::Memory =>
-                None,
+            TimingFault::Header | TimingFault::TooMany | TimingFault::Empty => None,
         }
-    }
-}
-
-impl<T: Drop> From<AllocFailed<T>> for TimingFault {
-    ghost use Rattle.std.specs.Prelude.{◌≡◌};
-    ghost use Rattle.file_tables.specs.declared.timing.fault.TimingFault.TheVariants as fault;
-
-    ghost from_gives = { λ _ e. e ≡ fault.Memory };
-
-    fn from(_: AllocFailed<T>) -> Self {
-        TimingFault::Memory
-    }
-}
-
-impl From<Memory> for TimingFault {
-    ghost use Rattle.std.specs.Prelude.{◌≡◌};
-    ghost use Rattle.file_tables.specs.declared.timing.fault.TimingFault.TheVariants as fault;
-
-    ghost from_gives = { λ _ e. e ≡ fault.Memory };
-
-    fn from(_: Memory) -> Self {
-        TimingFault::Memory
     }
 }

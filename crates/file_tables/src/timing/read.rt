@@ -2,12 +2,12 @@
 
 ghost use Rattle.std.specs.Prelude.{◌≤◌, ◌+◌, IfOk, IfSome, IsFalse, length, map};
 ghost use Rattle.std.specs.List.{All};
+ghost use Rattle.base_memory.specs.Gives.{Gives};
 ghost use Rattle.model_timing.specs.NamedValues.{values_of};
 ghost use Rattle.file_tables.specs.timing.SoFar.{open_of, so_far_of, TimingsSoFar};
 ghost use Rattle.file_tables.specs.timing.SoFar.{with_row as with_row_of, IsFull, IsNamedIn};
 ghost use Rattle.file_tables.specs.timing.Timings.{timings_of, timing_file, after_record, after_row};
 ghost use Rattle.model_timing.specs.{Inside.IsTimingInside};
-ghost use Rattle.file_tables.specs.{timing.Gives.Gives, timing.Gives.is_memory};
 ghost use Rattle.file_tables.specs.{timing.Row.row_of};
 ghost use Rattle.file_tables.specs.{timing.SoFarInside.IsSoFar, timing.Checks.is_given as is_given_in};
 
@@ -16,6 +16,7 @@ use crate::timing::fault::TimingFault;
 use crate::timing::fields::{Fields, fields_in};
 use crate::timing::named::Named;
 use crate::timing::reading::{Open, Opened, Reading, finished, nothing_read, opened_by};
+use base_memory::Stopped;
 use base_records::{RecordReader, has_three, read_file};
 use csv::ByteRecord;
 use model_line::{Line, is_plain};
@@ -28,7 +29,7 @@ pub fn read_timings(
     alloc: Global,
     line: &Line,
     bytes: &[u8],
-) -> Result<Vec<NamedTiming>, TimingFault>
+) -> Result<Vec<NamedTiming>, Stopped<TimingFault>>
     requires { length bytes.now ≤ 4194304 }
     ensures said { Gives (λ v. map values_of v.items) result (timings_of line.now bytes.now) }
     ensures inside { IfOk result (λ v. All (λ t. IsTimingInside line.now t.timing) v.items) }
@@ -53,8 +54,6 @@ impl<'a> RecordReader for TimingReader<'a> {
 
     ghost file = { λ reader. timing_file reader.line.now };
 
-    ghost is_memory = { is_memory };
-
     ghost Before = { λ reader n s. IsSoFar reader.line.now s };
 
     fn is_header(&self, row: &ByteRecord) -> bool {
@@ -72,12 +71,12 @@ impl<'a> RecordReader for TimingReader<'a> {
         reading: Reading,
         n: u32,
         row: &ByteRecord,
-    ) -> Result<Reading, TimingFault> {
+    ) -> Result<Reading, Stopped<TimingFault>> {
         let Some(fields) = fields_in(row) else {
-            return Err(TimingFault::Fields(n));
+            return Err(Stopped::Fault(TimingFault::Fields(n)));
         };
         if !is_plain(fields.name) {
-            return Err(TimingFault::BadName(n));
+            return Err(Stopped::Fault(TimingFault::BadName(n)));
         }
         let Opened { done, timing } = opened_by(alloc, self.line, reading, n, fields.name)?;
         let timing = with_row(self.line, timing, n, fields)?;
@@ -94,32 +93,33 @@ impl<'a> RecordReader for TimingReader<'a> {
     fn no_record(&self) -> TimingFault {
         TimingFault::Empty
     }
-
-    fn no_memory(&self) -> TimingFault {
-        TimingFault::Memory
-    }
 }
 
 // The open timing with a row, where the row passes its checks.
 #[tactic(auto, unfolding(crate::specs::timing::Timings::after_row))]
-fn with_row(line: &Line, timing: Open, n: u32, fields: Fields) -> Result<Open, TimingFault>
+fn with_row(line: &Line, timing: Open, n: u32, fields: Fields) -> Result<Open, Stopped<TimingFault>>
     requires { IsFull line.now (open_of timing) }
     ensures { Gives open_of result (after_row line.now (open_of timing) n (row_of fields.entry)) }
 {
     let Some(what) = named(line, fields.parameter) else {
-        return Err(TimingFault::Parameter(n));
+        return Err(Stopped::Fault(TimingFault::Parameter(n)));
     };
     let Some(number) = value(line, what, fields.value) else {
-        return Err(TimingFault::Value(n));
+        return Err(Stopped::Fault(TimingFault::Value(n)));
     };
     if is_given(&timing, what) {
-        return Err(TimingFault::Twice(n));
+        return Err(Stopped::Fault(TimingFault::Twice(n)));
     }
     entered(line, timing, what, Tick::new(number))
 }
 
 // The timing with what a row says.
-fn entered(line: &Line, latest: Open, what: Named, number: Tick) -> Result<Open, TimingFault>
+fn entered(
+    line: &Line,
+    latest: Open,
+    what: Named,
+    number: Tick,
+) -> Result<Open, Stopped<TimingFault>>
     requires full { IsFull line.now (open_of latest) }
     requires exists { IsNamedIn line.now what }
     requires once { IsFalse (is_given_in (open_of latest) what) }

@@ -1,15 +1,17 @@
 //! The timings that the records so far say.
 
 ghost use Rattle.std.specs.Prelude.{◌≡◌, IsTrue, IfSome, IfOk, map, option_map};
+ghost use Rattle.base_memory.specs.Gives.{Gives};
 ghost use Rattle.model_line.specs.{Intervals.leasts, PlainNames.is_plain_name};
 ghost use Rattle.model_timing.specs.NamedValues.{values_of};
 ghost use Rattle.file_tables.specs.timing.SoFar.{so_far_of, no_timings, all_timings, open_of};
 ghost use Rattle.file_tables.specs.timing.SoFar.{opened, closed as closed_of, IsFull};
-ghost use Rattle.file_tables.specs.{timing.Gives.Gives, timing.Checks.check_timing, timing.Opened.opening_of};
+ghost use Rattle.file_tables.specs.{timing.Checks.check_timing, timing.Opened.opening_of};
 
 use crate::timing::check::is_any;
 use crate::timing::fault::TimingFault;
 use crate::timing::steps::Steps;
+use base_memory::{Memory, Stopped};
 use base_records::is;
 use model_line::{Line, Name};
 use model_timing::{NamedTiming, Timing};
@@ -43,7 +45,7 @@ pub fn nothing_read(alloc: Global) -> Reading
 }
 
 /// All timings, in file order.
-pub fn finished(reading: Reading) -> Result<Vec<NamedTiming>, TimingFault>
+pub fn finished(reading: Reading) -> Result<Vec<NamedTiming>, Stopped<TimingFault>>
     ensures { Gives (λ v. map values_of v.items) result (Ok (all_timings (so_far_of reading))) }
 {
     let Reading { mut done, latest } = reading;
@@ -54,8 +56,8 @@ pub fn finished(reading: Reading) -> Result<Vec<NamedTiming>, TimingFault>
 }
 
 // A timing with its steps in order.
-fn closed(timing: Open) -> Result<NamedTiming, TimingFault>
-    ensures { Gives values_of result (Ok (closed_of (open_of timing))) }
+fn closed(timing: Open) -> Result<NamedTiming, Memory>
+    ensures { IfOk result (λ t. values_of t ≡ closed_of (open_of timing)) }
 {
     let Open {
         name,
@@ -84,7 +86,7 @@ pub fn opened_by(
     reading: Reading,
     n: u32,
     name: &[u8],
-) -> Result<Opened, TimingFault>
+) -> Result<Opened, Stopped<TimingFault>>
     requires plain { IsTrue (is_plain_name name.now) }
     requires full { IfSome reading.latest (λ t. IsFull line.now (open_of t)) }
     ensures said { Gives opening_of result
@@ -101,10 +103,10 @@ pub fn opened_by(
         return Ok(Opened { done, timing });
     }
     if is_any(done.as_slice(), name) {
-        return Err(TimingFault::Order(n));
+        return Err(Stopped::Fault(TimingFault::Order(n)));
     }
     if done.len() >= 15 {
-        return Err(TimingFault::TooMany);
+        return Err(Stopped::Fault(TimingFault::TooMany));
     }
     done.push(closed(timing)?)?;
     let timing = new_timing(alloc, line, Name::plain(name))?;
@@ -112,8 +114,8 @@ pub fn opened_by(
 }
 
 /// A timing that no row has set yet.
-pub fn new_timing(alloc: Global, line: &Line, name: Name) -> Result<Open, TimingFault>
-    ensures said { Gives open_of result (Ok (opened line.now name)) }
+pub fn new_timing(alloc: Global, line: &Line, name: Name) -> Result<Open, Memory>
+    ensures said { IfOk result (λ t. open_of t ≡ opened line.now name) }
     ensures full { IfOk result (λ t. IsFull line.now (open_of t)) }
 {
     Ok(Open {
@@ -124,8 +126,8 @@ pub fn new_timing(alloc: Global, line: &Line, name: Name) -> Result<Open, Timing
     })
 }
 
-fn least_values(alloc: Global, line: &Line) -> Result<Vec<Tick>, TimingFault>
-    ensures { Gives (λ v. v.items) result (Ok (leasts line.now.params.items)) }
+fn least_values(alloc: Global, line: &Line) -> Result<Vec<Tick>, Memory>
+    ensures { IfOk result (λ v. v.items ≡ leasts line.now.params.items) }
 {
     let mut values = Vec::new(alloc);
     for param in &line.params {

@@ -15,6 +15,7 @@ use Rattle.run_step.specs.{Runs.IsTheHistory}
 use Rattle.model_history.specs.ListLaws.{exists_at}
 use Rattle.model_timing.specs.Timing.{number_at}
 use Rattle.judge_verdict.specs.{boxes.Spans.SpanLists, boxes.Spans.span_ends}
+use Rattle.judge_verdict.specs.boxes.Terns.{terns_signal}
 use Rattle.judge_margins.specs.{map.Known.Known, declared.map.axis.Axis.Axis, declared.map.axis.Axes.Axes}
 use Rattle.judge_margins.specs.map.Placed.{CanPlace}
 use Rattle.judge_margins.specs.map.Axes.{AreAxes, CanMove, CanMoveBoth, CanMoveSecond, IsAxis, IsSecond}
@@ -132,7 +133,7 @@ module _ (known : Known) (line : Line) (axes : Axes) (first : ℕ) (spans : List
       }
 
   pub cells_delayed : CanMoveBoth line axes → first < cell_count axes
-      → AreDelayed 64 span_ends line spans []
+      → AreDelayed terns_signal line spans []
   cells_delayed can some lane inside c t lt early =
       let cell = cell_in axes first lane in
       let rows = row_count axes in

@@ -13,7 +13,7 @@ use Rattle.model_line.specs.{declared.line.Line.Line, declared.line.Param.Param}
 use Rattle.model_line.specs.SetBounds.{SameButParams}
 use Rattle.model_logic.specs.{Choice.declared_box, Boxes.ends_with}
 use Rattle.judge_margins.specs.{map.Known.Known, declared.map.axis.Axis.Axis, declared.map.axis.Axes.Axes}
-use Rattle.judge_margins.specs.map.Placed.{AreParams, IsPlaced, width_of}
+use Rattle.judge_margins.specs.map.Placed.{AreOfLine, IsPlaced, width_of}
 use Rattle.judge_margins.specs.map.Axes.{IsSecond, ends_along, ends_up, least_at, moved, moves}
 use Rattle.judge_margins.specs.map.MapLaws.{ACellIsOfThePlacedLine, IsPlacedUp}
 use Rattle.judge_margins.proofs.{map_lemmas.ListLaws.place_of, map_lemmas.PlacedLaws.placed_rest, map_lemmas.PlacedLaws.chained}
@@ -69,7 +69,7 @@ told_more line before other params least n param i at is so_far = elim (cases_eq
 
 module _ (known : Known) where
   told : (line : Line) (params : List ℕ) (least n : ℕ) (other : Line) (i : ℕ)
-      → AreParams line params → n ≤ length params → IsPlaced line params least n other
+      → AreOfLine line params → n ≤ length params → IsPlaced line params least n other
       → i < param_count line → Told line params least n other i
   unfolding declared_box
   told line params least zero other i are le is here = record {
@@ -131,7 +131,7 @@ up_is line between other axis n i b e width below is =
     ∙ ap (λ (x : Ends). cond b (moved line i (least_at axis n)) x) below
 
 module _ (known : Known) (line between : Line) (axes : Axes) (column : ℕ)
-    (x_params : AreParams line axes.x.params.items)
+    (x_params : AreOfLine line axes.x.params.items)
     (is_x : IsPlaced line axes.x.params.items (least_at axes.x column)
     (length axes.x.params.items) between) where
   first_same : SameButParams line between
@@ -163,7 +163,7 @@ module _ (known : Known) (line between : Line) (axes : Axes) (column : ℕ)
       ≡ ends_along line axes.x column (declared_ends line) i) (sym is) (first_is i here)
   second_is (Some axis) row other are is i here =
       let count = known.counts.params line between first_same in
-      let params : AreParams between axis.params.items =
+      let params : AreOfLine between axis.params.items =
       λ j p at. subst (λ (m : ℕ). p < m) (sym count) (are.params j p at) in
       up_is line between other axis row i (moves axis i)
       (ends_along line axes.x column (declared_ends line) i)

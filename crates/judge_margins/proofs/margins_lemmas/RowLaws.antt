@@ -21,6 +21,7 @@ use Rattle.run_changes.specs.{changes.Tracks.pair_of, changes.Tracks.tracks_hist
 use Rattle.judge_verdict.specs.declared.boxes.terns.Terns64.{Terns64}
 use Rattle.judge_verdict.specs.boxes.Held.{trip_rails}
 use Rattle.judge_verdict.specs.{boxes.Spans.SpanLists, boxes.Spans.span_ends, boxes.Terns.terns_rails}
+use Rattle.judge_verdict.specs.boxes.Terns.{terns_signal}
 use Rattle.judge_report.specs.declared.upper_end.Lost.{Lost}
 use Rattle.judge_margins.specs.{margins.Known.Known, declared.margins.ask.Ask.Ask, declared.margins.group.Group.Group}
 use Rattle.judge_margins.specs.margins.Asks.{AreAsks, AreAskSpans, AreRows, IsRow, IsTold, TellsOff}
@@ -74,7 +75,7 @@ module _ (known : Known) (line : Line) (asks : List Ask) (are : AreAsks line ask
       (sym ((box_of_lane lane ask inside at).delays c t lt early))
       (from_one known line (param_at ask.place) (side_at ask.place) ask.by is.by c t lt early)
 
-  pub asks_delayed : first < length asks → AreDelayed 64 span_ends line spans []
+  pub asks_delayed : first < length asks → AreDelayed terns_signal line spans []
   asks_delayed some lane inside =
       let (ask, at) = exists_at asks (ask_in (length asks) first lane)
       (ask_exists (length asks) first lane some) in

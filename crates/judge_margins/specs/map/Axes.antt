@@ -6,11 +6,11 @@ use Rattle.model_history.specs.Rails.{Ends}
 use Rattle.model_line.specs.{declared.line.Line.Line, Parameters.declared_ends}
 use Rattle.model_logic.specs.{Choice.Box, Boxes.box_of}
 use Rattle.judge_margins.specs.{declared.map.axis.Axis.Axis, declared.map.axis.Axes.Axes}
-use Rattle.judge_margins.specs.map.Placed.{AreParams, CanPlaceAll, width_of}
+use Rattle.judge_margins.specs.map.Placed.{AreOfLine, CanPlaceAll, width_of}
 
 -- parameters of the line, and numbers of ticks in order, step by step
 pub record IsAxis (line : Line) (axis : Axis) : Type 0 where
-  pub params : AreParams line axis.params.items
+  pub params : AreOfLine line axis.params.items
   pub step : 1 ≤ axis.step
   pub ordered : axis.first ≤ axis.last
   pub limit : axis.last ≤ 4000

@@ -8,8 +8,8 @@ abbrev pub width_of : Line → ℕ → ℕ
 width_of line param = (declared_ends line param).greatest - (declared_ends line param).least
 
 -- parameters of the line
-abbrev pub AreParams : Line → List ℕ → Type 0
-AreParams line params =
+abbrev pub AreOfLine : Line → List ℕ → Type 0
+AreOfLine line params =
     (i param : ℕ) → slice_get params i ≡ Some param → param < param_count line
 
 -- the interval, with its width, can begin there: it stays within 4000, and a delay begins at 1

@@ -2,7 +2,7 @@
 
 ghost use Rattle.std.specs.Prelude.{◌≡◌, ◌≤◌, ◌<◌, ◌*◌, None, IsNone};
 ghost use Rattle.model_line.specs.Parameters.{param_count};
-ghost use Rattle.judge_margins.specs.map.Placed.{AreParams};
+ghost use Rattle.judge_margins.specs.map.Placed.{AreOfLine};
 ghost use Rattle.judge_margins.specs.map.Axes.{AreAxes, CanMoveBoth, IsAxis, IsSecond, cell_count};
 ghost use Rattle.judge_margins.specs.map.Faults.{axis_fault as fault_of_axis, count_fault as fault_of_count};
 ghost use Rattle.judge_margins.specs.map.Faults.{first_fault as first_of, map_fault as fault_of};
@@ -81,7 +81,7 @@ fn axis_fault(line: &Line, axis: &Axis) -> Option<MapFault>
 
 // The first of these whose interval cannot begin at each number from the first to the last.
 fn first_fault(line: &Line, first: u32, last: u32, params: &[u32]) -> Option<MapFault>
-    requires params { AreParams line.now params.now }
+    requires params { AreOfLine line.now params.now }
     requires last { last ≤ 4000 }
     ensures { result ≡ first_of line.now first last params.now }
 {

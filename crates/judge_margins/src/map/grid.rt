@@ -7,7 +7,7 @@ ghost use Rattle.model_line.specs.{Parameters.terminal_count, Parameters.param_c
 ghost use Rattle.model_logic.specs.{Choice.LeastFromOne};
 ghost use Rattle.run_signal.specs.SentKeys.{SentKeys};
 ghost use Rattle.run_step.specs.{Runs.AreDelayed, LaneBox.lane_box};
-ghost use Rattle.judge_verdict.specs.boxes.Spans.{span_ends};
+ghost use Rattle.judge_verdict.specs.{boxes.Spans.span_ends, boxes.Terns.terns_signal};
 ghost use Rattle.judge_verdict.specs.verdict.Rules.{counted_ticks};
 ghost use Rattle.judge_margins.specs.map.Axes.{AreAxes, CanMoveBoth, cell_count};
 ghost use Rattle.judge_margins.specs.map.Blocks.{AreCellSpans, AreRuled, lane_cell};
@@ -115,7 +115,7 @@ fn rule_script(
     requires fit { All (Fits compiled.now.line.now) scripts.now }
     requires script { s < length scripts.now }
     requires spans { length spans.now ≡ param_count compiled.now.line.now }
-    requires delayed { AreDelayed 64 span_ends compiled.now.line.now spans.now [] }
+    requires delayed { AreDelayed terns_signal compiled.now.line.now spans.now [] }
     requires so_far { AreRuled compiled.now.line.now scripts.now
         (lane_box span_ends compiled.now.line.now spans.now [])
         (s * terminal_count compiled.now.line.now) ruled.old.items }

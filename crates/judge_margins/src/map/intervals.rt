@@ -4,7 +4,7 @@ ghost use Rattle.std.specs.Prelude.{◌≡◌, ◌≤◌, ◌<◌, ◌+◌, ℕ,
 ghost use Rattle.std.specs.Prelude.{slice_get};
 ghost use Rattle.model_line.specs.{Parameters.param_count, SetBounds.SameButParams};
 ghost use Rattle.model_line.specs.{WithBounds.IsWithBounds};
-ghost use Rattle.judge_margins.specs.map.Placed.{CanPlace, CanPlaceAll, AreParams, IsPlaced, width_of};
+ghost use Rattle.judge_margins.specs.map.Placed.{CanPlace, CanPlaceAll, AreOfLine, IsPlaced, width_of};
 
 use crate::map::known::laws_below;
 use crate::map::laws::what_is_placed_is_a_part;
@@ -19,7 +19,7 @@ pub fn placed(
     params: &[u32],
     least: u32,
 ) -> Result<Option<Line>, Memory>
-    requires exist { AreParams line.now params.now }
+    requires exist { AreOfLine line.now params.now }
     requires small { least ≤ 4000 }
     ensures { IfOk result (λ placed. MatchOption placed
         (¬ (CanPlaceAll line.now params.now least))
@@ -38,7 +38,7 @@ pub fn placed(
 
 // Whether all can begin there.
 fn can_place_all(line: &Line, params: &[u32], least: u32) -> bool
-    requires exist { AreParams line.now params.now }
+    requires exist { AreOfLine line.now params.now }
     requires small { least ≤ 4000 }
     ensures { Decides result (CanPlaceAll line.now params.now least) }
 {
@@ -51,7 +51,7 @@ fn can_place_all(line: &Line, params: &[u32], least: u32) -> bool
 }
 
 fn can_place_at(line: &Line, params: &[u32], least: u32, i: usize) -> bool
-    requires exist { AreParams line.now params.now }
+    requires exist { AreOfLine line.now params.now }
     requires small { least ≤ 4000 }
     requires place { i < length params.now }
     ensures { (param : ℕ) → slice_get params.now i ≡ Some param →
@@ -91,7 +91,7 @@ fn placed_more(
     i: usize,
     other: &Line,
 ) -> Result<Line, Memory>
-    requires exist { AreParams line.now params.now }
+    requires exist { AreOfLine line.now params.now }
     requires small { least ≤ 4000 }
     requires can { CanPlaceAll line.now params.now least }
     requires place { i < length params.now }

@@ -1,13 +1,12 @@
 -- The box of a run over a part.
-use Rattle.std.proofs.Common.{◌≡◌, ◌<◌, ◌≤◌, ℕ, zero, suc, List, [], ◌∷◌, Some, None, length, refl, sym, ◌∙◌, ap}
+use Rattle.std.proofs.Common.{◌≡◌, ℕ, zero, suc, List, [], ◌∷◌, Some, None, refl, ◌∙◌, ap}
 use Rattle.std.proofs.Math.Path.{fun_ext}
-use Rattle.std.specs.Prelude.{Option, get_or, slice_get, option_map}
-use Rattle.model_history.specs.Rails.{Ends, single}
+use Rattle.std.specs.Prelude.{Option, slice_get, option_map}
+use Rattle.model_history.specs.Rails.{Ends}
 use Rattle.model_line.specs.declared.line.Line.{Line}
-use Rattle.model_line.specs.Parameters.{delay_param, channel_count, param_count}
-use Rattle.std.proofs.Common.{subst, arith}
-use Rattle.model_logic.specs.{Boxes.box_of, Choice.Box}
-use Rattle.model_timing.specs.{declared.step.Step.Step, Timing.number_at}
+use Rattle.model_line.specs.Parameters.{delay_param}
+use Rattle.model_logic.specs.{Choice.Box}
+use Rattle.model_timing.specs.{Timing.number_at}
 use Rattle.run_step.specs.LaneBox.{own_ends, ends_in, ends_at, lane_box}
 use Rattle.judge_match.specs.explain.Parts.{interval_of, part_box}
 

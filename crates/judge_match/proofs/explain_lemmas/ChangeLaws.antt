@@ -1,12 +1,12 @@
 -- Laws of changes.
 use Rattle.std.proofs.Common.{◌≡◌, ◌<◌, ◌≤◌, ◌+◌, ◌-◌, ◌∷◌, ◌++◌, [], ℕ, zero, suc, Bool, true, false}
-use Rattle.std.proofs.Common.{not, List, length, refl, sym, ◌∙◌, ap, subst, arith, get_or, ◌⊎◌, ⊎_elim, inl, inr}
-use Rattle.std.specs.Prelude.{filter, IsTrue, nat_le, if◌then◌else◌}
+use Rattle.std.proofs.Common.{not, List, refl, sym, ◌∙◌, ap, subst, arith, ◌⊎◌, ⊎_elim, inl, inr}
+use Rattle.std.specs.Prelude.{filter, nat_le, if◌then◌else◌}
 use Rattle.std.specs.List.{All, AllZip, range_with_len}
 use Rattle.std.specs.Bool.{beq}
 use Rattle.std.proofs.lemmas.List.Elements.{filter-append, All-cons, All-nil, All-head, All-tail}
 use Rattle.std.proofs.lemmas.List.Elements.{All-append, All-weaker}
-use Rattle.std.proofs.lemmas.Bool.{cases_lt, le-leb, lt-leb, leb-true}
+use Rattle.std.proofs.lemmas.Bool.{cases_lt, le-leb, lt-leb}
 use Rattle.judge_match.specs.explain.Changes.{before, turns, changes, AreNear, HaveSameChanges}
 use Rattle.judge_match.specs.explain.Changes.{StaysAround}
 

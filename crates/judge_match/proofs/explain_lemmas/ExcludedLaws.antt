@@ -1,12 +1,11 @@
 -- What the interval history over a part excludes.
-use Rattle.std.proofs.Common.{◌≡◌, ◌<◌, ℕ, Bool, true, false, List, Some, length, refl, sym, ◌∙◌, ap, subst, arith}
+use Rattle.std.proofs.Common.{◌≡◌, ◌<◌, ℕ, Bool, true, false, List, Some, length, sym, subst, arith}
 use Rattle.std.specs.Prelude.{slice_get, Option}
 use Rattle.std.proofs.lemmas.Option.{slice_get_within}
 use Rattle.model_history.specs.Rails.{Rails, Covers, rails_at}
 use Rattle.model_line.specs.{declared.line.Line.Line, declared.script.Script.Script}
-use Rattle.model_line.specs.Parameters.{terminal_count}
 use Rattle.model_history.specs.Rails.{Ends}
-use Rattle.model_logic.specs.Histories.{History, PairHistory, IsPairHistory}
+use Rattle.model_logic.specs.Histories.{History}
 use Rattle.run_signal.specs.SentKeys.{SentKeys}
 use Rattle.run_signal.specs.{declared.tern.Tern.Tern, Terns.tern_rails, Lanes.in_lane}
 use Rattle.run_changes.specs.{changes.Tracks.pair_of, changes.Tracks.tracks_history}

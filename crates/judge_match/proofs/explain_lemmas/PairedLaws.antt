@@ -1,6 +1,6 @@
 -- Changes side by side, one after another.
 use Rattle.std.proofs.Common.{◌≡◌, ◌≤◌, ◌<◌, ◌+◌, ◌∷◌, ◌++◌, [], ℕ, zero, suc, Bool, not, List, ◌⊎◌, inl, inr}
-use Rattle.std.proofs.Common.{length, refl, sym, ◌∙◌, ap, subst, arith, ⊎_elim, get_or, drop}
+use Rattle.std.proofs.Common.{length, refl, sym, ◌∙◌, ap, arith, ⊎_elim, get_or, drop}
 use Rattle.std.proofs.lemmas.List.{append-nil}
 use Rattle.judge_match.specs.explain.Answers.{paired}
 use Rattle.judge_match.specs.declared.explain.paired.Paired.{Paired}

@@ -6,26 +6,21 @@ use Rattle.model_logic.specs.Histories.{History}
 use Rattle.judge_match.specs.explain.Explains.{Explains}
 use Rattle.judge_match.specs.explain.Parts.{IsExcludedByPlay}
 use Rattle.judge_match.specs.explain.Asked.{AreSingle, AreLeast}
-use Rattle.std.proofs.Common.{◌≡◌, ◌≢◌, ◌<◌, ◌≤◌, ◌+◌, ◌⊎◌, ℕ, zero, suc, Bool, List, [], ◌∷◌, Some, None, length}
+use Rattle.std.proofs.Common.{◌≡◌, ◌≢◌, ◌<◌, ◌≤◌, ◌+◌, ◌⊎◌, ℕ, Bool, List, [], length}
 use Rattle.std.proofs.Common.{refl, sym, ◌∙◌, ap, subst, arith, ⊎_elim, inl, inr, length-set}
 use Rattle.std.proofs.Common.{get_or-set_other, get_or-set_same}
-use Rattle.std.proofs.Math.Path.{fun_ext}
 use Rattle.std.proofs.lemmas.Bool.{cases_lt}
-use Rattle.std.proofs.lemmas.Option.{slice_get-get_or}
 use Rattle.std.proofs.lemmas.List.FromFn.{length-map-range_with_len, get_or-map-range_with_len}
-use Rattle.std.specs.Prelude.{get_or, slice_get, slice_set, map}
-use Rattle.std.specs.List.{range_with_len}
+use Rattle.std.specs.Prelude.{get_or, slice_set}
 use Rattle.model_history.specs.Rails.{Ends, single}
 use Rattle.model_line.specs.{declared.line.Line.Line, Laws.DelaysAreParameters}
 use Rattle.model_line.specs.Parameters.{param_count, channel_count, delay_param, declared_ends}
-use Rattle.model_logic.specs.Boxes.{box_of}
-use Rattle.model_logic.specs.Choice.{Box, IsIn, IsWithin, LeastFromOne}
+use Rattle.model_logic.specs.Choice.{IsIn, IsWithin}
 use Rattle.model_timing.specs.{declared.step.Step.Step, Timing.TimingValues, Timing.number_at}
-use Rattle.model_timing.specs.{Choice.timing_choice, Inside.IsTimingInside}
-use Rattle.run_step.specs.LaneBox.{own_ends, ends_in, lane_box}
+use Rattle.model_timing.specs.{Choice.timing_choice}
 use Rattle.judge_match.specs.explain.Explains.{IsSteadyInside}
 use Rattle.judge_match.specs.explain.Parts.{interval_of, part_box, declared_part, LiesIn, CanPart}
-use Rattle.judge_match.specs.explain.Parts.{lower_part, upper_part, part_with}
+use Rattle.judge_match.specs.explain.Parts.{lower_part, upper_part}
 use Rattle.judge_match.specs.explain.Asked.{IsPart}
 
 cases_is : (i j : ℕ) → (i ≡ j) ⊎ (i ≢ j)

@@ -6,15 +6,15 @@ use Rattle.std.specs.Prelude.{slice_get}
 use Rattle.std.specs.List.{AllZip, flat_map, range_with_len}
 use Rattle.model_line.specs.{declared.line.Line.Line, declared.script.Script.Script}
 use Rattle.model_line.specs.Parameters.{terminal_count}
-use Rattle.model_logic.specs.Histories.{History, IsSameHistory, IsLineHistory}
+use Rattle.model_logic.specs.Histories.{History, IsSameHistory}
 use Rattle.model_timing.specs.Timing.{TimingValues}
 use Rattle.run_signal.specs.SentKeys.{SentKeys}
 use Rattle.run_signal.specs.declared.level.Level.{Level}
 use Rattle.run_changes.specs.{changes.PlayedTracks.is_on, changes.PlayedTracks.is_shown, changes.PlayedTracks.shown_is}
 use Rattle.run_step.specs.Ticks.{AreSent}
 use Rattle.judge_match.specs.explain.Changes.{changes, AreNear, HaveSameChanges}
-use Rattle.judge_match.specs.explain.Explains.{Explains, IsNear, IsPlayed, AreNearEach, signal_of}
-use Rattle.judge_match.specs.explain.Answers.{paired, paired_signal, paired_terminal, paired_changes}
+use Rattle.judge_match.specs.explain.Explains.{Explains, IsNear, IsPlayed}
+use Rattle.judge_match.specs.explain.Answers.{paired, paired_terminal, paired_changes}
 use Rattle.judge_match.specs.explain.Asked.{AreRecorded}
 use Rattle.judge_match.specs.declared.explain.paired.Paired.{Paired}
 use Rattle.judge_match.specs.declared.explain.recorded.Recorded.{Recorded}

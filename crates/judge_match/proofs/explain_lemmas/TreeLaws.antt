@@ -1,22 +1,20 @@
 -- Trees of parts whose leaves are excluded.
-use Rattle.std.proofs.Common.{◌≡◌, ◌<◌, ◌≤◌, ◌+◌, ◌*◌, ℕ, Bool, true, false, List, [], ◌∷◌, ◌++◌, length}
-use Rattle.std.proofs.Common.{refl, sym, ◌∙◌, ap, subst, arith, ⊎_elim, length-append}
-use Rattle.std.specs.Prelude.{IsTrue}
+use Rattle.std.proofs.Common.{◌≡◌, ◌<◌, ◌+◌, ◌*◌, ℕ, Bool, true, false, List, length}
+use Rattle.std.proofs.Common.{refl, subst, arith, ⊎_elim, length-append}
 use Rattle.model_history.specs.Rails.{Ends, Covers}
 use Rattle.model_line.specs.{declared.line.Line.Line, declared.script.Script.Script}
 use Rattle.model_line.specs.Parameters.{terminal_count}
 use Rattle.model_logic.specs.Laws.{LineLaws}
-use Rattle.model_logic.specs.Histories.{History, PairHistory, IsLineHistory, IsPairHistory}
+use Rattle.model_logic.specs.Histories.{History, PairHistory, IsLineHistory}
 use Rattle.model_logic.specs.Histories.{IsSameHistory, CoversHistory}
 use Rattle.model_timing.specs.{Timing.TimingValues, Choice.timing_choice, Inside.IsTimingInside}
-use Rattle.judge_match.specs.explain.Changes.{HaveSameChanges, StaysAround}
-use Rattle.judge_match.specs.explain.Explains.{Explains, IsNear, IsSteadyInside, NoneExplains}
+use Rattle.judge_match.specs.explain.Changes.{HaveSameChanges}
+use Rattle.judge_match.specs.explain.Explains.{Explains, IsNear, NoneExplains}
 use Rattle.judge_match.specs.explain.Explains.{signal_of, pairs_of}
-use Rattle.judge_match.specs.explain.Parts.{PartTree, Excluded, Parted, AreExcluded, IsExcluded}
+use Rattle.judge_match.specs.explain.Parts.{PartTree, Excluded, Parted, AreExcluded}
 use Rattle.judge_match.specs.explain.Parts.{IsExcludedByRails, IsExcludedByPlay, LiesIn, part_box}
 use Rattle.judge_match.specs.explain.Parts.{lower_part, upper_part, declared_part, preorder, part_count}
 use Rattle.judge_match.specs.explain.Asked.{IsPart}
-use Rattle.judge_match.specs.declared.explain.tree.PartNode.{PartNode}
 use Rattle.judge_match.proofs.explain_lemmas.ChangeLaws.{level_kept}
 use Rattle.judge_match.proofs.explain_lemmas.PartLaws.{lies_within, lies_in_one, lower_is, upper_is}
 use Rattle.judge_match.proofs.explain_lemmas.PartLaws.{declared_is, declared_lies}

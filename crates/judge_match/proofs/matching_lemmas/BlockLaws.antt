@@ -15,6 +15,7 @@ use Rattle.model_timing.specs.BlockLaws.{block_number, block_delay}
 use Rattle.model_timing.specs.{Timing.TimingValues, Timing.number_at, Choice.timing_choice}
 use Rattle.run_signal.specs.{Bits.bit_on, declared.level.Level.Level}
 use Rattle.run_signal.specs.SentKeys.{SentKeys}
+use Rattle.run_signal.specs.Bits.{lanes_signal}
 use Rattle.run_step.specs.LaneBox.{ends_in, lane_box}
 use Rattle.run_step.specs.{Runs.AreDelayed, Runs.IsPoint}
 use Rattle.run_changes.specs.{changes.Agreeing.IsOnlyHistory, changes.PlayedTracks.played}
@@ -51,7 +52,7 @@ module _ (numbered : ParametersAreNumbered) (line : Line) (first : ℕ) (spans :
   pub block_delayed
       : ((i : ℕ) → i < candidate_count line
       → DelaysFromOne line (timing_choice line (candidate line i)))
-      → AreDelayed 64 lane_ends line spans []
+      → AreDelayed lanes_signal line spans []
   block_delayed from_one lane inside c t there early =
       subst (λ (e : Ends). 1 ≤ e.least) (sym ((block_point lane inside).delays c t there early))
       (from_one (candidate_in line first lane) (candidate_exists line first lane) c t there early)

@@ -1,27 +1,26 @@
 -- Each head that a record file says is of a script.
 use Rattle.std.proofs.Common.{◌≡◌, ◌<◌, ℕ, Bool, true, false, cond, List, [], ◌∷◌, ◌++◌, length}
-use Rattle.std.proofs.Common.{map, Option, Some, None, Result, Ok, Err, sym, ap, subst, ok_or}
+use Rattle.std.proofs.Common.{map, Option, Some, None, Result, Ok, sym, ap, subst, ok_or}
 use Rattle.std.proofs.lemmas.List.Elements.{All-nil, All-cons, All-head, All-tail, All-push}
 use Rattle.std.proofs.lemmas.Map.Entries.{option_filter}
-use Rattle.std.specs.Prelude.{◌&&◌, ◌==◌, nat_lt, IfOk, Vec}
-use Rattle.std.specs.declared.alloc.Global.{Global}
+use Rattle.std.specs.Prelude.{◌&&◌, ◌==◌, nat_lt}
 use Rattle.std.specs.{List.All, Str.bytes_eq}
 use Rattle.base_text.specs.store.Number.{number_of}
 use Rattle.model_line.specs.{declared.line.Line.Line, declared.script.Script.Script}
 use Rattle.model_names.specs.NumbersByName.{script_named}
-use Rattle.base_records.specs.{Gives.◌>>=◌, Gives.passes_or, SoFar.SoFar, SoFar.all_of}
+use Rattle.base_memory.specs.Gives.{◌>>=◌, passes_or}
+use Rattle.base_records.specs.SoFar.{SoFar, all_of}
 use Rattle.base_records.specs.ListLaws.{All-front, All-last, position_within}
-use Rattle.base_records.specs.CheckLaws.{filtered, found, passed, same_ok}
+use Rattle.base_memory.specs.CheckLaws.{filtered, found, passed, same_ok}
 use Rattle.judge_match.specs.{declared.matching.change.Place.Place, declared.matching.fault.SeenFault.SeenFault}
 use Rattle.judge_match.specs.declared.matching.fault.SeenFault.TheVariants as fault
-use Rattle.judge_match.specs.declared.matching.heads.Head.{Head}
-use Rattle.judge_match.specs.matching.Heads.{HeadValues, values_of, with_head, AllNamed, IsNamed}
+use Rattle.judge_match.specs.matching.Heads.{HeadValues, with_head, AllHeadsNamed, IsNamed}
 use Rattle.judge_match.specs.matching.Heads.{with_change}
 use Rattle.judge_match.specs.matching.Waves.{SeenValues, seen_values, seen_of}
 use Rattle.judge_match.specs.matching.Checks.{is_head, is_taken, name_for, place_at, comes_later}
 use Rattle.judge_match.specs.matching.Checks.{level_of, level_before, other_level, change_of}
 use Rattle.judge_match.specs.matching.Records.{after_row, after_name, after_record}
-use Rattle.judge_match.specs.{declared.matching.seen.Seen.Seen, matching.Gives.Gives, matching.Row.Row, matching.Row.row_in}
+use Rattle.judge_match.specs.{declared.matching.seen.Seen.Seen, matching.Row.Row, matching.Row.row_in}
 
 none_is_not : {A B : Type 0} (x : A) → (let o : Option A = None in o ≡ Some x) → B
 none_is_not x e = absurd (cc)
@@ -37,7 +36,7 @@ named s head (Some x) script e = ap Some (named_taken (head && is_taken s x) x s
 
 module _ (line : Line) (scripts : List Script) where
   latest_named : (done : List HeadValues) (latest : Option HeadValues) (h : HeadValues)
-      → latest ≡ Some h → AllNamed (length scripts) (record { done = done; latest = latest })
+      → latest ≡ Some h → AllHeadsNamed (length scripts) (record { done = done; latest = latest })
       → All (IsNamed (length scripts)) (done ++ h ∷ [])
   latest_named done None h e all = none_is_not h e
   latest_named done (Some g) h e all =
@@ -45,7 +44,7 @@ module _ (line : Line) (scripts : List Script) where
       subst (λ (x : HeadValues). All (IsNamed (length scripts)) (done ++ x ∷ [])) same all
 
   changed : (s : SoFar HeadValues) (h : HeadValues) (p : Place) (t : ℕ) (level : Bool)
-      → s.latest ≡ Some h → AllNamed (length scripts) s → AllNamed (length scripts) (with_change s h (change_of p t level))
+      → s.latest ≡ Some h → AllHeadsNamed (length scripts) s → AllHeadsNamed (length scripts) (with_change s h (change_of p t level))
   changed s h p t level e all =
       let both = latest_named s.done s.latest h e all in
       All-push (IsNamed (length scripts)) s.done
@@ -58,7 +57,7 @@ module _ (line : Line) (scripts : List Script) where
       (All-last (IsNamed (length scripts)) s.done h both)
 
   row_named : (s : SoFar HeadValues) (n : ℕ) (row : Row) (script : ℕ) (t : SoFar HeadValues)
-      → after_row line s n row script ≡ Ok t → AllNamed (length scripts) s → AllNamed (length scripts) t
+      → after_row line s n row script ≡ Ok t → AllHeadsNamed (length scripts) s → AllHeadsNamed (length scripts) t
   unfolding after_row
   row_named s n row script t e all =
       let own : HeadValues → Bool = λ h. h.script == script in
@@ -84,11 +83,11 @@ module _ (line : Line) (scripts : List Script) where
       let f = passed (level a.value b.value) (last a.value b.value c.value) t d.rest in
       let same = same_ok (with_change s a.value (change_of b.value c.value f.value)) t f.rest in
       let head = found (option_filter own s.latest) (fault.Order n) a.value a.was in
-      subst (λ (x : SoFar HeadValues). AllNamed (length scripts) x) same
+      subst (λ (x : SoFar HeadValues). AllHeadsNamed (length scripts) x) same
       (changed s a.value b.value c.value f.value (filtered own s.latest a.value head).0 all)
 
-  opened : (s : SoFar HeadValues) (script : ℕ) → script < length scripts → AllNamed (length scripts) s
-      → AllNamed (length scripts) (with_head s script)
+  opened : (s : SoFar HeadValues) (script : ℕ) → script < length scripts → AllHeadsNamed (length scripts) s
+      → AllHeadsNamed (length scripts) (with_head s script)
   opened s script less all =
       All-push (IsNamed (length scripts)) (all_of s)
       (record { script = script; changes = []; latest = None }) all less
@@ -96,15 +95,15 @@ module _ (line : Line) (scripts : List Script) where
   name_named : (b : Bool) (s : SoFar HeadValues) (n : ℕ) (row : Row) (script : ℕ) (t : SoFar HeadValues)
       → script < length scripts
       → cond b (Ok (with_head s script)) (after_row line s n row script) ≡ Ok t
-      → AllNamed (length scripts) s → AllNamed (length scripts) t
+      → AllHeadsNamed (length scripts) s → AllHeadsNamed (length scripts) t
   name_named true s n row script t less e all =
-      subst (λ (x : SoFar HeadValues). AllNamed (length scripts) x) (same_ok (with_head s script) t e)
+      subst (λ (x : SoFar HeadValues). AllHeadsNamed (length scripts) x) (same_ok (with_head s script) t e)
       (opened s script less all)
   name_named false s n row script t less e all = row_named s n row script t e all
 
   -- one record more
   pub record_named : (s : SoFar HeadValues) (n : ℕ) (fields : List (List ℕ)) (t : SoFar HeadValues)
-      → after_record line scripts s n fields ≡ Ok t → AllNamed (length scripts) s → AllNamed (length scripts) t
+      → after_record line scripts s n fields ≡ Ok t → AllHeadsNamed (length scripts) s → AllHeadsNamed (length scripts) t
   unfolding after_record
   record_named s n fields t e all =
       let named_by : Row → Option ℕ =
@@ -131,22 +130,3 @@ module _ (line : Line) (scripts : List Script) where
       All-cons (λ x. x.script < length scripts) s all
       (subst (λ (k : ℕ). k < length scripts) (sym (ap (λ (v : SeenValues). v.script) one)) here)
       (seen_named all heads rest (All-tail (IsNamed (length scripts)) h heads named))
-
-  pub read_seen_named : (hs : List HeadValues) (r : Result (Vec Seen Global) SeenFault)
-      → All (IsNamed (length scripts)) hs
-      → Gives (λ v. map seen_values v.items) r (Ok (map (seen_of line) hs))
-      → IfOk r (λ v. All (λ s. s.script < length scripts) v.items)
-  read_seen_named hs (Ok v) named gives =
-      let same : map seen_values v.items ≡ map (seen_of line) hs =
-      sym (same_ok {F = SeenFault} (map (seen_of line) hs) (map seen_values v.items) gives) in
-      seen_named v.items hs same named
-  read_seen_named hs (Err e) named gives = tt
-
--- the heads that a reader gives are named as those so far
-pub given_named : (scripts : List Script) (s : SoFar HeadValues) (r : Result (Vec Head Global) SeenFault)
-    → AllNamed (length scripts) s → Gives (λ v. map values_of v.items) r (Ok (all_of s))
-    → IfOk r (λ v. All (IsNamed (length scripts)) (map values_of v.items))
-given_named scripts s (Ok v) named gives =
-    subst (λ (hs : List HeadValues). All (IsNamed (length scripts)) hs)
-    (same_ok {F = SeenFault} (all_of s) (map values_of v.items) gives) named
-given_named scripts s (Err e) named gives = tt

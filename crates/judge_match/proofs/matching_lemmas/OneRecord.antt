@@ -5,10 +5,10 @@ use Rattle.std.specs.List.{All}
 use Rattle.model_line.specs.{declared.line.Line.Line, declared.script.Script.Script}
 use Rattle.base_records.specs.{Fields.are_fields, Records.records_of, RecordFile.after_header}
 use Rattle.base_records.specs.{RecordFile.after_records, RecordFile.said_in}
-use Rattle.base_records.specs.CheckLaws.{choice_passed, passed, same_ok}
+use Rattle.base_memory.specs.CheckLaws.{choice_passed, passed, same_ok}
 use Rattle.base_records.specs.SoFar.{SoFar, all_of, nothing}
 use Rattle.judge_match.specs.declared.matching.fault.SeenFault.{SeenFault}
-use Rattle.judge_match.specs.matching.Heads.{HeadValues, AllNamed, IsNamed}
+use Rattle.judge_match.specs.matching.Heads.{HeadValues, AllHeadsNamed, IsNamed}
 use Rattle.judge_match.specs.matching.Records.{after_record, heads_in, heads_of, seen_file}
 use Rattle.judge_match.specs.{matching.Recorded.IsRecordOf, matching.Row.header_record}
 use Rattle.judge_match.specs.matching.Waves.{SeenValues, records_said, seen_of}
@@ -18,11 +18,11 @@ use Rattle.judge_match.proofs.matching_lemmas.WaveLaws.{are_waves, known}
 module _ (line : Line) (scripts : List Script) where
   -- the records from number n on
   after_named : (s : SoFar HeadValues) (n : ℕ) (rows : List (List (List ℕ)))
-      (t : SoFar HeadValues) → AllNamed (length scripts) s
-      → after_records (seen_file line scripts) s n rows ≡ Ok t → AllNamed (length scripts) t
+      (t : SoFar HeadValues) → AllHeadsNamed (length scripts) s
+      → after_records (seen_file line scripts) s n rows ≡ Ok t → AllHeadsNamed (length scripts) t
   unfolding after_records
   after_named s n [] t named e =
-      subst (AllNamed (length scripts)) (same_ok {F = SeenFault} s t e) named
+      subst (AllHeadsNamed (length scripts)) (same_ok {F = SeenFault} s t e) named
   after_named s n (fields ∷ rest) t named e =
       let p = passed (after_record line scripts s n fields)
       (λ next. after_records (seen_file line scripts) next (n + 1) rest) t e in
@@ -30,13 +30,13 @@ module _ (line : Line) (scripts : List Script) where
       (record_named line scripts s n fields p.value p.was named) p.rest
 
   header_named : (rows : List (List (List ℕ))) (t : SoFar HeadValues)
-      → after_header (seen_file line scripts) rows ≡ Ok t → AllNamed (length scripts) t
+      → after_header (seen_file line scripts) rows ≡ Ok t → AllHeadsNamed (length scripts) t
   header_named [] t e = absurd (cc)
   header_named (fields ∷ rest) t e =
       after_named nothing 2 (fields ∷ rest) t (All-nil (IsNamed (length scripts))) e
 
   said_named : (rows : List (List (List ℕ))) (t : SoFar HeadValues)
-      → said_in (seen_file line scripts) rows ≡ Ok t → AllNamed (length scripts) t
+      → said_in (seen_file line scripts) rows ≡ Ok t → AllHeadsNamed (length scripts) t
   said_named [] t e = absurd (cc)
   said_named (fields ∷ rest) t e =
       header_named rest t

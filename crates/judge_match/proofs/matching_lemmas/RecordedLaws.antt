@@ -1,9 +1,9 @@
 -- Tracks of a record: a stretch more of one, and one track more.
 use Rattle.std.proofs.Common.{◌≡◌, ◌+◌, ◌-◌, ◌<◌, ◌≤◌, ℕ, Bool, false, List, [], ◌∷◌, ◌++◌, Some, length}
-use Rattle.std.proofs.Common.{length-append, map, get_or, replicate, refl, sym, ◌∙◌, ap, subst, arith}
+use Rattle.std.proofs.Common.{length-append, map, replicate, sym, ◌∙◌, ap, subst, arith}
 use Rattle.std.proofs.Common.{⊎_elim}
-use Rattle.std.proofs.lemmas.List.{get_or-map, get_or_append_left, get_or-append_right}
-use Rattle.std.proofs.lemmas.List.{get_or-replicate, length-map, length-replicate, map-append}
+use Rattle.std.proofs.lemmas.List.{get_or_append_left, get_or-append_right}
+use Rattle.std.proofs.lemmas.List.{get_or-replicate, length-map}
 use Rattle.std.proofs.lemmas.Option.{slice_get_within}
 use Rattle.std.specs.Prelude.{slice_get}
 use Rattle.model_history.specs.Rails.{Rails, both, must_of, rails_at}

@@ -1,14 +1,14 @@
 -- What the code keeps of a record, and what is asked of it.
-use Rattle.std.specs.Prelude.{◌≡◌, ◌<◌, ◌≤◌, ℕ, Bool, false, List, Option, Some, length, slice_get, get_or}
+use Rattle.std.specs.Prelude.{◌≡◌, ◌<◌, ℕ, Bool, false, List, Option, Some, length, slice_get, get_or}
 use Rattle.model_history.specs.Rails.{Ends, Rails, Covers, single}
-use Rattle.model_line.specs.{declared.line.Line.Line, declared.script.Script.Script}
+use Rattle.model_line.specs.{declared.line.Line.Line}
 use Rattle.model_line.specs.Parameters.{param_count, terminal_count}
 use Rattle.model_logic.specs.Choice.{LeastFromOne}
 use Rattle.model_logic.specs.Histories.{History}
 use Rattle.run_signal.specs.{declared.tern.Tern.Tern, Terns.tern_rails}
 use Rattle.run_signal.specs.SentKeys.{SentKeys}
 use Rattle.run_changes.specs.changes.Tracks.{pair_of}
-use Rattle.judge_match.specs.matching.Seen.{AreSeen, seen_history}
+use Rattle.judge_match.specs.matching.Seen.{seen_history}
 use Rattle.judge_match.specs.explain.Changes.{changes, StaysAround}
 use Rattle.judge_match.specs.explain.Parts.{part_box}
 use Rattle.judge_match.specs.declared.explain.recorded.Recorded.{Recorded}

@@ -73,8 +73,8 @@ pub record IsExcludedByPlay (line : Line) (script : Script) (within : ℕ) (reco
   pub only : (other : TimingValues) → LiesIn line part other → other ≡ timing
   pub fails : ¬ (Explains line script within recorded timing)
 
-abbrev pub IsExcluded : Line → Script → ℕ → History → List Ends → Type 0
-IsExcluded line script within recorded part =
+abbrev pub IsExcludedPart : Line → Script → ℕ → History → List Ends → Type 0
+IsExcludedPart line script within recorded part =
     IsExcludedByRails line script within recorded part
     ⊎ IsExcludedByPlay line script within recorded part
 
@@ -100,7 +100,7 @@ part_count (Parted param mid first second) = part_count first + part_count secon
 -- each leaf of the tree is excluded, in its part
 abbrev pub AreExcluded : Line → Script → ℕ → History → List Ends → PartTree → Type 0
 AreExcluded line script within recorded part Excluded =
-    IsExcluded line script within recorded part
+    IsExcludedPart line script within recorded part
 AreExcluded line script within recorded part (Parted param mid first second) =
     CanPart line part param mid
     × (AreExcluded line script within recorded (lower_part part param mid) first

@@ -13,7 +13,6 @@ fault_name (fault.BadName n) = codes "Name"
 fault_name (fault.Later n) = codes "Later"
 fault_name (fault.Level n) = codes "Level"
 fault_name fault.Empty = codes "Empty"
-fault_name fault.Memory = codes "Memory"
 
 -- the number of the record, where the fault is of one
 abbrev pub fault_record : SeenFault → Option ℕ
@@ -26,4 +25,3 @@ fault_record (fault.BadName n) = Some n
 fault_record (fault.Later n) = Some n
 fault_record (fault.Level n) = Some n
 fault_record fault.Empty = None
-fault_record fault.Memory = None

@@ -48,5 +48,5 @@ with_change s head c = record {
 abbrev pub IsNamed : ℕ → HeadValues → Type 0
 IsNamed count head = head.script < count
 
-abbrev pub AllNamed : ℕ → SoFar HeadValues → Type 0
-AllNamed count s = All (IsNamed count) (all_of s)
+abbrev pub AllHeadsNamed : ℕ → SoFar HeadValues → Type 0
+AllHeadsNamed count s = All (IsNamed count) (all_of s)

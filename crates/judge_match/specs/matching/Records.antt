@@ -4,7 +4,8 @@ use Rattle.std.specs.Option.{ok_or}
 use Rattle.std.proofs.lemmas.Map.Entries.{option_filter}
 use Rattle.model_line.specs.{declared.line.Line.Line, declared.script.Script.Script}
 use Rattle.model_names.specs.NumbersByName.{script_named}
-use Rattle.base_records.specs.{Gives.◌>>=◌, Gives.passes_or, RecordFile.RecordFile}
+use Rattle.base_memory.specs.Gives.{◌>>=◌, passes_or}
+use Rattle.base_records.specs.RecordFile.{RecordFile}
 use Rattle.base_records.specs.{RecordFile.said_in, Records.records_of, SoFar.SoFar, SoFar.all_of}
 use Rattle.base_records.specs.SoFar.{nothing}
 use Rattle.base_text.specs.store.Number.{number_of}

@@ -8,7 +8,7 @@ use Rattle.model_line.specs.Parameters.{terminal_count}
 use Rattle.judge_match.specs.declared.matching.fault.SeenFault.{SeenFault}
 use Rattle.judge_match.specs.{declared.matching.change.Change.Change, declared.matching.seen.Seen.Seen}
 use Rattle.judge_match.specs.{matching.Heads.HeadValues, matching.Heads.level_by, matching.Records.heads_of}
-use Rattle.base_records.specs.Gives.{◌>>=◌}
+use Rattle.base_memory.specs.Gives.{◌>>=◌}
 
 -- a script's number, and a key wave and a trip wave for each terminal
 pub record SeenValues : Type 0 where

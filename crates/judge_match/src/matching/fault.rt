@@ -1,8 +1,5 @@
 //! Why a record file is refused.
 
-use base_records::Memory;
-use std::alloc::AllocFailed;
-
 /// Why a record file is refused. The number is that of the record; the header is record 1.
 #[derive(Clone, Copy, Drop)]
 pub enum SeenFault {
@@ -24,8 +21,6 @@ pub enum SeenFault {
     Level(u32),
     /// No record follows the header.
     Empty,
-    /// Memory ran out.
-    Memory,
 }
 
 impl SeenFault {
@@ -46,7 +41,6 @@ impl SeenFault {
             SeenFault::Later(_) => "Later",
             SeenFault::Level(_) => "Level",
             SeenFault::Empty => "Empty",
-            SeenFault::Memory => "Memory",
         }
     }
 
@@ -62,29 +56,7 @@ impl SeenFault {
             | SeenFault::BadName(n)
             | SeenFault::Later(n)
             | SeenFault::Level(n) => Some(*n),
-            SeenFault::Header | SeenFault::Empty | SeenFault::Memory => None,
+            SeenFault::Header | SeenFault::Empty => None,
         }
-    }
-}
-
-impl<T: Drop> From<AllocFailed<T>> for SeenFault {
-    ghost use Rattle.std.specs.Prelude.{◌≡◌};
-    ghost use Rattle.judge_match.specs.declared.matching.fault.SeenFault.TheVariants as fault;
-
-    ghost from_gives = { λ _ e. e ≡ fault.Memory };
-
-    fn from(_: AllocFailed<T>) -> Self {
-        SeenFault::Memory
-    }
-}
-
-impl From<Memory> for SeenFault {
-    ghost use Rattle.std.specs.Prelude.{◌≡◌};
-    ghost use Rattle.judge_match.specs.declared.matching.fault.SeenFault.TheVariants as fault;
-
-    ghost from_gives = { λ _ e. e ≡ fault.Memory };
-
-    fn from(_: Memory) -> Self {
-        SeenFault::Memory
     }
 }

@@ -1,13 +1,11 @@
 //! The waves of a record.
 
-ghost use Rattle.std.specs.Prelude.{◌≡◌, ◌≤◌, length, min, Ok, IfOk};
-ghost use Rattle.judge_match.specs.matching.Gives.{Gives};
+ghost use Rattle.std.specs.Prelude.{◌≡◌, ◌≤◌, length, min, IfOk};
 ghost use Rattle.judge_match.specs.{matching.Heads.values_of, matching.SetLevels.IsSetBetween, matching.SetLevels.IsSetBy};
 ghost use Rattle.judge_match.specs.matching.Waves.{known_level, seen_of, seen_values, wave_of, waves_of};
 
 use crate::matching::change::Change;
 use crate::matching::check::is_of;
-use crate::matching::fault::SeenFault;
 use crate::matching::heads::Head;
 use crate::matching::seen::Seen;
 use model_line::{Line, Memory};
@@ -16,8 +14,8 @@ use run_waves::waves::Runs;
 use std::alloc::Global;
 
 /// What was seen under a head.
-pub fn seen(alloc: Global, line: &Line, head: &Head) -> Result<Seen, SeenFault>
-    ensures { Gives seen_values result (Ok (seen_of line.now (values_of head.now))) }
+pub fn seen(alloc: Global, line: &Line, head: &Head) -> Result<Seen, Memory>
+    ensures { IfOk result (λ seen. seen_values seen ≡ seen_of line.now (values_of head.now)) }
 {
     Ok(Seen {
         script: head.script,

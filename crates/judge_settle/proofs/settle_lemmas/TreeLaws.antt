@@ -7,7 +7,8 @@ use Rattle.model_logic.specs.Choice.{Box}
 use Rattle.model_settle.specs.Assumed.{Assumption}
 use Rattle.model_settle.specs.CaseTrees.{CaseTree, Yes, Undecided, Split, Case, are_yes}
 use Rattle.model_settle.specs.CaseTrees.{IsShownUnder, AreSound}
-use Rattle.model_settle.specs.CaseTrees.{lower_half, upper_half, with_case}
+use Rattle.model_settle.specs.CaseTrees.{with_case}
+use Rattle.model_logic.specs.Boxes.{lower_half, upper_half}
 use Rattle.judge_ahead.specs.declared.cuts.Cut.{Cut}
 use Rattle.judge_ahead.specs.declared.cuts.Cut.TheVariants as cut
 use Rattle.judge_cases.specs.Nodes.{preorder}
@@ -20,7 +21,7 @@ use Rattle.judge_settle.specs.declared.settle.grown.Grown.{Grown}
 use Rattle.judge_settle.specs.declared.settle.sides.Branch.{Branch}
 use Rattle.judge_settle.specs.settle.Joined.{node_of, joined}
 use Rattle.judge_settle.specs.settle.Sides.{AreSides, AreOrdered}
-use Rattle.judge_settle.specs.settle.Trees.{IsGrownOver, Size, IsWithin}
+use Rattle.judge_settle.specs.settle.Trees.{IsGrownOver, Size, IsNoLarger}
 use Rattle.judge_settle.proofs.settle_lemmas.ViewLaws.{own_view}
 
 either_way : (a b : Bool) → (a && b) ≡ (b && a)
@@ -59,10 +60,10 @@ room_turned : (size one other : Size) → HasRoomFor size one other → HasRoomF
 room_turned size one other room =
     record { first = room.second; second = room.first; many = omega arith }
 
-no_cuts : (size : Size) → IsWithin size Undecided
+no_cuts : (size : Size) → IsNoLarger size Undecided
 no_cuts size = record { low = omega arith; few = omega arith }
 
-no_cuts_yes : (size : Size) → IsWithin size Yes
+no_cuts_yes : (size : Size) → IsNoLarger size Yes
 no_cuts_yes size = record { low = omega arith; few = omega arith }
 
 module _ (line : Line) (script : Script) (k : ℕ) (view : View) where

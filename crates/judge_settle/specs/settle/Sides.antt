@@ -3,7 +3,8 @@ use Rattle.std.specs.Prelude.{◌≡◌, ℕ, Bool, true, false, List}
 use Rattle.model_line.specs.declared.line.Line.{Line}
 use Rattle.model_logic.specs.Choice.{Box}
 use Rattle.model_settle.specs.Assumed.{Assumption}
-use Rattle.model_settle.specs.CaseTrees.{CanSplit, HasCases, lower_half, upper_half, with_case}
+use Rattle.model_settle.specs.CaseTrees.{HasCases, with_case}
+use Rattle.model_logic.specs.Boxes.{CanSplit, lower_half, upper_half}
 use Rattle.judge_ahead.specs.declared.cuts.Cut.{Cut}
 use Rattle.judge_ahead.specs.declared.cuts.Cut.TheVariants as cut
 use Rattle.judge_cases.specs.Views.{Views}

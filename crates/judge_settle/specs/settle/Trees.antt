@@ -31,7 +31,7 @@ abbrev pub size_of_text : Size
 size_of_text = record { depth = deepest; cuts = most_branches }
 
 -- a tree has at most as many
-pub record IsWithin (size : Size) (tree : CaseTree) : Type 0 where
+pub record IsNoLarger (size : Size) (tree : CaseTree) : Type 0 where
   pub low : height tree ≤ size.depth
   pub few : branch_count tree ≤ size.cuts
 
@@ -43,7 +43,7 @@ pub record IsGrown (line : Line) (script : Script) (k : ℕ) (size : Size) (box 
   pub nodes : grown.nodes.items ≡ preorder tree
   pub yes : grown.yes ≡ are_yes tree
   pub sound : AreSound line script k box assumed tree
-  pub small : IsWithin size tree
+  pub small : IsNoLarger size tree
 
 -- so it is for each box and what is assumed that the view is of
 abbrev pub IsGrownOver : Line → Script → ℕ → Size → View → Grown → Type 0

@@ -20,6 +20,7 @@ use Rattle.run_changes.specs.{changes.Tracks.pair_of, changes.Tracks.tracks_hist
 use Rattle.judge_verdict.specs.declared.boxes.terns.Terns64.{Terns64}
 use Rattle.judge_verdict.specs.boxes.Held.{AreParts, IsHeldOf, ArePartSpans, part_in, trip_rails}
 use Rattle.judge_verdict.specs.{boxes.Spans.SpanLists, boxes.Spans.span_ends, boxes.Terns.terns_rails}
+use Rattle.judge_verdict.specs.boxes.Terns.{terns_signal}
 
 -- each lane has a part
 pub part_exists : (count first lane : ℕ) → first < count → part_in count first lane < count
@@ -102,7 +103,7 @@ module _ (laws : LineLaws) (counts : CountsRestOnNoInterval) (line : Line) (part
       (sym ((box_of_lane lane part inside at).delays c t lt early))
       (laws.inside.declared part c t lt' early')
 
-  pub parts_delayed : first < length parts → AreDelayed 64 lane_ends line spans []
+  pub parts_delayed : first < length parts → AreDelayed terns_signal line spans []
   parts_delayed some lane inside =
       let (part, at) = exists_at parts (part_in (length parts) first lane)
       (part_exists (length parts) first lane some) in

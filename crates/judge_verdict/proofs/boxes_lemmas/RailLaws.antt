@@ -6,18 +6,18 @@ use Rattle.std.proofs.Math.ListN.{get_or-map}
 use Rattle.model_history.specs.Rails.{Rails, Ends, IsSound, both, single, must_of, may_of, rails_at}
 use Rattle.model_history.specs.Rails.{rails_timed}
 use Rattle.model_history.specs.{Elements.timed, Laws.HistoryLaws}
-use Rattle.run_signal.specs.{Ahead.next_rails, Ahead.IsSteadyFor, Cells.AreSound}
+use Rattle.run_signal.specs.{Ahead.next_rails, Ahead.IsSteadyFor, Cells.AllSound}
 use Rattle.judge_verdict.specs.boxes.Cells.{one_rail}
 
 -- ---- what must be may be
 
-pub sound_more : (l : List Rails) (x : Rails) (n : ℕ) → AreSound l → IsSound x
-    → AreSound (l ++ replicate n x)
+pub sound_more : (l : List Rails) (x : Rails) (n : ℕ) → AllSound l → IsSound x
+    → AllSound (l ++ replicate n x)
 sound_more [] x zero h now = tt
 sound_more [] x (suc n) h now = (now, sound_more [] x n h now)
 sound_more (y ∷ l) x n h now = (h.0, sound_more l x n h.1 now)
 
-pub sound_at : (l : List Rails) (r : ℕ) → AreSound l → IsSound (rails_at l r)
+pub sound_at : (l : List Rails) (r : ℕ) → AllSound l → IsSound (rails_at l r)
 sound_at [] r h on = on
 sound_at (x ∷ l) zero h on = h.0 on
 sound_at (x ∷ l) (suc r) h on = sound_at l r h.1 on
@@ -89,7 +89,7 @@ module _ (laws : HistoryLaws) (rail : Rails → Bool)
 pub by_rails : HistoryLaws → (l : List Rails) (p d : Ends) (t : ℕ) (must may : Bool)
     → both must ≡ rails_timed (rails_at (one_rail must_of l)) (single p.greatest) (single d.least) t
     → both may ≡ rails_timed (rails_at (one_rail may_of l)) (single p.least) (single d.greatest) t
-    → AreSound l → p.least ≤ p.greatest → d.least ≤ d.greatest
+    → AllSound l → p.least ≤ p.greatest → d.least ≤ d.greatest
     → record { must = must; may = must || may } ≡ rails_timed (rails_at l) p d t
 by_rails laws l p d t must may is_must is_may sound p_ordered d_ordered =
     let whole : Rails = rails_timed (rails_at l) p d t in

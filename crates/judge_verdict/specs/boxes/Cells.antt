@@ -1,7 +1,7 @@
 -- What the cells of both rails stand for, in a lane.
 use Rattle.std.specs.Prelude.{◌≤◌, ℕ, Bool, List, map, slice_index}
 use Rattle.model_history.specs.Rails.{Rails, both, single, must_of, may_of}
-use Rattle.run_signal.specs.Cells.{AreSound, RailsStandFor}
+use Rattle.run_signal.specs.Cells.{AllSound, RailsStandFor}
 use Rattle.run_signal.specs.Vectors.{CellVectors, numbers_in}
 use Rattle.judge_verdict.specs.boxes.Spans.{SpanLists}
 
@@ -25,4 +25,4 @@ pub record StandFor (must may : CellVectors) (pickup dropout : SpanLists) (lane 
       (slice_index dropout.greatest lane) lane (one_rail may_of recorded)
   pub pickup_ordered : slice_index pickup.least lane ≤ slice_index pickup.greatest lane
   pub dropout_ordered : slice_index dropout.least lane ≤ slice_index dropout.greatest lane
-  pub sound : AreSound recorded
+  pub sound : AllSound recorded

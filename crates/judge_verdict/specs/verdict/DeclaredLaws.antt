@@ -12,6 +12,7 @@ use Rattle.model_line.specs.Parameters.{delay_param, declared_ends}
 use Rattle.model_line.specs.{declared.line.Line.Line, declared.line.Param.Param}
 use Rattle.model_logic.specs.Choice.{Box, LeastFromOne, declared_box}
 use Rattle.model_timing.specs.Timing.{number_at}
+use Rattle.run_signal.specs.Terns.{tern_signal}
 use Rattle.run_step.specs.LaneBox.{ends_in, own_ends, ends_at, lane_box}
 use Rattle.run_step.specs.Runs.{AreDelayed}
 use Rattle.judge_verdict.specs.verdict.Spans.{declared_span, declared_spans}
@@ -92,5 +93,5 @@ module _ (line : Line) (spans : List Ends) (same : spans ≡ declared_spans line
   box_declared lane =
       ap (λ (xs : List Ends). lane_box own_span line xs [] lane) same ∙ spans_make_the_box line lane
 
-  pub spans_delayed : LeastFromOne line (declared_box line) → AreDelayed 1 own_span line spans []
+  pub spans_delayed : LeastFromOne line (declared_box line) → AreDelayed tern_signal line spans []
   spans_delayed d lane below = subst (LeastFromOne line) (sym (box_declared lane)) d

@@ -25,7 +25,8 @@ impl Terns64 {
 }
 
 impl Signal for Terns64 {
-    ghost use Rattle.judge_verdict.specs.{boxes.Terns.terns_rails, boxes.Spans.span_ends};
+    ghost use Rattle.std.specs.Prelude.{refl};
+    ghost use Rattle.judge_verdict.specs.boxes.Terns.{terns_signal};
     ghost use Rattle.judge_verdict.specs.{boxes.TernLaws.terns_sound};
 
     type Span = Spans64;
@@ -34,9 +35,7 @@ impl Signal for Terns64 {
 
     ghost LANES = { 64 };
 
-    ghost rails = { λ x lane. terns_rails x lane };
-
-    ghost ends = { λ span lane. span_ends span lane };
+    ghost signal = { terns_signal };
 
     fn known(value: bool) -> Self {
         Terns64 {
@@ -95,6 +94,8 @@ impl Signal for Terns64 {
     fn alike(span: &Spans64, lane: u32) -> Lanes64 {
         span.alike(lane)
     }
+
+    ghost lanes_are = { refl };
 
     ghost must_implies_may = { λ x lane inside. terns_sound x lane };
 }

@@ -14,7 +14,7 @@ use Rattle.model_logic.specs.Choice.{Box, Choice, LeastFromOne}
 use Rattle.model_logic.specs.Histories.{PairHistory, IsSameHistory, must_history}
 use Rattle.model_logic.specs.{Laws.LineLaws}
 use Rattle.net_gates.specs.{NetLaws.GatesStandForTheirTrees, NetOf.NetOf, NetOf.IsNetOf}
-use Rattle.run_changes.specs.changes.Agreeing.{AgreeIn, AgreeBefore, AllAgreeIn, IsOnlyHistory}
+use Rattle.run_changes.specs.changes.Agreeing.{AgreeIn, AgreeBelow, AllAgreeIn, IsOnlyHistory}
 use Rattle.run_changes.specs.changes.Agreeing.{recorded_pairs}
 use Rattle.run_step.specs.Runs.{IsPoint, IsExactAt}
 use Rattle.run_changes.specs.changes.PlayedTracks.{played}
@@ -144,7 +144,7 @@ tracks_more own recorded from end n x y z u v is own_is recorded_is before now =
 
 module _ (n : ℕ) (key trip : PairSignals) (keys trips : List (SentKeys Level)) where
   pub before_none : (x : Rails) → x ≡ both true
-      → (IsTrue x.must ↔ AgreeBefore n key trip keys trips 0)
+      → (IsTrue x.must ↔ AgreeBelow n key trip keys trips 0)
   before_none x is = (
     λ on. record {
       keys = λ k kn r low high. absurd (omega arith);
@@ -166,14 +166,14 @@ module _ (n : ℕ) (key trip : PairSignals) (keys trips : List (SentKeys Level))
       → y ≡ rails_and x a → z ≡ rails_and y b
       → ((k r : ℕ) → k < n → r < end → own_keys k r ≡ key k r)
       → ((k r : ℕ) → k < n → r < end → own_trips k r ≡ trip k r)
-      → (IsTrue x.must ↔ AgreeBefore n key trip keys trips t)
+      → (IsTrue x.must ↔ AgreeBelow n key trip keys trips t)
       → (IsTrue a.must ↔ AllAgreeIn n own_keys keys t end)
       → (IsTrue b.must ↔ AllAgreeIn n own_trips trips t end)
-      → (IsTrue z.must ↔ AgreeBefore n key trip keys trips end)
+      → (IsTrue z.must ↔ AgreeBelow n key trip keys trips end)
   before_more own_keys own_trips t end x a b y z le first second keys_are trips_are before ks ts =
-      let one = both_told x a y (AgreeBefore n key trip keys trips t)
+      let one = both_told x a y (AgreeBelow n key trip keys trips t)
       (AllAgreeIn n own_keys keys t end) first before ks in
-      let told = both_told y b z (AgreeBefore n key trip keys trips t
+      let told = both_told y b z (AgreeBelow n key trip keys trips t
       × AllAgreeIn n own_keys keys t end) (AllAgreeIn n own_trips trips t end) second one ts in (
         λ on.
             let facts = told.0 on in
@@ -195,8 +195,8 @@ module _ (n : ℕ) (key trip : PairSignals) (keys trips : List (SentKeys Level))
 
   -- a lane that is left no more stays so
   pub none_left : (t end : ℕ) (x : Rails) → t ≤ end → IsFalse x.must
-      → (IsTrue x.must ↔ AgreeBefore n key trip keys trips t)
-      → (IsTrue x.must ↔ AgreeBefore n key trip keys trips end)
+      → (IsTrue x.must ↔ AgreeBelow n key trip keys trips t)
+      → (IsTrue x.must ↔ AgreeBelow n key trip keys trips end)
   none_left t end x le off before = (
     λ on. absurd (let e : false ≡ true = sym off ∙ on in cc),
     λ agree. before.1 (record {
@@ -234,7 +234,7 @@ module _ (laws : LineLaws) (gates : GatesStandForTheirTrees) (line : Line) (scri
   exact = solved_exact laws gates line script box d net of_line choice point
 
   abbrev Agrees : Type 0
-  Agrees = AgreeBefore (terminal_count line) own.key own.trip keys trips line.horizon
+  Agrees = AgreeBelow (terminal_count line) own.key own.trip keys trips line.horizon
 
   abbrev IsOnly : Type 0
   IsOnly = IsOnlyHistory line script choice (played keys trips)

@@ -1,4 +1,5 @@
 -- Keys that change, and the gates that hear them.
+use Rattle.run_signal.specs.Signals.{SignalOf}
 use Rattle.std.proofs.Common.{◌≡◌, ℕ, ◌+◌, ◌-◌, ◌<◌, ◌≤◌, List, length, Some, sym, ◌∙◌, ap, subst}
 use Rattle.std.proofs.Common.{arith, ⊎_elim, inl, inr, refl, ◌*◌}
 use Rattle.std.proofs.Math.Nat.{mul-le-mul}
@@ -67,44 +68,44 @@ hastened_on first middle last same one two i due da before ba =
     let lower : between ≤ before = one i between ma before ba in
     omega (arith, less, lower)
 
-pub heard_on : {V S : Type 0} (lanes : ℕ) (rails : V → ℕ → Rails) (net : NetOf)
+pub heard_on : {V S : Type 0} (signal : SignalOf V S) (net : NetOf)
     (column : List V) (c : ℕ) (d : Delay S) (sent : List (SentKeys V)) (t : ℕ) (old new : List ℕ)
     → length old ≡ length new → AreHastened old new
-    → IsHeard lanes rails net column c d sent t old
-    → IsHeard lanes rails net column c d sent t new
-heard_on lanes rails net column c d sent t old new same hastened heard =
+    → IsHeard signal net column c d sent t old
+    → IsHeard signal net column c d sent t new
+heard_on signal net column c d sent t old new same hastened heard =
     ⊎_elim inl
     (λ soon. inr (λ i due gate at hears da. soon_kept (t + d.soonest) i old new same hastened
     (λ before ba. soon i before gate at hears ba) due da))
     heard
 
 -- a gate hears no key that changes, or it is due when that first arrives
-module _ {V S : Type 0} (history : HistoryLaws) (lanes : ℕ) (ends : S → ℕ → Ends)
-    (rails : V → ℕ → Rails) (net : NetOf) (column : List V)
+module _ {V S : Type 0} (history : HistoryLaws) (signal : SignalOf V S) (net : NetOf) (column : List V)
     (delays : List (Delay S)) (sent : List (SentKeys V)) (t n horizon channels : ℕ) (dues : List ℕ)
     (count : length delays ≡ channels)
     (tracks : AreSent n horizon t sent) (terminals : length net.keys ≡ n)
     (of_terminals : (c : ℕ) (d : Delay S) → slice_get delays c ≡ Some d → d.from < n)
     (inside_column : (k : ℕ) → k < length net.keys → key_of net k < length column)
-    (soonest : AreSoonest lanes ends delays) (set : AreSet t delays)
-    (later : (c : ℕ) (d : Delay S) → slice_get delays c ≡ Some d → (lane : ℕ) → lane < lanes
-    → 1 ≤ (ends d.span lane).least)
-    (heard : AreHeard lanes rails net column (length delays) delays sent t dues) where
-  module _ (lane : ℕ) (below : lane < lanes) (p : LanePairs)
-      (from : AreDelaysFrom ends lane delays p.world t) (have : KeysSent rails lane p.keys t sent)
-      (agree : ValuesAgree rails lane p.pairs t column)
+    (soonest : AreSoonest signal delays) (set : AreSet t delays)
+    (later : (c : ℕ) (d : Delay S) → slice_get delays c ≡ Some d → (lane : ℕ) → lane < signal.lanes
+    → 1 ≤ (signal.ends d.span lane).least)
+    (heard : AreHeard signal net column (length delays) delays sent t dues) where
+  module _ (lane : ℕ) (below : lane < signal.lanes) (p : LanePairs)
+      (from : AreDelaysFrom signal.ends lane delays p.world t)
+      (have : KeysSent signal.rails lane p.keys t sent)
+      (agree : ValuesAgree signal.rails lane p.pairs t column)
       (is : (k : ℕ) → k < length net.keys → p.keys k t ≡ p.pairs (key_of net k) t) where
     -- a key that is the last one
     key_same : (k : ℕ) (s : SentKeys V) (x : V) → k < length net.keys → slice_get sent k ≡ Some s
-        → slice_get column (key_of net k) ≡ Some x → IsLastKey lanes rails s.keys x
+        → slice_get column (key_of net k) ≡ Some x → IsLastKey signal s.keys x
         → p.keys k t ≡ p.keys k (t - 1)
     key_same k s x kn sa xa last =
         let long : length s.keys ≡ t = (tracks.each k s sa).0 in
         let some : 1 ≤ length s.keys = last.some in
         let (y, ya) = exists_at s.keys (length s.keys - 1) (omega (arith, some)) in
         let place : length s.keys - 1 ≡ t - 1 = omega (arith, long) in
-        let was : rails y lane ≡ p.keys k (t - 1) =
-        sym (lane_at rails s.keys y lane (length s.keys - 1) ya)
+        let was : signal.rails y lane ≡ p.keys k (t - 1) =
+        sym (lane_at signal.rails s.keys y lane (length s.keys - 1) ya)
         ∙ ap (λ (l : List Rails). rails_at l (length s.keys - 1)) (have k s sa)
         ∙ ap (λ (r : ℕ). rails_at (first_ticks (p.keys k) t) r) place
         ∙ history.recordings.rails (p.keys k) t (t - 1) (omega (arith, some, long)) in
@@ -125,9 +126,10 @@ module _ {V S : Type 0} (history : HistoryLaws) (lanes : ℕ) (ends : S → ℕ 
         (key_same d.from s x kn sa xa (last s x sa xa))))
         (λ soon.
         let early : due ≤ t + d.soonest = soon i due g ga hears da in
-        let first : d.soonest ≤ (ends d.span lane).least =
+        let first : d.soonest ≤ (signal.ends d.span lane).least =
         (soonest c d at).before lane below (later c d at lane below) in
         let until : t < d.until = set c d at in
-        let same : ends d.span lane ≡ p.world.delay c t = from.delay c d at t (omega arith) until in
+        let same : signal.ends d.span lane ≡ p.world.delay c t = from.delay c d at t
+        (omega arith) until in
         inr (subst (λ (e : Ends). due - t ≤ e.least) same (omega (arith, early, first))))
         (heard c d (omega (arith, low, count)) at)

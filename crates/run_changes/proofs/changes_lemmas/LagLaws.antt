@@ -1,4 +1,5 @@
 -- Gates that are not evaluated at a tick, since nothing that they rest on has changed.
+use Rattle.run_signal.specs.Signals.{SignalOf}
 use Rattle.std.proofs.Common.{◌≡◌, ℕ, zero, suc, ◌+◌, ◌-◌, ◌<◌, ◌≤◌, List, length, refl, sym}
 use Rattle.std.proofs.Common.{◌∙◌, ap, subst, arith, ⊎_elim, inl, inr, ◌⊎◌}
 use Rattle.std.proofs.lemmas.Bool.{cases_lt}
@@ -342,10 +343,11 @@ seal_on stretch recorded rails lane f g t b (cell.Seal s) next same same' h =
     }
 
 module _ {C S V : Type 0} (stretch : ElementsInAStretch) (recorded : RecordedTicksSuffice)
-    (stands_for : C → S → S → ℕ → List Rails → Type 0) (ends : S → ℕ → Ends)
-    (rails : V → ℕ → Rails) (lane : ℕ) (w : PairWorld) (u : GateSignals) where
+    (signal : SignalOf V S)
+    (stands_for : C → S → S → ℕ → List Rails → Type 0) (lane : ℕ) (w : PairWorld)
+    (u : GateSignals) where
   abbrev LagsAt : ℕ → Gate → Cell C V S → Since V → Type 0
-  LagsAt r g c s = Lags stands_for ends rails lane w u r g c s
+  LagsAt r g c s = Lags signal stands_for lane w u r g c s
 
   -- a cell that is left as it is lags one tick more
   pub rest_lags : (t b : ℕ) (g : Gate) (c : Cell C V S) (s : Since V) → t ≡ suc b
@@ -369,16 +371,18 @@ module _ {C S V : Type 0} (stretch : ElementsInAStretch) (recorded : RecordedTic
             (cases_lt r t);
       }
   rest_lags t b (Seal x y) c s next same lags =
-      seal_on stretch recorded rails lane (u x.0) (u y.0) t b c next same.0 same.1
-      (subst (λ (r : ℕ). SealStands rails lane (first_ticks (u x.0) r) (first_ticks (u y.0) r) c)
+      seal_on stretch recorded signal.rails lane (u x.0) (u y.0) t b c next same.0 same.1
+      (subst (λ (r : ℕ). SealStands signal.rails lane (first_ticks (u x.0) r) (first_ticks (u y.0) r) c)
       next lags)
 
-module _ {C S V : Type 0} (stands_for : C → S → S → ℕ → List Rails → Type 0) (ends : S → ℕ → Ends)
-    (rails : V → ℕ → Rails) (lane : ℕ) (w : PairWorld) (u : GateSignals) where
+module _ {C S V : Type 0} (signal : SignalOf V S)
+    (stands_for : C → S → S → ℕ → List Rails → Type 0) (lane : ℕ) (w : PairWorld)
+    (u : GateSignals) where
   -- a cell that has taken the tick
   pub lags_now : (t : ℕ) (g : Gate) (c : Cell C V S) (s : Since V) → s.fed ≡ suc t
-      → IsInputAt rails lane u t g s.input
-      → CellStands stands_for ends rails lane w u (suc t) g c → Lags stands_for ends rails lane w u (suc t) g c s
+      → IsInputAt signal.rails lane u t g s.input
+      → CellStands signal stands_for lane w u (suc t) g c → Lags signal stands_for lane w u
+      (suc t) g c s
   lags_now t (Const v) c s fed input stands = tt
   lags_now t (Seen p) c s fed input stands = tt
   lags_now t (Loss x) c s fed input stands = tt
@@ -388,7 +392,7 @@ module _ {C S V : Type 0} (stands_for : C → S → S → ℕ → List Rails →
   lags_now t (Or x y) c s fed input stands = tt
   lags_now t (Timer x p d) c s fed input stands = record {
     taken = omega (arith, fed);
-    stands = subst (λ (r : ℕ). TimerStands stands_for ends lane (w.time p) (w.time d)
+    stands = subst (λ (r : ℕ). TimerStands stands_for signal.ends lane (w.time p) (w.time d)
         (first_ticks (u x.0) r) c) (sym fed) stands;
     held = λ r low high.
         let here : r ≡ t = omega (arith, fed, low, high) in ap (u x.0) here ∙ input;
@@ -396,8 +400,8 @@ module _ {C S V : Type 0} (stands_for : C → S → S → ℕ → List Rails →
   lags_now t (Seal x y) c s fed input stands = stands
 
   pub no_timer_stands : (t : ℕ) (g : Gate) (c : Cell C V S) (s : Since V) → IsNoTimer g
-      → Lags stands_for ends rails lane w u t g c s
-      → CellStands stands_for ends rails lane w u t g c
+      → Lags signal stands_for lane w u t g c s
+      → CellStands signal stands_for lane w u t g c
   no_timer_stands t (Const v) c s none lags = tt
   no_timer_stands t (Seen p) c s none lags = tt
   no_timer_stands t (Loss x) c s none lags = tt
@@ -409,8 +413,8 @@ module _ {C S V : Type 0} (stands_for : C → S → S → ℕ → List Rails →
   no_timer_stands t (Seal x y) c s none lags = lags
 
   pub no_timer_lags : (t : ℕ) (g : Gate) (c : Cell C V S) (s : Since V) → IsNoTimer g
-      → CellStands stands_for ends rails lane w u t g c
-      → Lags stands_for ends rails lane w u t g c s
+      → CellStands signal stands_for lane w u t g c
+      → Lags signal stands_for lane w u t g c s
   no_timer_lags t (Const v) c s none stands = tt
   no_timer_lags t (Seen p) c s none stands = tt
   no_timer_lags t (Loss x) c s none stands = tt

@@ -12,12 +12,12 @@ use Rattle.model_logic.specs.{Logic.key_tree, Solution.the_keys, Laws.LineLaws}
 use Rattle.net_gates.specs.declared.gate.Gate.{Gate}
 use Rattle.net_gates.specs.NetOf.{NetOf, IsNetOf, AreGatesOf, key_of, id_at}
 use Rattle.net_gates.specs.{declared.gate.GateId.GateId, NetLaws.GatesStandForTheirTrees}
-use Rattle.model_timing.specs.declared.step.Step.{Step}
 use Rattle.net_gates.specs.{NetLaws.hears_channel, Readers.Hears}
+use Rattle.run_step.specs.declared.run.Run.{Run}
 use Rattle.run_step.specs.{Quiet.Keeps, Quiet.AreGatePairs, Lasts.Lasts}
 use Rattle.run_step.specs.{GatePairs.GateSignals, GatePairs.line_pairs, LaneBox.lane_box}
 use Rattle.run_step.specs.{LaneBox.lane_world, Ticks.ValuesAgree}
-use Rattle.run_changes.specs.changes.Tracks.{line_lane}
+use Rattle.run_step.specs.Lanes.{line_lane}
 use Rattle.run_step.specs.GatePairLaws.{gate_pairs-kind}
 use Rattle.run_changes.proofs.changes_lemmas.LagLaws.{lasts_quiet}
 use Rattle.run_step.specs.{QuietLaws.quiet_gates_keep, RunLaws.key_pair}
@@ -32,14 +32,24 @@ held_values rails lane u t n len column ids are agree keeps k x lt at r low high
     keeps (id_at ids k) (are k lt) r low high ∙ sym (agree (id_at ids k) x at)
 
 module _ {S : Type 0} (laws : LineLaws) (trees : GatesStandForTheirTrees)
-    (stretch : ElementsInAStretch) (ends : S → ℕ → Ends) (line : Line) (script : Script)
-    (spans : List S) (steps : List (Step S)) (lane : ℕ) (net : NetOf) (of_line : IsNetOf line net)
-    (d : LeastFromOne line (lane_box ends line spans steps lane)) where
+    (stretch : ElementsInAStretch) (ends : S → ℕ → Ends) (run : Run S) (script : Script)
+    (lane : ℕ)
+    (d : LeastFromOne run.compiled.now.line.now
+    (lane_box ends run.compiled.now.line.now run.spans.now run.steps.now lane)) where
+  abbrev line : Line
+  line = run.compiled.now.line.now
+
+  abbrev net : NetOf
+  net = run.compiled.now.net.now
+
+  of_line : IsNetOf line net
+  of_line = run.compiled.now.of_line
+
   abbrev box : Box
-  box = lane_box ends line spans steps lane
+  box = lane_box ends line run.spans.now run.steps.now lane
 
   abbrev world : PairWorld
-  world = lane_world ends line script spans steps lane
+  world = lane_world ends line script run.spans.now run.steps.now lane
 
   abbrev keys : PairSignals
   keys = the_keys world (key_tree line)
@@ -70,12 +80,12 @@ module _ {S : Type 0} (laws : LineLaws) (trees : GatesStandForTheirTrees)
   -- every gate keeps its value through the stretch
   pub stretch_keeps : (t n : ℕ) → t + n ≤ line.horizon
       → ((i : ℕ) (g : Gate) → slice_get net.gates i ≡ Some g
-      → Lasts (line_lane ends line script spans steps net lane) t t n g)
+      → Lasts (line_lane ends run script lane) t t n g)
       → (i : ℕ) → i < length net.gates → Keeps (pairs i) t n
   stretch_keeps t n fits lasts =
       quiet_gates_keep stretch line world keys pairs t n net.gates of_line.laws.gates of_line.named
       are_pairs
-      (λ i g at. lasts_quiet (line_lane ends line script spans steps net lane) t n g (lasts i g at))
+      (λ i g at. lasts_quiet (line_lane ends run script lane) t n g (lasts i g at))
       fits
 
   -- so does every key that is heard

@@ -1,10 +1,11 @@
 -- One tick of a net, gate by gate, of which only some are evaluated.
+use Rattle.run_signal.specs.Signals.{SignalOf}
 use Rattle.std.proofs.Common.{◌≡◌, ◌≢◌, ℕ, zero, suc, ◌+◌, ◌-◌, ◌<◌, ◌≤◌, List, [], ◌∷◌, length, Some}
 use Rattle.std.proofs.Common.{sym, ◌∙◌, ap, subst, arith, ⊎_elim}
 use Rattle.std.proofs.lemmas.Bool.{cases_lt}
 use Rattle.std.proofs.lemmas.Option.{slice_get_within}
 use Rattle.std.specs.Prelude.{slice_get, slice_set, take}
-use Rattle.model_history.specs.Rails.{Rails, Ends}
+use Rattle.model_history.specs.Rails.{Rails}
 use Rattle.model_history.specs.Laws.{RecordedTicksSuffice}
 use Rattle.run_signal.specs.Stretches.{ElementsInAStretch}
 use Rattle.net_gates.specs.{declared.gate.Gate.Gate}
@@ -64,10 +65,11 @@ lowered_lasts p b t due g none =
     let zero : 0 ≡ due - t = omega (arith, none) in
     subst (λ (k : ℕ). Lasts p b t k g) zero (lasts_none p b t g)
 
-module _ {C S V : Type 0} (stands_for : C → S → S → ℕ → List Rails → Type 0) (ends : S → ℕ → Ends)
-    (rails : V → ℕ → Rails) (lane : ℕ) (p : LanePairs) (t : ℕ) (gates : List Gate) where
+module _ {C S V : Type 0} (signal : SignalOf V S)
+    (stands_for : C → S → S → ℕ → List Rails → Type 0) (lane : ℕ) (p : LanePairs) (t : ℕ)
+    (gates : List Gate) where
   abbrev Traced : ℕ → Gates C V S S → Type 0
-  Traced n kept = IsTraced stands_for ends rails lane p t n gates kept
+  Traced n kept = IsTraced signal stands_for lane p t n gates kept
 
   abbrev WaitFrom : ℕ → List (Cell C V S) → List (Since V) → List ℕ → List V → Type 0
   WaitFrom n cells sinces dues column =
@@ -75,7 +77,7 @@ module _ {C S V : Type 0} (stands_for : C → S → S → ℕ → List Rails →
       → n ≤ i → slice_get gates i ≡ Some g → slice_get cells i ≡ Some cell
       → slice_get sinces i ≡ Some since → slice_get dues i ≡ Some due
       → slice_get column i ≡ Some value
-      → GateWaits stands_for ends rails lane p t i g cell since due value
+      → GateWaits signal stands_for lane p t i g cell since due value
 
   -- gates that are made due wait too
   lowered_wait : (n : ℕ) (cells : List (Cell C V S)) (sinces : List (Since V))
@@ -100,7 +102,7 @@ module _ {C S V : Type 0} (stands_for : C → S → S → ℕ → List Rails →
   pub traced_none : (kept new : Gates C V S S) → new.cells.items ≡ kept.cells.items
       → new.sinces.items ≡ kept.sinces.items → new.dues.items ≡ kept.dues.items
       → new.column.items ≡ kept.column.items
-      → AllWait stands_for ends rails lane p t gates kept → Traced 0 new
+      → AllWait signal stands_for lane p t gates kept → Traced 0 new
   traced_none kept new same_cells same_sinces same_dues same_column wait = record {
     values = λ i x lt. absurd (omega arith);
     lags = λ i g cell since lt. absurd (omega arith);
@@ -115,7 +117,7 @@ module _ {C S V : Type 0} (stands_for : C → S → S → ℕ → List Rails →
 
   -- the earlier values are those of the tick
   pub traced_agree : (i : ℕ) (kept : Gates C V S S) → Traced i kept
-      → ValuesAgree rails lane p.pairs t (take i kept.column.items)
+      → ValuesAgree signal.rails lane p.pairs t (take i kept.column.items)
   traced_agree i kept traced k x at =
       let q = at_take i kept.column.items k x at in traced.values k x q.0 q.1
 
@@ -143,26 +145,26 @@ module _ {C S V : Type 0} (stands_for : C → S → S → ℕ → List Rails →
       let same : u i t ≡ u i (t - 1) =
       told t i gate ga ∙ rest_pair stretch p t (t - 1) due gate next later args waits.lasts
       ∙ sym (told (t - 1) i gate ga) in
-      let lags : Lags stands_for ends rails lane p.world u (suc t) gate cell since =
-      rest_lags stretch recorded stands_for ends rails lane p.world u t (t - 1) gate cell since next
+      let lags : Lags signal stands_for lane p.world u (suc t) gate cell since =
+      rest_lags stretch recorded signal stands_for lane p.world u t (t - 1) gate cell since next
       args waits.lags in (
         record {
           values = λ k x lt at.
               ⊎_elim
               (λ low. traced.values k x low at)
               (λ ge. let here : k ≡ i = omega arith in
-              ap (λ (v : V). rails v lane) (one_value column k i x value here at va)
+              ap (λ (v : V). signal.rails v lane) (one_value column k i x value here at va)
               ∙ waits.last some ∙ sym same ∙ ap (λ (j : ℕ). u j t) (sym here))
               (cases_lt k i);
           lags = λ k g c s lt gat cat sat.
               ⊎_elim
               (λ low. traced.lags k g c s low gat cat sat)
               (λ ge. let here : i ≡ k = omega arith in
-              subst (λ (h : Gate). Lags stands_for ends rails lane p.world u (suc t) h c s)
+              subst (λ (h : Gate). Lags signal stands_for lane p.world u (suc t) h c s)
               (one_value gates i k gate g here ga gat)
-              (subst (λ (y : Cell C V S). Lags stands_for ends rails lane p.world u (suc t) gate y s)
+              (subst (λ (y : Cell C V S). Lags signal stands_for lane p.world u (suc t) gate y s)
               (one_value cells i k cell c here ca cat)
-              (subst (λ (y : Since V). Lags stands_for ends rails lane p.world u (suc t) gate cell y)
+              (subst (λ (y : Since V). Lags signal stands_for lane p.world u (suc t) gate cell y)
               (one_value sinces i k since s here sa sat) lags)))
               (cases_lt k i);
           rests = λ k g d low gat dat late.
@@ -240,19 +242,20 @@ module _ {C S V : Type 0} (stands_for : C → S → S → ℕ → List Rails →
       traced)
 
   -- one gate more that was evaluated
-  pub traced_more : (i lanes : ℕ) (kept new : Gates C V S S)
-      (gate : Gate) (cell : Cell C V S) (since : Since V) (due : ℕ) (last value : V) → lane < lanes
+  pub traced_more : (i : ℕ) (kept new : Gates C V S S)
+      (gate : Gate) (cell : Cell C V S) (since : Since V) (due : ℕ) (last value : V)
+      → lane < signal.lanes
       → length (slice_set kept.dues.items i due) ≡ length gates
       → new.cells.items ≡ slice_set kept.cells.items i cell
       → new.sinces.items ≡ slice_set kept.sinces.items i since
       → new.column.items ≡ slice_set kept.column.items i value
       → AreLowered (slice_set kept.dues.items i due) new.dues.items
-      → IsTold lanes rails i gates value last new.dues.items
-      → slice_get gates i ≡ Some gate → (1 ≤ t → rails last lane ≡ p.pairs i (t - 1))
-      → rails value lane ≡ p.pairs i t
-      → Lags stands_for ends rails lane p.world p.pairs (suc t) gate cell since
+      → IsTold signal i gates value last new.dues.items
+      → slice_get gates i ≡ Some gate → (1 ≤ t → signal.rails last lane ≡ p.pairs i (t - 1))
+      → signal.rails value lane ≡ p.pairs i t
+      → Lags signal stands_for lane p.world p.pairs (suc t) gate cell since
       → Traced i kept → Traced (i + 1) new
-  traced_more i lanes kept new gate cell since due last value inside long
+  traced_more i kept new gate cell since due last value inside long
       is_cells is_sinces is_column lowered told ga before now lags traced =
       let u : GateSignals = p.pairs in
       let cells : List (Cell C V S) = kept.cells.items in
@@ -274,7 +277,8 @@ module _ {C S V : Type 0} (stands_for : C → S → S → ℕ → List Rails →
             (λ low. traced.values k x low
             (set_other column i value k x (λ e. omega arith) (value_at k x at)))
             (λ ge. let here : k ≡ i = omega arith in
-            ap (λ (v : V). rails v lane) (sym (set_here column i value k x here (value_at k x at)))
+            ap (λ (v : V). signal.rails v lane)
+            (sym (set_here column i value k x here (value_at k x at)))
             ∙ now ∙ ap (λ (j : ℕ). u j t) (sym here))
             (cases_lt k i);
         lags = λ k g c s lt gat cat sat.
@@ -283,11 +287,11 @@ module _ {C S V : Type 0} (stands_for : C → S → S → ℕ → List Rails →
             (set_other cells i cell k c (λ e. omega arith) (cell_at k c cat))
             (set_other sinces i since k s (λ e. omega arith) (since_at k s sat)))
             (λ ge. let here : k ≡ i = omega arith in
-            subst (λ (h : Gate). Lags stands_for ends rails lane p.world u (suc t) h c s)
+            subst (λ (h : Gate). Lags signal stands_for lane p.world u (suc t) h c s)
             (one_value gates i k gate g (sym here) ga gat)
-            (subst (λ (y : Cell C V S). Lags stands_for ends rails lane p.world u (suc t) gate y s)
+            (subst (λ (y : Cell C V S). Lags signal stands_for lane p.world u (suc t) gate y s)
             (set_here cells i cell k c here (cell_at k c cat))
-            (subst (λ (y : Since V). Lags stands_for ends rails lane p.world u (suc t) gate cell y)
+            (subst (λ (y : Since V). Lags signal stands_for lane p.world u (suc t) gate cell y)
             (set_here sinces i since k s here (since_at k s sat)) lags)))
             (cases_lt k i);
         rests = λ k g d low gat dat late.

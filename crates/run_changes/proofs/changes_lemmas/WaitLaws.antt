@@ -1,10 +1,11 @@
 -- Gates that wait through a stretch of ticks.
+use Rattle.run_signal.specs.Signals.{SignalOf}
 use Rattle.std.proofs.Common.{◌≡◌, ℕ, zero, suc, ◌+◌, ◌-◌, ◌<◌, ◌≤◌, List, length, Some, refl, sym}
 use Rattle.std.proofs.Common.{◌∙◌, subst, arith, ⊎_elim, inl, replicate}
 use Rattle.std.proofs.lemmas.Bool.{cases_lt}
 use Rattle.std.proofs.lemmas.Option.{slice_get_within}
 use Rattle.std.specs.Prelude.{slice_get}
-use Rattle.model_history.specs.Rails.{Rails, Ends}
+use Rattle.model_history.specs.Rails.{Rails}
 use Rattle.model_history.specs.{Recorded.first_ticks, Laws.RecordedTicksSuffice}
 use Rattle.run_signal.specs.Stretches.{ElementsInAStretch}
 use Rattle.model_logic.specs.{PairMean.PairWorld, PairMean.PairSignals}
@@ -57,11 +58,11 @@ lasts_on p b due g same keys lasts =
     (cases_lt b due)
 
 module _ {C S V : Type 0} (stretch : ElementsInAStretch) (recorded : RecordedTicksSuffice)
-    (stands_for : C → S → S → ℕ → List Rails → Type 0) (ends : S → ℕ → Ends)
-    (rails : V → ℕ → Rails) (lane : ℕ) (p : LanePairs)
+    (signal : SignalOf V S)
+    (stands_for : C → S → S → ℕ → List Rails → Type 0) (lane : ℕ) (p : LanePairs)
   where
     abbrev LagsAt : ℕ → Gate → Cell C V S → Since V → Type 0
-    LagsAt r g c s = Lags stands_for ends rails lane p.world p.pairs r g c s
+    LagsAt r g c s = Lags signal stands_for lane p.world p.pairs r g c s
 
     wait_on : (t n due len : ℕ) (g : Gate) (c : Cell C V S) (s : Since V) → HasArguments len g
         → ((i : ℕ) → i < len → Keeps (p.pairs i) t n)
@@ -79,7 +80,7 @@ module _ {C S V : Type 0} (stretch : ElementsInAStretch) (recorded : RecordedTic
         args_keep p.pairs t n k len g has keeps lt in
         let e : suc (t + k) ≡ t + suc k = omega arith in (
           subst (λ (m : ℕ). LagsAt (suc m) g c s) e
-              (rest_lags stretch recorded stands_for ends rails lane p.world p.pairs (suc (t + k))
+              (rest_lags stretch recorded signal stands_for lane p.world p.pairs (suc (t + k))
               (t + k) g c s refl same before.0),
           subst (λ (m : ℕ). Lasts p m m (due - m) g) e
               (lasts_on p (t + k) due g same
@@ -90,11 +91,11 @@ module _ {C S V : Type 0} (stretch : ElementsInAStretch) (recorded : RecordedTic
         → ((i : ℕ) → i < length gates → Keeps (p.pairs i) t n)
         → ((i : ℕ) (g : Gate) (x : ℕ) → slice_get gates i ≡ Some g → Hears x g
         → Keeps (p.keys (p.world.from x)) t n)
-        → ValuesAgree rails lane p.pairs t kept.column.items
-        → AllLag stands_for ends rails lane p (suc t) gates kept
+        → ValuesAgree signal.rails lane p.pairs t kept.column.items
+        → AllLag signal stands_for lane p (suc t) gates kept
         → ((i : ℕ) (g : Gate) (due : ℕ) → slice_get gates i ≡ Some g
         → slice_get kept.dues.items i ≡ Some due → Lasts p t t (due - t) g)
-        → AllWait stands_for ends rails lane p (t + n) gates kept
+        → AllWait signal stands_for lane p (t + n) gates kept
     all_wait t n gates kept some laws keeps heard agree lags lasts i g c s due v ga ca sa da va =
         let inside : i < length gates = slice_get_within gates i g ga in
         let has : HasArguments (length gates) g =
@@ -109,11 +110,12 @@ module _ {C S V : Type 0} (stretch : ElementsInAStretch) (recorded : RecordedTic
           lasts = subst (λ (m : ℕ). Lasts p m m (due - m) g) tick late.1;
         }
 
-module _ {C S V : Type 0} (stands_for : C → S → S → ℕ → List Rails → Type 0) (ends : S → ℕ → Ends)
-    (rails : V → ℕ → Rails) (lane : ℕ) (w : PairWorld) (keys : PairSignals) (u : GateSignals)
+module _ {C S V : Type 0} (signal : SignalOf V S)
+    (stands_for : C → S → S → ℕ → List Rails → Type 0) (lane : ℕ) (w : PairWorld)
+    (keys : PairSignals) (u : GateSignals)
   where
     lags_fresh : (g : Gate) (c : Cell C V S) (s : Since V) → s.fed ≡ 0
-        → CellStands stands_for ends rails lane w u 0 g c → Lags stands_for ends rails lane w u 0 g c s
+        → CellStands signal stands_for lane w u 0 g c → Lags signal stands_for lane w u 0 g c s
     lags_fresh (Const v) c s fed stands = tt
     lags_fresh (Seen p) c s fed stands = tt
     lags_fresh (Loss x) c s fed stands = tt
@@ -123,7 +125,7 @@ module _ {C S V : Type 0} (stands_for : C → S → S → ℕ → List Rails →
     lags_fresh (Or x y) c s fed stands = tt
     lags_fresh (Timer x p d) c s fed stands = record {
       taken = omega (arith, fed);
-      stands = subst (λ (r : ℕ). TimerStands stands_for ends lane (w.time p) (w.time d)
+      stands = subst (λ (r : ℕ). TimerStands stands_for signal.ends lane (w.time p) (w.time d)
           (first_ticks (u x.0) r) c) (sym fed) stands;
       held = λ r low high. absurd (omega arith);
     }
@@ -132,8 +134,8 @@ module _ {C S V : Type 0} (stands_for : C → S → S → ℕ → List Rails →
     pub wait_fresh : (gates : List Gate) (kept : Gates C V S S)
         → ((i : ℕ) (s : Since V) → slice_get kept.sinces.items i ≡ Some s → s.fed ≡ 0)
         → ((i due : ℕ) → slice_get kept.dues.items i ≡ Some due → due ≡ 0)
-        → AllStand stands_for ends rails lane w u 0 gates kept.cells.items
-        → AllWait stands_for ends rails lane (record { world = w; keys = keys; pairs = u }) 0 gates kept
+        → AllStand signal stands_for lane w u 0 gates kept.cells.items
+        → AllWait signal stands_for lane (record { world = w; keys = keys; pairs = u }) 0 gates kept
     wait_fresh gates kept fed first stands i g c s due v ga ca sa da va =
         let p : LanePairs = record { world = w; keys = keys; pairs = u } in
         let now : due ≡ 0 = first i due da in

@@ -7,11 +7,10 @@ use Rattle.model_line.specs.{declared.script.Script.Script, declared.line.Line.L
 use Rattle.model_line.specs.Parameters.{terminal_count}
 use Rattle.model_logic.specs.PairMean.{PairSignals}
 use Rattle.model_logic.specs.Histories.{History, IsLineHistory, IsSameHistory}
-use Rattle.model_logic.specs.{Choice.Choice, Logic.key_tree, Solution.the_keys}
-use Rattle.net_gates.specs.NetOf.{NetOf}
-use Rattle.model_timing.specs.declared.step.Step.{Step}
-use Rattle.run_step.specs.{GatePairs.line_pairs, LaneBox.lane_box, LaneBox.lane_world}
+use Rattle.model_logic.specs.Choice.{Choice}
+use Rattle.run_step.specs.declared.run.Run.{Run}
 use Rattle.run_changes.specs.changes.Tracks.{pair_of, trips_of}
+use Rattle.run_step.specs.Lanes.{line_lane}
 
 -- each history at the choice is this one, at every terminal and tick
 pub record IsOnlyHistory (line : Line) (script : Script) (choice : Choice) (h : History)
@@ -36,15 +35,15 @@ AllAgreeIn n own recorded from end =
     (k : ℕ) → k < n → AgreeIn (own k) (recorded_pairs recorded k) from end
 
 -- the keys and the trips of n terminals are the recorded ones before tick t
-pub record AgreeBefore (n : ℕ) (key trip : PairSignals)
+pub record AgreeBelow (n : ℕ) (key trip : PairSignals)
     (recorded_keys recorded_trips : List (SentKeys Level)) (t : ℕ) : Type 0 where
   pub keys : AllAgreeIn n key recorded_keys 0 t
   pub trips : AllAgreeIn n trip recorded_trips 0 t
 
 -- so it is of the interval history of the line over the lane's box
-abbrev pub LaneAgrees : {S : Type 0} → (S → ℕ → Ends) → Line → Script → List S → List (Step S)
-    → NetOf → ℕ → List (SentKeys Level) → List (SentKeys Level) → ℕ → Type 0
-LaneAgrees ends line script spans steps net lane keys trips t =
-    let w = lane_world ends line script spans steps lane in
-    let u = line_pairs line script (lane_box ends line spans steps lane) net in
-    AgreeBefore (terminal_count line) (the_keys w (key_tree line)) (trips_of net u) keys trips t
+abbrev pub LaneAgrees : {S : Type 0} → (S → ℕ → Ends) → Run S → Script → ℕ → List (SentKeys Level)
+    → List (SentKeys Level) → ℕ → Type 0
+LaneAgrees ends run script lane keys trips t =
+    let p = line_lane ends run script lane in
+    AgreeBelow (terminal_count run.compiled.now.line.now) p.keys
+    (trips_of run.compiled.now.net.now p.pairs) keys trips t

@@ -1,6 +1,6 @@
 -- Which gates are to be looked at where one changes, and where a key does.
+use Rattle.run_signal.specs.Signals.{SignalOf}
 use Rattle.std.specs.Prelude.{◌≡◌, ◌<◌, ◌≤◌, ◌⊎◌, ℕ, List, Some, slice_get}
-use Rattle.model_history.specs.Rails.{Rails}
 use Rattle.net_gates.specs.{declared.gate.Gate.Gate, Readers.HasArgument}
 
 -- each due tick is the old one or 0
@@ -20,10 +20,10 @@ AreReadersAwake a gates dues =
     → slice_get dues i ≡ Some due → due ≡ 0
 
 -- they are, or the value is the last one in each lane
-abbrev pub IsTold : {V : Type 0} → ℕ → (V → ℕ → Rails) → ℕ → List Gate → V → V → List ℕ → Type 0
-IsTold lanes rails a gates value last dues =
+abbrev pub IsTold : {V S : Type 0} → SignalOf V S → ℕ → List Gate → V → V → List ℕ → Type 0
+IsTold signal a gates value last dues =
     AreReadersAwake a gates dues
-    ⊎ ((lane : ℕ) → lane < lanes → rails value lane ≡ rails last lane)
+    ⊎ ((lane : ℕ) → lane < signal.lanes → signal.rails value lane ≡ signal.rails last lane)
 
 -- no due tick is later than the old one
 abbrev pub AreHastened : List ℕ → List ℕ → Type 0

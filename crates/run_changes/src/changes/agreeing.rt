@@ -26,6 +26,7 @@ use model_timing::Step;
 use net_gates::Compiled;
 use net_gates::laws::gates_stand_for_their_trees;
 use run_signal::{Carried, Level, Signal, Timed, Track};
+use run_step::Run;
 use std::alloc::Global;
 
 /// Runs the net of a line over a script as `run_tracks` does, up to the first tick at which no lane
@@ -41,71 +42,70 @@ pub fn agreeing_lanes<V: Timed + Carried>(
 ) -> Result<V, Memory>
     requires spans { length spans.now ≡ param_count compiled.now.line.now }
     requires ascending { IsTrue (ascend steps.now) }
-    requires delayed { AreDelayed V.LANES V.ends compiled.now.line.now spans.now steps.now }
+    requires delayed { AreDelayed V.signal compiled.now.line.now spans.now steps.now }
     requires keys { AreSent (terminal_count compiled.now.line.now) compiled.now.line.now.horizon
-        compiled.now.line.now.horizon
-        recorded.now.keys.items }
+        compiled.now.line.now.horizon recorded.now.keys.items }
     requires trips { AreSent (terminal_count compiled.now.line.now) compiled.now.line.now.horizon
-        compiled.now.line.now.horizon
-        recorded.now.trips.items }
+        compiled.now.line.now.horizon recorded.now.trips.items }
     // Where the lane's box holds one choice alone, the lane tells whether what is recorded is the
     // history at that choice.
-    ensures agreeing { IfOk result (λ lanes. (lane : ℕ) (choice : Choice) → lane < V.LANES →
-        IsPoint compiled.now.line.now (lane_box V.ends compiled.now.line.now spans.now steps.now
-        lane) choice →
-        (IsTrue (V.rails lanes lane).must ↔ IsOnlyHistory compiled.now.line.now script.now choice
+    ensures agreeing { IfOk result (λ lanes. (lane : ℕ) (choice : Choice) → lane < V.signal.lanes →
+        IsPoint compiled.now.line.now
+        (lane_box V.signal.ends compiled.now.line.now spans.now steps.now lane) choice →
+        (IsTrue (V.signal.rails lanes lane).must ↔
+        IsOnlyHistory compiled.now.line.now script.now choice
         (played recorded.now.keys.items recorded.now.trips.items))) }
 {
     line_laws();
     gates_stand_for_their_trees();
-    let mut kept = fresh_kept::<V>(alloc, compiled, script, spans)?;
-    let lanes = take_agreeing::<V>(compiled, spans, steps, &mut kept, recorded);
+    let run = Run {
+        compiled,
+        spans,
+        steps,
+    };
+    let mut kept = fresh_kept::<V>(alloc, &run, script)?;
+    let lanes = take_agreeing::<V>(&run, &mut kept, recorded);
     Ok(lanes)
 }
 
 // Takes ticks up to the horizon as long as some lane is as recorded.
 fn take_agreeing<V: Timed + Carried>(
-    compiled: &Compiled<'_>,
-    spans: &[V::Span],
-    steps: &[Step<V::Span>],
+    run: &Run<'_, V::Span>,
     kept: &mut Kept<V::Cells, V, V::Span>,
     recorded: &Tracks<Level>,
 ) -> V
-    requires can { CanRun V.LANES V.ends compiled.now.line.now spans.now steps.now }
-    requires kept { CanTake V.LANES V.ends compiled.now.line.now compiled.now.net.now spans.now
-        steps.now 0 kept.old }
-    requires keys { AreSent (terminal_count compiled.now.line.now) compiled.now.line.now.horizon
-        compiled.now.line.now.horizon
+    requires can { CanRun V.signal run.now }
+    requires kept { CanTake V.signal run.now 0 kept.old }
+    requires keys { AreSent (terminal_count run.now.compiled.now.line.now)
+        run.now.compiled.now.line.now.horizon run.now.compiled.now.line.now.horizon
         recorded.now.keys.items }
-    requires trips { AreSent (terminal_count compiled.now.line.now) compiled.now.line.now.horizon
-        compiled.now.line.now.horizon
+    requires trips { AreSent (terminal_count run.now.compiled.now.line.now)
+        run.now.compiled.now.line.now.horizon run.now.compiled.now.line.now.horizon
         recorded.now.trips.items }
     ensures { (script : Script) →
-        IsKeptOf V.LANES V.stands_for V.ends V.rails compiled.now.line.now script spans.now
-        steps.now compiled.now.net.now
-        0 kept.old →
-        (lane : ℕ) → lane < V.LANES → (IsTrue (V.rails result lane).must ↔
-        LaneAgrees V.ends compiled.now.line.now script spans.now steps.now compiled.now.net.now lane
-        recorded.now.keys.items recorded.now.trips.items compiled.now.line.now.horizon) }
+        IsKeptOf V.signal V.stands_for run.now script 0 kept.old →
+        (lane : ℕ) → lane < V.signal.lanes → (IsTrue (V.signal.rails result lane).must ↔
+        LaneAgrees V.signal.ends run.now script lane recorded.now.keys.items
+        recorded.now.trips.items run.now.compiled.now.line.now.horizon) }
 {
     history_laws();
     let mut lanes = V::known(true);
     let mut t = 0;
-    while t < compiled.line.horizon {
+    while t < run.compiled.line.horizon {
         if !some_left(lanes) {
             return lanes;
         }
-        let stays = take_stretch::<V>(compiled, spans, steps, kept, t);
+        let stays = take_stretch::<V>(run, kept, t);
         let end = t + stays;
         let keys = agreeing_tracks(
-            compiled.line,
+            run.compiled.line,
             kept.keys.as_slice(),
             recorded.keys.as_slice(),
             t,
             end,
         );
         let trips = agreeing_tracks(
-            compiled.line,
+            run.compiled.line,
             kept.trips.as_slice(),
             recorded.trips.as_slice(),
             t,
@@ -119,7 +119,8 @@ fn take_agreeing<V: Timed + Carried>(
 
 // Whether the value must be on in some lane.
 fn some_left<V: Signal>(lanes: V) -> bool
-    ensures { IsFalse result → (lane : ℕ) → lane < V.LANES → IsFalse (V.rails lanes lane).must }
+    ensures { IsFalse result → (lane : ℕ) → lane < V.signal.lanes →
+        IsFalse (V.signal.rails lanes lane).must }
 {
     for lane in 0..V::LANES {
         if lanes.must(lane) {
@@ -142,8 +143,8 @@ fn agreeing_tracks<V: Signal>(
     requires tracks { AreSent (terminal_count line.now) line.now.horizon end tracks.now }
     requires recorded { AreSent (terminal_count line.now) line.now.horizon line.now.horizon
         recorded.now }
-    ensures { (lane : ℕ) → lane < V.LANES → (IsTrue (V.rails result lane).must ↔
-        AllAgreeIn (terminal_count line.now) (own_pairs V.rails lane tracks.now) recorded.now
+    ensures { (lane : ℕ) → lane < V.signal.lanes → (IsTrue (V.signal.rails result lane).must ↔
+        AllAgreeIn (terminal_count line.now) (own_pairs V.signal.rails lane tracks.now) recorded.now
         from end) }
 {
     let mut lanes = V::known(true);
@@ -158,8 +159,8 @@ fn agreeing_track<V: Signal>(track: &Track<V>, recorded: &Track<Level>, from: u3
     requires from { from < end }
     requires track { end ≤ length track.now.keys }
     requires recorded { end ≤ length recorded.now.keys }
-    ensures { (lane : ℕ) → lane < V.LANES → (IsTrue (V.rails result lane).must ↔
-        AgreeIn (rails_at (in_lane V.rails lane track.now.keys))
+    ensures { (lane : ℕ) → lane < V.signal.lanes → (IsTrue (V.signal.rails result lane).must ↔
+        AgreeIn (rails_at (in_lane V.signal.rails lane track.now.keys))
         (rails_at (in_lane (λ x _. level_rails x) 0 recorded.now.keys)) from end) }
 {
     let mut lanes = V::known(true);
@@ -173,8 +174,8 @@ fn agreeing_track<V: Signal>(track: &Track<V>, recorded: &Track<Level>, from: u3
 
 // The lanes in which a value is the level.
 fn at_level<V: Signal>(value: V, level: Level) -> V
-    ensures { (lane : ℕ) → lane < V.LANES → (IsTrue (V.rails result lane).must ↔
-        V.rails value lane ≡ level_rails level) }
+    ensures { (lane : ℕ) → lane < V.signal.lanes → (IsTrue (V.signal.rails result lane).must ↔
+        V.signal.rails value lane ≡ level_rails level) }
 {
     match level {
         Level::On => value,
@@ -189,8 +190,8 @@ fn both_stay<V: Signal>(track: &Track<V>, recorded: &Track<Level>, t: u32, end: 
     requires recorded { end ≤ length recorded.now.keys }
     ensures later { t < result }
     ensures limited { result ≤ end }
-    ensures track { (lane : ℕ) → lane < V.LANES →
-        StaysUntil (rails_at (in_lane V.rails lane track.now.keys)) t end result }
+    ensures track { (lane : ℕ) → lane < V.signal.lanes →
+        StaysUntil (rails_at (in_lane V.signal.rails lane track.now.keys)) t end result }
     ensures recorded { StaysUntil (rails_at (in_lane (λ x _. level_rails x) 0 recorded.now.keys)) t end result }
 {
     if end - t == 1 {

@@ -17,13 +17,13 @@ use run_step::{Moment, lesser};
 /// before it, as far as it arrives by then.
 pub fn arrives_until<V: Signal>(moment: &Moment<'_, V, V::Span>, channel: u32) -> u32
     requires exists { channel < channel_count moment.now.line.now }
-    requires moment { CanHear V.LANES V.ends moment.now }
+    requires moment { CanHear V.signal moment.now }
     requires set { AreSet moment.now.t moment.now.delays.now }
     ensures later { moment.now.t < result }
     ensures limited { result ≤ 8000 }
-    ensures lasts { (lane : ℕ) (w : PairWorld) (keys : PairSignals) → lane < V.LANES →
-        AreDelaysFrom V.ends lane moment.now.delays.now w moment.now.t →
-        KeysSent V.rails lane keys moment.now.t moment.now.sent.now →
+    ensures lasts { (lane : ℕ) (w : PairWorld) (keys : PairSignals) → lane < V.signal.lanes →
+        AreDelaysFrom V.signal.ends lane moment.now.delays.now w moment.now.t →
+        KeysSent V.signal.rails lane keys moment.now.t moment.now.sent.now →
         RawLasts (keys (w.from channel)) (w.delay channel) (moment.now.t - 1) moment.now.t
         (result - moment.now.t) }
 {
@@ -37,14 +37,14 @@ pub fn arrives_until<V: Signal>(moment: &Moment<'_, V, V::Span>, channel: u32) -
 // lane is asked of those with the same ends; an end that the last one has too is not looked for
 // again.
 fn arrival_stays<V: Signal>(key: &Track<V>, delay: &V::Span, t: u32) -> u32
-    requires later { (lane : ℕ) → lane < V.LANES → 1 ≤ (V.ends delay.now lane).least }
+    requires later { (lane : ℕ) → lane < V.signal.lanes → 1 ≤ (V.signal.ends delay.now lane).least }
     requires known { length key.now.keys ≡ t }
     requires early { t < 4000 }
     ensures some { 1 ≤ result }
     ensures limited { result ≤ 4000 }
-    ensures keeps { (lane : ℕ) (u : ℕ → Rails) → lane < V.LANES →
-        in_lane V.rails lane key.now.keys ≡ first_ticks u t →
-        ArrivesAs u (V.ends delay.now lane) (t - 1) t result }
+    ensures keeps { (lane : ℕ) (u : ℕ → Rails) → lane < V.signal.lanes →
+        in_lane V.signal.rails lane key.now.keys ≡ first_ticks u t →
+        ArrivesAs u (V.signal.ends delay.now lane) (t - 1) t result }
 {
     history_laws();
     let lanes = V::LANES;
@@ -74,8 +74,8 @@ fn sooner<V: Signal>(key: &Track<V>, c: u32, last: u32, t: u32, stays: u32) -> u
     requires some { 1 ≤ stays }
     ensures some { 1 ≤ result }
     ensures limited { result ≤ stays }
-    ensures keeps { (c ≡ last → EndStays V.LANES V.rails key.now.keys t c stays) →
-        EndStays V.LANES V.rails key.now.keys t c result }
+    ensures keeps { (c ≡ last → EndStays V.signal key.now.keys t c stays) →
+        EndStays V.signal key.now.keys t c result }
 {
     if c == last {
         return stays;
@@ -89,7 +89,7 @@ fn end_stays<V: Signal>(key: &Track<V>, c: u32, t: u32) -> u32
     requires known { length key.now.keys ≡ t }
     requires early { t < 4000 }
     ensures some { 1 ≤ result }
-    ensures keeps { EndStays V.LANES V.rails key.now.keys t c result }
+    ensures keeps { EndStays V.signal key.now.keys t c result }
 {
     history_laws();
     if t < c {

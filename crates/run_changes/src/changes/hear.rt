@@ -26,8 +26,8 @@ pub fn hear<V: Signal>(
     requires laws { IsNet net.now }
     requires terminals { length net.now.keys ≡ terminal_count moment.now.line.now }
     requires column { length column.now ≡ length net.now.gates }
-    requires moment { CanHear V.LANES V.ends moment.now }
-    requires soonest { AreSoonest V.LANES V.ends moment.now.delays.now }
+    requires moment { CanHear V.signal moment.now }
+    requires soonest { AreSoonest V.signal moment.now.delays.now }
     requires dues { length dues.old.items ≡ length net.now.gates }
     requires marks { AreMarked dues.old.items marks.old }
     requires next { marks.old.next ≡ moment.now.t + 1 }
@@ -36,7 +36,7 @@ pub fn hear<V: Signal>(
     ensures next { marks.new.next ≡ moment.now.t + 1 }
     ensures horizon { marks.new.horizon ≡ marks.old.horizon }
     ensures hastened { AreHastened dues.old.items dues.new.items }
-    ensures heard { AreHeard V.LANES V.rails net.now column.now
+    ensures heard { AreHeard V.signal net.now column.now
         (length moment.now.delays.now) moment.now.delays.now moment.now.sent.now moment.now.t
         dues.new.items }
 {
@@ -53,7 +53,7 @@ fn keys_stay<V: Signal>(net: &Net, column: &[V], sent: &[Track<V>]) -> bool
     requires laws { IsNet net.now }
     requires terminals { length net.now.keys ≡ length sent.now }
     requires column { length column.now ≡ length net.now.gates }
-    ensures { IsTrue result → AreLastKeys V.LANES V.rails net.now column.now sent.now }
+    ensures { IsTrue result → AreLastKeys V.signal net.now column.now sent.now }
 {
     let gates = net.key_gates();
     for k in 0..gates.len() {
@@ -77,8 +77,8 @@ fn hear_one<V: Signal>(
     requires laws { IsNet net.now }
     requires terminals { length net.now.keys ≡ terminal_count moment.now.line.now }
     requires column { length column.now ≡ length net.now.gates }
-    requires moment { CanHear V.LANES V.ends moment.now }
-    requires soonest { AreSoonest V.LANES V.ends moment.now.delays.now }
+    requires moment { CanHear V.signal moment.now }
+    requires soonest { AreSoonest V.signal moment.now.delays.now }
     requires inside { channel < length moment.now.delays.now }
     requires dues { length dues.old.items ≡ length net.now.gates }
     requires marks { AreMarked dues.old.items marks.old }
@@ -89,7 +89,7 @@ fn hear_one<V: Signal>(
     ensures horizon { marks.new.horizon ≡ marks.old.horizon }
     ensures hastened { AreHastened dues.old.items dues.new.items }
     ensures heard { (d : Delay V.Span) → slice_get moment.now.delays.now channel ≡ Some d →
-        IsHeard V.LANES V.rails net.now column.now channel d moment.now.sent.now
+        IsHeard V.signal net.now column.now channel d moment.now.sent.now
         moment.now.t dues.new.items }
 {
     let delay = &moment.delays[channel];
@@ -103,7 +103,7 @@ fn hear_one<V: Signal>(
 
 // Whether there is a key, and the value is the last one in each lane.
 fn is_last<V: Signal>(key: &Track<V>, value: V) -> bool
-    ensures { IsTrue result → IsLastKey V.LANES V.rails key.now.keys value }
+    ensures { IsTrue result → IsLastKey V.signal key.now.keys value }
 {
     let count = key.len();
     count > 0 && key.at(count - 1).same(value)

@@ -38,8 +38,9 @@ fn is_no_timer(gate: &Gate) -> bool
 // A timer's input.
 fn input_of<V: Signal>(gate: &Gate, earlier: &[V]) -> V
     requires { HasArguments (length earlier.now) gate.now }
-    ensures { (lane : ℕ) (u : GateSignals) (t : ℕ) → lane < V.LANES →
-        ValuesAgree V.rails lane u t earlier.now → IsInputAt V.rails lane u t gate.now result }
+    ensures { (lane : ℕ) (u : GateSignals) (t : ℕ) → lane < V.signal.lanes →
+        ValuesAgree V.signal.rails lane u t earlier.now →
+        IsInputAt V.signal.rails lane u t gate.now result }
 {
     match *gate {
         Gate::Timer(x, _, _) => earlier[x.0 as usize],
@@ -51,14 +52,14 @@ fn input_of<V: Signal>(gate: &Gate, earlier: &[V]) -> V
 // it hears.
 fn rests_until<V: Carried>(gate: &Gate, spans: &[SeenSpan], moment: &Moment<'_, V, V::Span>) -> u32
     requires names { GateNames moment.now.line.now gate.now }
-    requires moment { CanHear V.LANES V.ends moment.now }
+    requires moment { CanHear V.signal moment.now }
     requires set { AreSet moment.now.t moment.now.delays.now }
     ensures later { moment.now.t < result }
     ensures limited { result ≤ 8000 }
-    ensures lasts { (lane : ℕ) (p : LanePairs) → lane < V.LANES → IsNoTimer gate.now →
+    ensures lasts { (lane : ℕ) (p : LanePairs) → lane < V.signal.lanes → IsNoTimer gate.now →
         IsShown spans.now p.world gate.now →
-        AreDelaysFrom V.ends lane moment.now.delays.now p.world moment.now.t →
-        KeysSent V.rails lane p.keys moment.now.t moment.now.sent.now →
+        AreDelaysFrom V.signal.ends lane moment.now.delays.now p.world moment.now.t →
+        KeysSent V.signal.rails lane p.keys moment.now.t moment.now.sent.now →
         Lasts p (moment.now.t - 1) moment.now.t (result - moment.now.t) gate.now }
 {
     match *gate {
@@ -87,32 +88,32 @@ pub fn look<V: Timed + Carried>(
     requires names { GateNames moment.now.line.now gate.now }
     requires arguments { HasArguments (length earlier.now) gate.now }
     requires cell { HasCell gate.now cell.old }
-    requires moment { CanHear V.LANES V.ends moment.now }
+    requires moment { CanHear V.signal moment.now }
     requires set { AreSet moment.now.t moment.now.delays.now }
     ensures shape { HasCell gate.now cell.new }
     ensures later { moment.now.t < due.new }
-    ensures stands { (lane : ℕ) (p : LanePairs) → lane < V.LANES →
-        ValuesAgree V.rails lane p.pairs moment.now.t earlier.now →
-        Lags V.stands_for V.ends V.rails lane p.world p.pairs moment.now.t gate.now cell.old
+    ensures stands { (lane : ℕ) (p : LanePairs) → lane < V.signal.lanes →
+        ValuesAgree V.signal.rails lane p.pairs moment.now.t earlier.now →
+        Lags V.signal V.stands_for lane p.world p.pairs moment.now.t gate.now cell.old
         since.old →
-        Lags V.stands_for V.ends V.rails lane p.world p.pairs (suc moment.now.t) gate.now cell.new
+        Lags V.signal V.stands_for lane p.world p.pairs (suc moment.now.t) gate.now cell.new
         since.new }
-    ensures answers { (lane : ℕ) (p : LanePairs) → lane < V.LANES →
+    ensures answers { (lane : ℕ) (p : LanePairs) → lane < V.signal.lanes →
         IsShown spans.now p.world gate.now →
-        AreDelaysFrom V.ends lane moment.now.delays.now p.world moment.now.t →
-        KeysSent V.rails lane p.keys moment.now.t moment.now.sent.now →
-        ValuesAgree V.rails lane p.pairs moment.now.t earlier.now →
-        Lags V.stands_for V.ends V.rails lane p.world p.pairs moment.now.t gate.now cell.old
+        AreDelaysFrom V.signal.ends lane moment.now.delays.now p.world moment.now.t →
+        KeysSent V.signal.rails lane p.keys moment.now.t moment.now.sent.now →
+        ValuesAgree V.signal.rails lane p.pairs moment.now.t earlier.now →
+        Lags V.signal V.stands_for lane p.world p.pairs moment.now.t gate.now cell.old
         since.old →
-        V.rails result lane ≡ kind_pair p.world p.keys p.pairs gate.now moment.now.t }
-    ensures lasts { (p : ℕ → LanePairs) → ((lane : ℕ) → lane < V.LANES →
+        V.signal.rails result lane ≡ kind_pair p.world p.keys p.pairs gate.now moment.now.t }
+    ensures lasts { (p : ℕ → LanePairs) → ((lane : ℕ) → lane < V.signal.lanes →
         IsShown spans.now (p lane).world gate.now
-        × AreDelaysFrom V.ends lane moment.now.delays.now (p lane).world moment.now.t
-        × KeysSent V.rails lane (p lane).keys moment.now.t moment.now.sent.now
-        × ValuesAgree V.rails lane (p lane).pairs moment.now.t earlier.now
-        × Lags V.stands_for V.ends V.rails lane (p lane).world (p lane).pairs moment.now.t gate.now
+        × AreDelaysFrom V.signal.ends lane moment.now.delays.now (p lane).world moment.now.t
+        × KeysSent V.signal.rails lane (p lane).keys moment.now.t moment.now.sent.now
+        × ValuesAgree V.signal.rails lane (p lane).pairs moment.now.t earlier.now
+        × Lags V.signal V.stands_for lane (p lane).world (p lane).pairs moment.now.t gate.now
         cell.old since.old) →
-        (lane : ℕ) → lane < V.LANES →
+        (lane : ℕ) → lane < V.signal.lanes →
         Lasts (p lane) (moment.now.t - 1) moment.now.t (due.new - moment.now.t) gate.now }
 {
     if is_no_timer(gate) {

@@ -51,7 +51,7 @@ pub fn tell<V: Signal>(
     requires marks { AreMarked dues.old.items marks.old }
     ensures count { length dues.new.items ≡ length dues.old.items }
     ensures lowered { AreLowered dues.old.items dues.new.items }
-    ensures told { IsTold V.LANES V.rails gate net.now.gates value last dues.new.items }
+    ensures told { IsTold V.signal gate net.now.gates value last dues.new.items }
     ensures marks { AreMarked dues.new.items marks.new }
     ensures next { marks.new.next ≡ marks.old.next }
     ensures horizon { marks.new.horizon ≡ marks.old.horizon }

@@ -28,9 +28,9 @@ pub fn catch_up<V: Timed>(
     requires early { t ≤ 4000 }
     requires cell { HasCell gate.now cell.old }
     ensures shape { HasCell gate.now cell.new }
-    ensures stands { (lane : ℕ) (w : PairWorld) (u : GateSignals) → lane < V.LANES →
-        Lags V.stands_for V.ends V.rails lane w u t gate.now cell.old since →
-        CellStands V.stands_for V.ends V.rails lane w u t gate.now cell.new }
+    ensures stands { (lane : ℕ) (w : PairWorld) (u : GateSignals) → lane < V.signal.lanes →
+        Lags V.signal V.stands_for lane w u t gate.now cell.old since →
+        CellStands V.signal V.stands_for lane w u t gate.now cell.new }
 {
     match *gate {
         Gate::Timer(_, _, _) => feed::<V>(cell, since, t),
@@ -43,11 +43,11 @@ fn feed<V: Timed>(cell: &mut Cell<V::Cells, SealCell<V>, V::Span>, since: Since<
     requires early { t ≤ 4000 }
     requires cell { HasTimer cell.old }
     ensures shape { HasTimer cell.new }
-    ensures stands { (lane : ℕ) (p d : Ends) (input : ℕ → Rails) → lane < V.LANES →
+    ensures stands { (lane : ℕ) (p d : Ends) (input : ℕ → Rails) → lane < V.signal.lanes →
         since.fed ≤ t →
-        TimerStands V.stands_for V.ends lane p d (first_ticks input since.fed) cell.old →
-        ((r : ℕ) → since.fed ≤ suc r → r < t → input r ≡ V.rails since.input lane) →
-        TimerStands V.stands_for V.ends lane p d (first_ticks input t) cell.new }
+        TimerStands V.stands_for V.signal.ends lane p d (first_ticks input since.fed) cell.old →
+        ((r : ℕ) → since.fed ≤ suc r → r < t → input r ≡ V.signal.rails since.input lane) →
+        TimerStands V.stands_for V.signal.ends lane p d (first_ticks input t) cell.new }
 {
     elements_stay_in_a_stretch();
     if since.fed < t {

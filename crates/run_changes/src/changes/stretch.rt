@@ -12,52 +12,41 @@ use crate::changes::trace::trace;
 use model_history::laws::history_laws;
 use model_history::recorded_laws::recorded_ticks_suffice;
 use model_logic::laws::line_laws;
-use model_timing::Step;
-use net_gates::Compiled;
 use net_gates::laws::gates_stand_for_their_trees;
 use run_signal::{Carried, Timed, elements_stay_in_a_stretch};
-use run_step::{Moment, renew_delays, send_all};
+use run_step::{Moment, Run, renew_delays, send_all};
 
 /// Takes the ticks from this one on until some gate is due, and answers how many.
 pub fn take_stretch<V: Timed + Carried>(
-    compiled: &Compiled<'_>,
-    spans: &[V::Span],
-    steps: &[Step<V::Span>],
+    run: &Run<'_, V::Span>,
     kept: &mut Kept<V::Cells, V, V::Span>,
     t: u32,
 ) -> u32
-    requires can { CanRun V.LANES V.ends compiled.now.line.now spans.now steps.now }
-    requires tick { t < compiled.now.line.now.horizon }
-    requires kept { CanTake V.LANES V.ends compiled.now.line.now compiled.now.net.now spans.now
-        steps.now t kept.old }
+    requires can { CanRun V.signal run.now }
+    requires tick { t < run.now.compiled.now.line.now.horizon }
+    requires kept { CanTake V.signal run.now t kept.old }
     ensures some { 1 ≤ result }
-    ensures fits { t + result ≤ compiled.now.line.now.horizon }
-    ensures kept { CanTake V.LANES V.ends compiled.now.line.now compiled.now.net.now spans.now
-        steps.now (t + result)
-        kept.new }
+    ensures fits { t + result ≤ run.now.compiled.now.line.now.horizon }
+    ensures kept { CanTake V.signal run.now (t + result) kept.new }
     ensures stands { (script : Script) →
-        IsKeptOf V.LANES V.stands_for V.ends V.rails compiled.now.line.now script spans.now
-        steps.now compiled.now.net.now
-        t kept.old →
-        IsKeptOf V.LANES V.stands_for V.ends V.rails compiled.now.line.now script spans.now
-        steps.now compiled.now.net.now
-        (t + result) kept.new }
+        IsKeptOf V.signal V.stands_for run.now script t kept.old →
+        IsKeptOf V.signal V.stands_for run.now script (t + result) kept.new }
 {
     line_laws();
     history_laws();
     gates_stand_for_their_trees();
     elements_stay_in_a_stretch();
     recorded_ticks_suffice();
-    renew_delays::<V>(compiled.line, spans, steps, &mut kept.delays, t);
+    renew_delays::<V>(run, &mut kept.delays, t);
     let moment = Moment {
-        line: compiled.line,
+        line: run.compiled.line,
         delays: kept.delays.list.as_slice(),
         sent: kept.keys.as_slice(),
         t,
     };
-    trace::<V>(compiled.net, &kept.shown, &moment, &mut kept.gates);
+    trace::<V>(run.compiled.net, &kept.shown, &moment, &mut kept.gates);
     hear::<V>(
-        compiled.net,
+        run.compiled.net,
         kept.gates.column.as_slice(),
         &moment,
         &mut kept.gates.dues,
@@ -65,18 +54,18 @@ pub fn take_stretch<V: Timed + Carried>(
     );
     let stays = quiet_ticks(&mut kept.gates.marks, t);
     send_all(
-        compiled.net.key_gates(),
+        run.compiled.net.key_gates(),
         kept.gates.column.as_slice(),
         &mut kept.keys,
-        compiled.line.horizon,
+        run.compiled.line.horizon,
         t,
         stays,
     );
     send_all(
-        compiled.net.trip_gates(),
+        run.compiled.net.trip_gates(),
         kept.gates.column.as_slice(),
         &mut kept.trips,
-        compiled.line.horizon,
+        run.compiled.line.horizon,
         t,
         stays,
     );

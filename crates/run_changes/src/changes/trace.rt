@@ -23,25 +23,25 @@ pub fn trace<V: Timed + Carried>(
     moment: &Moment<'_, V, V::Span>,
     gates: &mut Gates<V::Cells, V, V::Span>,
 )
-    requires can { CanTrace V.LANES V.ends net.now shown.now moment.now }
+    requires can { CanTrace V.signal net.now shown.now moment.now }
     requires gates { AreAtGate net.now moment.now.t 0 gates.old }
     requires horizon { gates.old.marks.horizon ≡ moment.now.line.now.horizon }
     requires reached { moment.now.t ≡ gates.old.marks.next }
     ensures gates { AreAtGate net.now moment.now.t (length net.now.gates) gates.new }
     ensures next { gates.new.marks.next ≡ moment.now.t + 1 }
     ensures horizon { gates.new.marks.horizon ≡ gates.old.marks.horizon }
-    ensures answers { (lane : ℕ) (p : LanePairs) → lane < V.LANES →
-        IsGivenAt V.ends V.rails lane p net.now.gates shown.now moment.now →
-        AllWait V.stands_for V.ends V.rails lane p moment.now.t net.now.gates gates.old →
-        ValuesAgree V.rails lane p.pairs moment.now.t gates.new.column.items }
-    ensures lags { (lane : ℕ) (p : LanePairs) → lane < V.LANES →
-        IsGivenAt V.ends V.rails lane p net.now.gates shown.now moment.now →
-        AllWait V.stands_for V.ends V.rails lane p moment.now.t net.now.gates gates.old →
-        AllLag V.stands_for V.ends V.rails lane p (suc moment.now.t) net.now.gates gates.new }
-    ensures lasts { (p : ℕ → LanePairs) → ((lane : ℕ) → lane < V.LANES →
-        IsGivenAt V.ends V.rails lane (p lane) net.now.gates shown.now moment.now
-        × AllWait V.stands_for V.ends V.rails lane (p lane) moment.now.t net.now.gates gates.old) →
-        (lane i : ℕ) (g : Gate) (due : ℕ) → lane < V.LANES →
+    ensures answers { (lane : ℕ) (p : LanePairs) → lane < V.signal.lanes →
+        IsGivenAt V.signal lane p net.now.gates shown.now moment.now →
+        AllWait V.signal V.stands_for lane p moment.now.t net.now.gates gates.old →
+        ValuesAgree V.signal.rails lane p.pairs moment.now.t gates.new.column.items }
+    ensures lags { (lane : ℕ) (p : LanePairs) → lane < V.signal.lanes →
+        IsGivenAt V.signal lane p net.now.gates shown.now moment.now →
+        AllWait V.signal V.stands_for lane p moment.now.t net.now.gates gates.old →
+        AllLag V.signal V.stands_for lane p (suc moment.now.t) net.now.gates gates.new }
+    ensures lasts { (p : ℕ → LanePairs) → ((lane : ℕ) → lane < V.signal.lanes →
+        IsGivenAt V.signal lane (p lane) net.now.gates shown.now moment.now
+        × AllWait V.signal V.stands_for lane (p lane) moment.now.t net.now.gates gates.old) →
+        (lane i : ℕ) (g : Gate) (due : ℕ) → lane < V.signal.lanes →
         slice_get net.now.gates i ≡ Some g → slice_get gates.new.dues.items i ≡ Some due →
         Lasts (p lane) (moment.now.t - 1) moment.now.t (due - moment.now.t) g }
 {
@@ -56,22 +56,22 @@ fn trace_all<V: Timed + Carried>(
     moment: &Moment<'_, V, V::Span>,
     gates: &mut Gates<V::Cells, V, V::Span>,
 )
-    requires can { CanTrace V.LANES V.ends net.now shown.now moment.now }
+    requires can { CanTrace V.signal net.now shown.now moment.now }
     requires gates { AreAtGate net.now moment.now.t 0 gates.old }
     requires next { gates.old.marks.next ≡ moment.now.t + 1 }
     ensures gates { AreAtGate net.now moment.now.t (length net.now.gates) gates.new }
     ensures next { gates.new.marks.next ≡ moment.now.t + 1 }
     ensures horizon { gates.new.marks.horizon ≡ gates.old.marks.horizon }
-    ensures takes { (lane : ℕ) (p : LanePairs) → lane < V.LANES →
-        IsGivenAt V.ends V.rails lane p net.now.gates shown.now moment.now →
-        IsTraced V.stands_for V.ends V.rails lane p moment.now.t 0 net.now.gates gates.old →
-        IsTraced V.stands_for V.ends V.rails lane p moment.now.t (length net.now.gates)
+    ensures takes { (lane : ℕ) (p : LanePairs) → lane < V.signal.lanes →
+        IsGivenAt V.signal lane p net.now.gates shown.now moment.now →
+        IsTraced V.signal V.stands_for lane p moment.now.t 0 net.now.gates gates.old →
+        IsTraced V.signal V.stands_for lane p moment.now.t (length net.now.gates)
         net.now.gates gates.new }
-    ensures lasts { (p : ℕ → LanePairs) → ((lane : ℕ) → lane < V.LANES →
-        IsGivenAt V.ends V.rails lane (p lane) net.now.gates shown.now moment.now
-        × IsTraced V.stands_for V.ends V.rails lane (p lane) moment.now.t 0 net.now.gates
+    ensures lasts { (p : ℕ → LanePairs) → ((lane : ℕ) → lane < V.signal.lanes →
+        IsGivenAt V.signal lane (p lane) net.now.gates shown.now moment.now
+        × IsTraced V.signal V.stands_for lane (p lane) moment.now.t 0 net.now.gates
         gates.old) →
-        (lane i : ℕ) (g : Gate) (due : ℕ) → lane < V.LANES →
+        (lane i : ℕ) (g : Gate) (due : ℕ) → lane < V.signal.lanes →
         slice_get net.now.gates i ≡ Some g → slice_get gates.new.dues.items i ≡ Some due →
         Lasts (p lane) (moment.now.t - 1) moment.now.t (due - moment.now.t) g }
 {
@@ -91,7 +91,7 @@ fn take_next<V: Timed + Carried>(
     i: u32,
 ) -> u32
     requires inside { i < length net.now.gates }
-    requires can { CanTrace V.LANES V.ends net.now shown.now moment.now }
+    requires can { CanTrace V.signal net.now shown.now moment.now }
     requires gates { AreAtGate net.now moment.now.t i gates.old }
     requires next { gates.old.marks.next ≡ moment.now.t + 1 }
     ensures further { i < result }
@@ -101,15 +101,15 @@ fn take_next<V: Timed + Carried>(
     ensures horizon { gates.new.marks.horizon ≡ gates.old.marks.horizon }
     ensures others { (k due : ℕ) → k < i → slice_get gates.new.dues.items k ≡ Some due →
         (due ≡ 0) ⊎ (slice_get gates.old.dues.items k ≡ Some due) }
-    ensures takes { (lane : ℕ) (p : LanePairs) → lane < V.LANES →
-        IsGivenAt V.ends V.rails lane p net.now.gates shown.now moment.now →
-        IsTraced V.stands_for V.ends V.rails lane p moment.now.t i net.now.gates gates.old →
-        IsTraced V.stands_for V.ends V.rails lane p moment.now.t result net.now.gates gates.new }
-    ensures lasts { (p : ℕ → LanePairs) → ((lane : ℕ) → lane < V.LANES →
-        IsGivenAt V.ends V.rails lane (p lane) net.now.gates shown.now moment.now
-        × IsTraced V.stands_for V.ends V.rails lane (p lane) moment.now.t i net.now.gates
+    ensures takes { (lane : ℕ) (p : LanePairs) → lane < V.signal.lanes →
+        IsGivenAt V.signal lane p net.now.gates shown.now moment.now →
+        IsTraced V.signal V.stands_for lane p moment.now.t i net.now.gates gates.old →
+        IsTraced V.signal V.stands_for lane p moment.now.t result net.now.gates gates.new }
+    ensures lasts { (p : ℕ → LanePairs) → ((lane : ℕ) → lane < V.signal.lanes →
+        IsGivenAt V.signal lane (p lane) net.now.gates shown.now moment.now
+        × IsTraced V.signal V.stands_for lane (p lane) moment.now.t i net.now.gates
         gates.old) →
-        (lane k : ℕ) (g : Gate) (due : ℕ) → lane < V.LANES → i ≤ k → k < result →
+        (lane k : ℕ) (g : Gate) (due : ℕ) → lane < V.signal.lanes → i ≤ k → k < result →
         slice_get net.now.gates k ≡ Some g → slice_get gates.new.dues.items k ≡ Some due →
         Lasts (p lane) (moment.now.t - 1) moment.now.t (due - moment.now.t) g }
 {
@@ -132,7 +132,7 @@ fn evaluate<V: Timed + Carried>(
     i: u32,
 )
     requires inside { i < length net.now.gates }
-    requires can { CanTrace V.LANES V.ends net.now shown.now moment.now }
+    requires can { CanTrace V.signal net.now shown.now moment.now }
     requires gates { AreAtGate net.now moment.now.t i gates.old }
     requires next { gates.old.marks.next ≡ moment.now.t + 1 }
     ensures gates { AreAtGate net.now moment.now.t (i + 1) gates.new }
@@ -140,15 +140,15 @@ fn evaluate<V: Timed + Carried>(
     ensures horizon { gates.new.marks.horizon ≡ gates.old.marks.horizon }
     ensures others { (k due : ℕ) → k < i → slice_get gates.new.dues.items k ≡ Some due →
         (due ≡ 0) ⊎ (slice_get gates.old.dues.items k ≡ Some due) }
-    ensures takes { (lane : ℕ) (p : LanePairs) → lane < V.LANES →
-        IsGivenAt V.ends V.rails lane p net.now.gates shown.now moment.now →
-        IsTraced V.stands_for V.ends V.rails lane p moment.now.t i net.now.gates gates.old →
-        IsTraced V.stands_for V.ends V.rails lane p moment.now.t (i + 1) net.now.gates gates.new }
-    ensures lasts { (p : ℕ → LanePairs) → ((lane : ℕ) → lane < V.LANES →
-        IsGivenAt V.ends V.rails lane (p lane) net.now.gates shown.now moment.now
-        × IsTraced V.stands_for V.ends V.rails lane (p lane) moment.now.t i net.now.gates
+    ensures takes { (lane : ℕ) (p : LanePairs) → lane < V.signal.lanes →
+        IsGivenAt V.signal lane p net.now.gates shown.now moment.now →
+        IsTraced V.signal V.stands_for lane p moment.now.t i net.now.gates gates.old →
+        IsTraced V.signal V.stands_for lane p moment.now.t (i + 1) net.now.gates gates.new }
+    ensures lasts { (p : ℕ → LanePairs) → ((lane : ℕ) → lane < V.signal.lanes →
+        IsGivenAt V.signal lane (p lane) net.now.gates shown.now moment.now
+        × IsTraced V.signal V.stands_for lane (p lane) moment.now.t i net.now.gates
         gates.old) →
-        (lane : ℕ) (g : Gate) (due : ℕ) → lane < V.LANES → slice_get net.now.gates i ≡ Some g →
+        (lane : ℕ) (g : Gate) (due : ℕ) → lane < V.signal.lanes → slice_get net.now.gates i ≡ Some g →
         slice_get gates.new.dues.items i ≡ Some due →
         Lasts (p lane) (moment.now.t - 1) moment.now.t (due - moment.now.t) g }
 {

@@ -19,6 +19,7 @@ use model_timing::Step;
 use net_gates::Compiled;
 use net_gates::laws::gates_stand_for_their_trees;
 use run_signal::{Carried, Signal, Timed, Track};
+use run_step::Run;
 use std::alloc::Global;
 
 /// What each terminal keys, and whether it trips, in the order of the line.
@@ -41,7 +42,7 @@ pub fn run_tracks<V: Timed + Carried>(
 ) -> Result<Tracks<V>, Memory>
     requires spans { length spans.now ≡ param_count compiled.now.line.now }
     requires ascending { IsTrue (ascend steps.now) }
-    requires delayed { AreDelayed V.LANES V.ends compiled.now.line.now spans.now steps.now }
+    requires delayed { AreDelayed V.signal compiled.now.line.now spans.now steps.now }
     // There is a value for each terminal and tick.
     ensures keys { IfOk result (λ tracks.
         AreSent (length compiled.now.net.now.keys) compiled.now.line.now.horizon
@@ -50,22 +51,27 @@ pub fn run_tracks<V: Timed + Carried>(
         AreSent (length compiled.now.net.now.trips) compiled.now.line.now.horizon
         compiled.now.line.now.horizon tracks.trips.items) }
     // In each lane keys and trips are the one interval history over the lane's box,
-    ensures history { IfOk result (λ tracks. (lane : ℕ) → lane < V.LANES →
-        IsTheHistory compiled.now.line.now script.now (lane_box V.ends compiled.now.line.now
-        spans.now steps.now lane)
-        (tracks_history V.rails lane tracks.keys.items tracks.trips.items)) }
+    ensures history { IfOk result (λ tracks. (lane : ℕ) → lane < V.signal.lanes →
+        IsTheHistory compiled.now.line.now script.now
+        (lane_box V.signal.ends compiled.now.line.now spans.now steps.now lane)
+        (tracks_history V.signal.rails lane tracks.keys.items tracks.trips.items)) }
     // and where it holds one choice alone, they are the history at that choice.
-    ensures exact { IfOk result (λ tracks. (lane : ℕ) (choice : Choice) → lane < V.LANES →
-        IsPoint compiled.now.line.now (lane_box V.ends compiled.now.line.now spans.now steps.now
-        lane) choice →
+    ensures exact { IfOk result (λ tracks. (lane : ℕ) (choice : Choice) → lane < V.signal.lanes →
+        IsPoint compiled.now.line.now
+        (lane_box V.signal.ends compiled.now.line.now spans.now steps.now lane) choice →
         IsExactAt compiled.now.line.now script.now choice
-        (tracks_history V.rails lane tracks.keys.items tracks.trips.items)) }
+        (tracks_history V.signal.rails lane tracks.keys.items tracks.trips.items)) }
 {
     line_laws();
     gates_stand_for_their_trees();
     history_laws();
-    let mut kept = fresh_kept::<V>(alloc, compiled, script, spans)?;
-    take_until::<V>(compiled, spans, steps, &mut kept, compiled.line.horizon);
+    let run = Run {
+        compiled,
+        spans,
+        steps,
+    };
+    let mut kept = fresh_kept::<V>(alloc, &run, script)?;
+    take_until::<V>(&run, &mut kept, compiled.line.horizon);
     Ok(Tracks {
         keys: kept.keys,
         trips: kept.trips,
@@ -83,7 +89,7 @@ pub fn run_tracks_until<V: Timed + Carried>(
 ) -> Result<Tracks<V>, Memory>
     requires spans { length spans.now ≡ param_count compiled.now.line.now }
     requires ascending { IsTrue (ascend steps.now) }
-    requires delayed { AreDelayed V.LANES V.ends compiled.now.line.now spans.now steps.now }
+    requires delayed { AreDelayed V.signal compiled.now.line.now spans.now steps.now }
     requires inside { until ≤ compiled.now.line.now.horizon }
     // There is a value for each terminal and each tick below.
     ensures keys { IfOk result (λ tracks. ReachTick (length compiled.now.net.now.keys) until
@@ -91,17 +97,22 @@ pub fn run_tracks_until<V: Timed + Carried>(
     ensures trips { IfOk result (λ tracks.
         ReachTick (length compiled.now.net.now.trips) until tracks.trips.items) }
     // Where a lane's box holds one choice alone, at these ticks they are each history at it.
-    ensures exact { IfOk result (λ tracks. (lane : ℕ) (choice : Choice) → lane < V.LANES →
-        IsPoint compiled.now.line.now (lane_box V.ends compiled.now.line.now spans.now steps.now
-        lane) choice →
+    ensures exact { IfOk result (λ tracks. (lane : ℕ) (choice : Choice) → lane < V.signal.lanes →
+        IsPoint compiled.now.line.now
+        (lane_box V.signal.ends compiled.now.line.now spans.now steps.now lane) choice →
         AreExactBelow compiled.now.line.now script.now choice until
-        (tracks_history V.rails lane tracks.keys.items tracks.trips.items)) }
+        (tracks_history V.signal.rails lane tracks.keys.items tracks.trips.items)) }
 {
     line_laws();
     gates_stand_for_their_trees();
     history_laws();
-    let mut kept = fresh_kept::<V>(alloc, compiled, script, spans)?;
-    take_until::<V>(compiled, spans, steps, &mut kept, until);
+    let run = Run {
+        compiled,
+        spans,
+        steps,
+    };
+    let mut kept = fresh_kept::<V>(alloc, &run, script)?;
+    take_until::<V>(&run, &mut kept, until);
     Ok(Tracks {
         keys: kept.keys,
         trips: kept.trips,
@@ -110,31 +121,23 @@ pub fn run_tracks_until<V: Timed + Carried>(
 
 // Takes ticks until this one is reached, and answers the tick that comes next.
 fn take_until<V: Timed + Carried>(
-    compiled: &Compiled<'_>,
-    spans: &[V::Span],
-    steps: &[Step<V::Span>],
+    run: &Run<'_, V::Span>,
     kept: &mut Kept<V::Cells, V, V::Span>,
     until: u32,
 ) -> u32
-    requires can { CanRun V.LANES V.ends compiled.now.line.now spans.now steps.now }
-    requires kept { CanTake V.LANES V.ends compiled.now.line.now compiled.now.net.now spans.now
-        steps.now 0 kept.old }
-    requires inside { until ≤ compiled.now.line.now.horizon }
+    requires can { CanRun V.signal run.now }
+    requires kept { CanTake V.signal run.now 0 kept.old }
+    requires inside { until ≤ run.now.compiled.now.line.now.horizon }
     ensures reached { until ≤ result }
-    ensures fits { result ≤ compiled.now.line.now.horizon }
-    ensures kept { CanTake V.LANES V.ends compiled.now.line.now compiled.now.net.now spans.now
-        steps.now result kept.new }
+    ensures fits { result ≤ run.now.compiled.now.line.now.horizon }
+    ensures kept { CanTake V.signal run.now result kept.new }
     ensures stands { (script : Script) →
-        IsKeptOf V.LANES V.stands_for V.ends V.rails compiled.now.line.now script spans.now
-        steps.now compiled.now.net.now
-        0 kept.old →
-        IsKeptOf V.LANES V.stands_for V.ends V.rails compiled.now.line.now script spans.now
-        steps.now compiled.now.net.now
-        result kept.new }
+        IsKeptOf V.signal V.stands_for run.now script 0 kept.old →
+        IsKeptOf V.signal V.stands_for run.now script result kept.new }
 {
     let mut t = 0;
     while t < until {
-        t += take_stretch::<V>(compiled, spans, steps, kept, t);
+        t += take_stretch::<V>(run, kept, t);
     }
     t
 }

@@ -11,6 +11,7 @@ use Rattle.model_line.specs.{declared.script.SeenSpan.SeenSpan, declared.line.Li
 use Rattle.model_line.specs.declared.script.Script.{Script}
 use Rattle.model_logic.specs.Choice.{LeastFromOne, pair_world_of}
 use Rattle.run_step.specs.LaneBox.{ends_in}
+use Rattle.run_signal.specs.Signals.{SignalOf}
 use Rattle.run_ticks.specs.cases.Given.{AreDelays, CanReceive, IsWorldAt, holds, span_box, spans_at}
 use Rattle.run_ticks.specs.declared.cases.delays.Delay.{Delay}
 
@@ -34,15 +35,15 @@ any_held test hold of is [] = refl
 any_held test hold of is (s ∷ rest) =
     held_step test hold of is s rest (hold s) refl (any_held test hold of is rest)
 
-module _ {S : Type 0} (ends : S → ℕ → Ends) (line : Line) (spans : List S)
+module _ {V S : Type 0} (signal : SignalOf V S) (line : Line) (spans : List S)
     (delays : List (Delay S)) (are : AreDelays line spans delays) where
   span_is : (lane c : ℕ) (d : Delay S) → slice_get delays c ≡ Some d
-      → ends d.span lane ≡ (span_box ends line spans lane).delay c 0
-  span_is lane c d at = sym (ap (ends_in ends lane) (are.span c d at))
+      → signal.ends d.span lane ≡ (span_box signal.ends line spans lane).delay c 0
+  span_is lane c d at = sym (ap (ends_in signal.ends lane) (are.span c d at))
 
   pub world_at : (lane t : ℕ) (script : Script)
-      → IsWorldAt ends lane (spans_at t script.spans.items) delays
-      (pair_world_of line script (span_box ends line spans lane)) t
+      → IsWorldAt signal.ends lane (spans_at t script.spans.items) delays
+      (pair_world_of line script (span_box signal.ends line spans lane)) t
   unfolding pair_world_of
   world_at lane t script = record {
     seen = λ p. any_held (shows p t) (holds t) (λ s. is_of_place p s.what) (λ s. refl)
@@ -52,10 +53,10 @@ module _ {S : Type 0} (ends : S → ℕ → Ends) (line : Line) (spans : List S)
     channels = record { from = are.from; delay = λ c d at. span_is lane c d at };
   }
 
-  pub can_receive : (lanes t : ℕ) → t < line.horizon
-      → ((lane : ℕ) → lane < lanes → LeastFromOne line (span_box ends line spans lane))
-      → CanReceive lanes ends line delays
-  can_receive lanes t early delayed =
+  pub can_receive : (t : ℕ) → t < line.horizon
+      → ((lane : ℕ) → lane < signal.lanes → LeastFromOne line (span_box signal.ends line spans lane))
+      → CanReceive signal line delays
+  can_receive t early delayed =
       let channel : (c : ℕ) (d : Delay S) → slice_get delays c ≡ Some d → c < channel_count line =
       λ c d at. subst (λ (m : ℕ). c < m) are.count (slice_get_within delays c d at) in
       record {

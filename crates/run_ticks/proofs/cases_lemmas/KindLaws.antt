@@ -1,6 +1,7 @@
 -- A gate whose kind is known.
+use Rattle.run_signal.specs.Signals.{SignalOf}
 use Rattle.std.proofs.Common.{◌≡◌, ℕ, List, sym, ◌∙◌, ap, subst}
-use Rattle.model_history.specs.Rails.{Rails, Ends, rails_not, rails_and, rails_or}
+use Rattle.model_history.specs.Rails.{Rails, rails_not, rails_and, rails_or}
 use Rattle.model_logic.specs.PairMean.{PairWorld, PairSignals}
 use Rattle.net_gates.specs.{declared.gate.GateId.GateId, declared.gate.Gate.Gate}
 use Rattle.net_gates.specs.declared.gate.Gate.TheVariants.{Not, And, Or}
@@ -12,13 +13,13 @@ pub has_by : {C S V : Type 0} (gate kind : Gate) (cell : Cell C V S) → gate �
     → HasCell kind cell → HasCell gate cell
 has_by gate kind cell is has = subst (λ (g : Gate). HasCell g cell) (sym is) has
 
-pub stands_by : {C S V : Type 0} (stands_for : C → S → S → ℕ → List Rails → Type 0)
-    (ends : S → ℕ → Ends) (rails : V → ℕ → Rails) (lane : ℕ) (w : PairWorld) (u : GateSignals)
+pub stands_by : {C S V : Type 0} (signal : SignalOf V S)
+    (stands_for : C → S → S → ℕ → List Rails → Type 0) (lane : ℕ) (w : PairWorld) (u : GateSignals)
     (t : ℕ) (gate kind : Gate) (cell : Cell C V S) → gate ≡ kind
-    → CellStands stands_for ends rails lane w u t kind cell
-    → CellStands stands_for ends rails lane w u t gate cell
-stands_by stands_for ends rails lane w u t gate kind cell is stand =
-    subst (λ (g : Gate). CellStands stands_for ends rails lane w u t g cell) (sym is) stand
+    → CellStands signal stands_for lane w u t kind cell
+    → CellStands signal stands_for lane w u t gate cell
+stands_by signal stands_for lane w u t gate kind cell is stand =
+    subst (λ (g : Gate). CellStands signal stands_for lane w u t g cell) (sym is) stand
 
 module _ (w : PairWorld) (keys : PairSignals) (u : GateSignals) (t : ℕ) (gate : Gate)
     (y : Rails) where

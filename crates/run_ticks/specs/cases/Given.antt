@@ -1,4 +1,5 @@
 -- What a net is given at a tick: what its script shows and loses, and its delays.
+use Rattle.run_signal.specs.Signals.{SignalOf}
 use Rattle.std.specs.Prelude.{◌≡◌, ◌≤◌, ◌<◌, ◌&&◌, ℕ, Bool, List, Some, length, slice_get}
 use Rattle.std.specs.Prelude.{nat_le, nat_lt}
 use Rattle.std.specs.List.{filter}
@@ -48,9 +49,9 @@ pub record IsWorldAt {S : Type 0} (ends : S → ℕ → Ends) (lane : ℕ) (pres
   pub channels : AreDelaysOf ends lane delays w t
 
 -- what is sent can be received: each delay is of a terminal, and at least 1 in each lane
-pub record CanReceive {S : Type 0} (lanes : ℕ) (ends : S → ℕ → Ends) (line : Line)
+pub record CanReceive {V S : Type 0} (signal : SignalOf V S) (line : Line)
     (delays : List (Delay S)) : Type 0 where
   pub count : length delays ≡ channel_count line
   pub from : (c : ℕ) (d : Delay S) → slice_get delays c ≡ Some d → d.from < terminal_count line
   pub later : (c : ℕ) (d : Delay S) → slice_get delays c ≡ Some d
-      → (lane : ℕ) → lane < lanes → 1 ≤ (ends d.span lane).least
+      → (lane : ℕ) → lane < signal.lanes → 1 ≤ (signal.ends d.span lane).least

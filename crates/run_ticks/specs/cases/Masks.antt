@@ -1,4 +1,5 @@
 -- Levels that are put in place of a gate's own value.
+use Rattle.run_signal.specs.Signals.{SignalOf}
 use Rattle.std.specs.Prelude.{◌≡◌, ◌<◌, ◌+◌, ◌*◌, ℕ, Bool, true, false, Option, None, Some}
 use Rattle.std.specs.Prelude.{length, slice_get}
 use Rattle.model_history.specs.Rails.{Rails, both, rails_not, rails_and, rails_or}
@@ -32,14 +33,14 @@ pub record HaveRows {V : Type 0} (gates horizon : ℕ) (masks : Masks V) : Type 
 
 -- the masks put these levels in the first lanes, each in place of a gate's own value: where a gate
 -- has no row, none
-pub record PutLevels {V : Type 0} (rails : V → ℕ → Rails) (lanes : ℕ) (level : Levels)
+pub record PutLevels {V S : Type 0} (signal : SignalOf V S) (level : Levels)
     (trees : ℕ → Tree) (horizon : ℕ) (masks : Masks V) : Type 0 where
-  pub none : (i lane t : ℕ) → lane < lanes → t < horizon
+  pub none : (i lane t : ℕ) → lane < signal.lanes → t < horizon
       → slice_get masks.rows.items i ≡ Some None → level lane (trees i) t ≡ None
-  pub some : (i row lane t : ℕ) (mask : Mask V) → lane < lanes → t < horizon
+  pub some : (i row lane t : ℕ) (mask : Mask V) → lane < signal.lanes → t < horizon
       → slice_get masks.rows.items i ≡ Some (Some row)
       → slice_get masks.masks.items (t * masks.count + row) ≡ Some mask
-      → IsMask rails lane (level lane (trees i) t) mask
+      → IsMask signal.rails lane (level lane (trees i) t) mask
 
 -- the tree is a timed element
 abbrev pub IsTimer : Tree → Type 0

@@ -1,6 +1,7 @@
 -- What a run under levels is.
+use Rattle.run_signal.specs.Signals.{SignalOf}
 use Rattle.std.specs.Prelude.{◌≡◌, ◌<◌, ℕ, Bool, List, Option, length}
-use Rattle.model_history.specs.Rails.{Rails, Ends}
+use Rattle.model_history.specs.Rails.{Rails}
 use Rattle.model_line.specs.Parameters.{param_count, terminal_count}
 use Rattle.model_line.specs.{declared.line.Line.Line}
 use Rattle.model_logic.specs.Choice.{LeastFromOne}
@@ -14,17 +15,18 @@ use Rattle.run_ticks.specs.declared.cases.mask.Masks.{Masks}
 
 -- a run has a span for each parameter of the line that leaves every delay one tick at least, and
 -- rows of masks for its net
-pub record CanRunUnder {V S : Type 0} (lanes : ℕ) (ends : S → ℕ → Ends) (line : Line) (net : NetOf)
+pub record CanRunUnder {V S : Type 0} (signal : SignalOf V S) (line : Line) (net : NetOf)
     (spans : List S) (masks : Masks V) : Type 0 where
   pub one_each : length spans ≡ param_count line
-  pub delayed : (lane : ℕ) → lane < lanes → LeastFromOne line (span_box ends line spans lane)
+  pub delayed : (lane : ℕ) → lane < signal.lanes
+      → LeastFromOne line (span_box signal.ends line spans lane)
   pub rows : HaveRows (length net.gates) line.horizon masks
 
 -- the masks put these levels, in place of timed elements alone
-pub record PutUnder {V : Type 0} (rails : V → ℕ → Rails) (lanes : ℕ) (level : Levels) (line : Line)
+pub record PutUnder {V S : Type 0} (signal : SignalOf V S) (level : Levels) (line : Line)
     (net : NetOf) (masks : Masks V) : Type 0 where
-  pub put : PutLevels rails lanes level (formula_of net.gates) line.horizon masks
-  pub timers : (lane : ℕ) → lane < lanes → AreOfTimers (level lane)
+  pub put : PutLevels signal level (formula_of net.gates) line.horizon masks
+  pub timers : (lane : ℕ) → lane < signal.lanes → AreOfTimers (level lane)
 
 -- each key is the pair of its tree under levels, over the keys themselves
 abbrev pub AreKeysUnder : Line → (Tree → ℕ → Option Bool) → PairWorld → PairSignals → Type 0

@@ -1,6 +1,7 @@
 -- What a run holds before and at a tick: cells, keys that were sent, and values.
+use Rattle.run_signal.specs.Signals.{SignalOf}
 use Rattle.std.specs.Prelude.{◌≡◌, ℕ, Bool, List, Option, Some, length, slice_get}
-use Rattle.model_history.specs.Rails.{Rails, Ends}
+use Rattle.model_history.specs.Rails.{Rails}
 use Rattle.run_signal.specs.SentKeys.{SentKeys}
 use Rattle.model_logic.specs.PairMean.{PairWorld, PairSignals}
 use Rattle.model_logic.specs.Tree.{Tree}
@@ -30,20 +31,20 @@ pub record AreToldUnder (level : Tree → ℕ → Option Bool) (trees : ℕ → 
 
 -- in a lane, before tick t: the pairs u and v of the gates are told at t, the keys were sent, and
 -- the cells stand
-pub record IsReady {C S V : Type 0} (stands_for : C → S → S → ℕ → List Rails → Type 0)
-    (ends : S → ℕ → Ends) (rails : V → ℕ → Rails) (lane : ℕ) (level : Tree → ℕ → Option Bool)
+pub record IsReady {C S V : Type 0} (signal : SignalOf V S)
+    (stands_for : C → S → S → ℕ → List Rails → Type 0) (lane : ℕ) (level : Tree → ℕ → Option Bool)
     (w : PairWorld) (keys : PairSignals) (u v : GateSignals) (t : ℕ) (gates : List Gate)
     (tracks : List (SentKeys V)) (cells : List (Cell C V S)) : Type 0 where
   pub told : AreToldUnder level (formula_of gates) w keys u v t gates
-  pub sent : KeysSent rails lane keys t tracks
-  pub stand : AllStand stands_for ends rails lane w u t gates cells
+  pub sent : KeysSent signal.rails lane keys t tracks
+  pub stand : AllStand signal stands_for lane w u t gates cells
 
 -- in a lane, before tick t: the keys were sent, the cells stand, and both lists of values are told
-pub record LaneStands {C S V : Type 0} (stands_for : C → S → S → ℕ → List Rails → Type 0)
-    (ends : S → ℕ → Ends) (rails : V → ℕ → Rails) (lane : ℕ) (w : PairWorld) (keys : PairSignals)
+pub record LaneStands {C S V : Type 0} (signal : SignalOf V S)
+    (stands_for : C → S → S → ℕ → List Rails → Type 0) (lane : ℕ) (w : PairWorld) (keys : PairSignals)
     (u v : GateSignals) (t : ℕ) (gates : List Gate) (sent : List (SentKeys V))
     (cells : List (Cell C V S)) (values owns : List V) : Type 0 where
-  pub keys_sent : KeysSent rails lane keys t sent
-  pub cells_stand : AllStand stands_for ends rails lane w u t gates cells
-  pub told : ValuesTold rails lane u (length gates) values
-  pub own_told : ValuesTold rails lane v (length gates) owns
+  pub keys_sent : KeysSent signal.rails lane keys t sent
+  pub cells_stand : AllStand signal stands_for lane w u t gates cells
+  pub told : ValuesTold signal.rails lane u (length gates) values
+  pub own_told : ValuesTold signal.rails lane v (length gates) owns

@@ -28,11 +28,11 @@ fn raw_answer<V: Carried>(
 ) -> V
     requires exists { channel < channel_count line.now }
     requires tick { t < line.now.horizon }
-    requires delays { CanReceive V.LANES V.ends line.now delays.now }
+    requires delays { CanReceive V.signal line.now delays.now }
     requires sent { AreSent (terminal_count line.now) line.now.horizon t sent.now }
-    ensures { (lane : ℕ) (w : PairWorld) (keys : PairSignals) → lane < V.LANES →
-        AreDelaysOf V.ends lane delays.now w t → KeysSent V.rails lane keys t sent.now →
-        V.rails result lane ≡ rails_delayed (keys (w.from channel)) (w.delay channel t) t }
+    ensures { (lane : ℕ) (w : PairWorld) (keys : PairSignals) → lane < V.signal.lanes →
+        AreDelaysOf V.signal.ends lane delays.now w t → KeysSent V.signal.rails lane keys t sent.now →
+        V.signal.rails result lane ≡ rails_delayed (keys (w.from channel)) (w.delay channel t) t }
 {
     history_laws();
     let delay = &delays[channel as usize];
@@ -62,18 +62,18 @@ pub fn answer<V: Timed + Carried>(
     requires arguments { HasArguments (length earlier.now) gate.now }
     requires cell { HasCell gate.now cell.old }
     requires tick { t < line.now.horizon }
-    requires delays { CanReceive V.LANES V.ends line.now delays.now }
+    requires delays { CanReceive V.signal line.now delays.now }
     requires sent { AreSent (terminal_count line.now) line.now.horizon t sent.now }
     ensures shape { HasCell gate.now cell.new }
-    ensures stands { (lane : ℕ) (w : PairWorld) (u : GateSignals) → lane < V.LANES →
-        ValuesAgree V.rails lane u t earlier.now →
-        CellStands V.stands_for V.ends V.rails lane w u t gate.now cell.old →
-        CellStands V.stands_for V.ends V.rails lane w u (suc t) gate.now cell.new }
+    ensures stands { (lane : ℕ) (w : PairWorld) (u : GateSignals) → lane < V.signal.lanes →
+        ValuesAgree V.signal.rails lane u t earlier.now →
+        CellStands V.signal V.stands_for lane w u t gate.now cell.old →
+        CellStands V.signal V.stands_for lane w u (suc t) gate.now cell.new }
     ensures answers { (lane : ℕ) (w : PairWorld) (keys : PairSignals) (u : GateSignals) →
-        lane < V.LANES → IsWorldAt V.ends lane present.now delays.now w t →
-        KeysSent V.rails lane keys t sent.now → ValuesAgree V.rails lane u t earlier.now →
-        CellStands V.stands_for V.ends V.rails lane w u t gate.now cell.old →
-        V.rails result lane ≡ kind_pair w keys u gate.now t }
+        lane < V.signal.lanes → IsWorldAt V.signal.ends lane present.now delays.now w t →
+        KeysSent V.signal.rails lane keys t sent.now → ValuesAgree V.signal.rails lane u t earlier.now →
+        CellStands V.signal V.stands_for lane w u t gate.now cell.old →
+        V.signal.rails result lane ≡ kind_pair w keys u gate.now t }
 {
     recorded_ticks_suffice();
     match *gate {

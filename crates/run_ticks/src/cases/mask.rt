@@ -24,8 +24,9 @@ pub struct Masks<V: Copy> {
 
 /// A value with what a mask puts.
 pub fn put<V: Signal>(own: V, mask: &Mask<V>) -> V
-    ensures { (lane : ℕ) → lane < V.LANES → V.rails result lane
-        ≡ put_rails (V.rails own lane) (V.rails mask.now.off lane) (V.rails mask.now.on lane) }
+    ensures { (lane : ℕ) → lane < V.signal.lanes → V.signal.rails result lane
+        ≡ put_rails (V.signal.rails own lane) (V.signal.rails mask.now.off lane)
+        (V.signal.rails mask.now.on lane) }
 {
     own.and(mask.off.not()).or(mask.on)
 }
@@ -36,9 +37,9 @@ pub fn mask_at<V: Signal>(masks: &Masks<V>, gates: u32, horizon: u32, gate: u32,
     requires gate { gate < gates }
     requires tick { t < horizon }
     requires short { horizon ≤ 4000 }
-    ensures { (level : Levels) (trees : ℕ → Tree) (lane : ℕ) → lane < V.LANES →
-        PutLevels V.rails V.LANES level trees horizon masks.now →
-        IsMask V.rails lane (level lane (trees gate) t) result }
+    ensures { (level : Levels) (trees : ℕ → Tree) (lane : ℕ) → lane < V.signal.lanes →
+        PutLevels V.signal level trees horizon masks.now →
+        IsMask V.signal.rails lane (level lane (trees gate) t) result }
 {
     match masks.rows[gate as usize] {
         None => Mask {

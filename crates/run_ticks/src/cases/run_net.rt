@@ -24,21 +24,19 @@ pub fn run_under<V: Timed + Carried>(
     spans: &[V::Span],
     masks: &Masks<V>,
 ) -> Result<UnderWaves<V>, Memory>
-    requires { CanRunUnder V.LANES V.ends compiled.now.line.now compiled.now.net.now spans.now
-        masks.now }
+    requires { CanRunUnder V.signal compiled.now.line.now compiled.now.net.now spans.now masks.now }
     ensures width { IfOk result (λ waves. waves.width ≡ length compiled.now.net.now.gates) }
     ensures horizon { IfOk result (λ waves. waves.horizon ≡ compiled.now.line.now.horizon) }
     // In each lane each gate has the pairs of its tree over the lane's box, under the levels that
     // the masks put, wherever the keys are pairs of theirs.
     ensures pairs { IfOk result (λ waves. (lane : ℕ) (level : Levels) (keys : PairSignals) →
-        lane < V.LANES → PutUnder V.rails V.LANES level compiled.now.line.now compiled.now.net.now
-        masks.now →
-        let w : PairWorld
-        = pair_world_of compiled.now.line.now script.now (span_box V.ends compiled.now.line.now
-        spans.now lane) in
+        lane < V.signal.lanes →
+        PutUnder V.signal level compiled.now.line.now compiled.now.net.now masks.now →
+        let w : PairWorld = pair_world_of compiled.now.line.now script.now
+        (span_box V.signal.ends compiled.now.line.now spans.now lane) in
         AreKeysUnder compiled.now.line.now (level lane) w keys →
-        ArePairsUnder V.rails lane (level lane) w keys compiled.now.line.now compiled.now.net.now
-        waves) }
+        ArePairsUnder V.signal.rails lane (level lane) w keys compiled.now.line.now
+        compiled.now.net.now waves) }
 {
     let told = run_ticks::<V>(alloc, compiled, script, spans, masks)?;
     Ok(UnderWaves::new(

@@ -33,8 +33,7 @@ pub fn run_ticks<V: Timed + Carried>(
     spans: &[V::Span],
     masks: &Masks<V>,
 ) -> Result<Told<V>, Memory>
-    requires { CanRunUnder V.LANES V.ends compiled.now.line.now compiled.now.net.now spans.now
-        masks.now }
+    requires { CanRunUnder V.signal compiled.now.line.now compiled.now.net.now spans.now masks.now }
     ensures count { IfOk result (λ told.
         length told.values.items ≡ compiled.now.line.now.horizon * length
         compiled.now.net.now.gates) }
@@ -42,20 +41,22 @@ pub fn run_ticks<V: Timed + Carried>(
         length told.owns.items ≡ compiled.now.line.now.horizon * length
         compiled.now.net.now.gates) }
     ensures told { IfOk result (λ told. (lane : ℕ) (level : Levels) (keys : PairSignals) →
-        lane < V.LANES → PutUnder V.rails V.LANES level compiled.now.line.now compiled.now.net.now
-        masks.now →
-        let w : PairWorld
-        = pair_world_of compiled.now.line.now script.now (span_box V.ends compiled.now.line.now
-        spans.now lane) in
+        lane < V.signal.lanes →
+        PutUnder V.signal level compiled.now.line.now compiled.now.net.now masks.now →
+        let w : PairWorld = pair_world_of compiled.now.line.now script.now
+        (span_box V.signal.ends compiled.now.line.now spans.now lane) in
         AreKeysUnder compiled.now.line.now (level lane) w keys →
-        ValuesTold V.rails lane (under_pairs (level lane) w keys compiled.now.net.now.gates)
+        ValuesTold V.signal.rails lane (under_pairs (level lane) w keys compiled.now.net.now.gates)
         (length compiled.now.net.now.gates) told.values.items
-        × ValuesTold V.rails lane (own_pairs (level lane) w keys compiled.now.net.now.gates)
+        × ValuesTold V.signal.rails lane (own_pairs (level lane) w keys compiled.now.net.now.gates)
         (length compiled.now.net.now.gates) told.owns.items) }
 {
     gates_stand_for_their_trees();
     let width = compiled.net.len() as usize;
-    let mut cells = fresh_cells::<V>(alloc, compiled.net, compiled.line, spans)?;
+    let mut own_column: Vec<V> = Vec::with_capacity(alloc, width)?;
+    let mut column: Vec<V> = Vec::with_capacity(alloc, width)?;
+    let mut owns: Vec<V> = Vec::with_capacity(alloc, compiled.line.horizon as usize * width)?;
+    let mut values: Vec<V> = Vec::with_capacity(alloc, compiled.line.horizon as usize * width)?;
     let delays = fresh_delays::<V>(alloc, compiled.line, spans)?;
     let mut present = Vec::with_capacity(alloc, script.spans.len())?;
     let mut sent = fresh_tracks::<V>(
@@ -63,10 +64,7 @@ pub fn run_ticks<V: Timed + Carried>(
         compiled.net.key_gates().len() as u32,
         compiled.line.horizon,
     )?;
-    let mut own_column: Vec<V> = Vec::with_capacity(alloc, width)?;
-    let mut column: Vec<V> = Vec::with_capacity(alloc, width)?;
-    let mut owns: Vec<V> = Vec::with_capacity(alloc, compiled.line.horizon as usize * width)?;
-    let mut values: Vec<V> = Vec::with_capacity(alloc, compiled.line.horizon as usize * width)?;
+    let mut cells = fresh_cells::<V>(alloc, compiled.net, compiled.line, spans)?;
     for t in 0..compiled.line.horizon {
         show_at(&script.spans, &mut present, t);
         walk::<V>(

@@ -38,7 +38,7 @@ pub fn walk<V: Timed + Carried>(
     requires cells { HaveCells net.now.gates cells.old.items }
     requires rows { HaveRows (length net.now.gates) line.now.horizon masks.now }
     requires tick { t < line.now.horizon }
-    requires delays { CanReceive V.LANES V.ends line.now delays.now }
+    requires delays { CanReceive V.signal line.now delays.now }
     requires sent { AreSent (terminal_count line.now) line.now.horizon t sent.now }
     ensures room { length net.now.gates ≤ vec_capacity column.new }
     ensures own_room { length net.now.gates ≤ vec_capacity owns.new }
@@ -46,20 +46,20 @@ pub fn walk<V: Timed + Carried>(
     ensures own_count { length owns.new.items ≡ length net.now.gates }
     ensures cells { HaveCells net.now.gates cells.new.items }
     ensures stands { (lane : ℕ) (level : Levels) (w : PairWorld) (keys : PairSignals)
-        (u v : GateSignals) → lane < V.LANES →
-        PutLevels V.rails V.LANES level (formula_of net.now.gates) line.now.horizon masks.now →
-        IsWorldAt V.ends lane present.now delays.now w t →
-        IsReady V.stands_for V.ends V.rails lane (level lane) w keys u v t net.now.gates sent.now
+        (u v : GateSignals) → lane < V.signal.lanes →
+        PutLevels V.signal level (formula_of net.now.gates) line.now.horizon masks.now →
+        IsWorldAt V.signal.ends lane present.now delays.now w t →
+        IsReady V.signal V.stands_for lane (level lane) w keys u v t net.now.gates sent.now
         cells.old.items →
-        AllStand V.stands_for V.ends V.rails lane w u (suc t) net.now.gates cells.new.items }
+        AllStand V.signal V.stands_for lane w u (suc t) net.now.gates cells.new.items }
     ensures answers { (lane : ℕ) (level : Levels) (w : PairWorld) (keys : PairSignals)
-        (u v : GateSignals) → lane < V.LANES →
-        PutLevels V.rails V.LANES level (formula_of net.now.gates) line.now.horizon masks.now →
-        IsWorldAt V.ends lane present.now delays.now w t →
-        IsReady V.stands_for V.ends V.rails lane (level lane) w keys u v t net.now.gates sent.now
+        (u v : GateSignals) → lane < V.signal.lanes →
+        PutLevels V.signal level (formula_of net.now.gates) line.now.horizon masks.now →
+        IsWorldAt V.signal.ends lane present.now delays.now w t →
+        IsReady V.signal V.stands_for lane (level lane) w keys u v t net.now.gates sent.now
         cells.old.items →
-        ValuesAgree V.rails lane u t column.new.items
-        × ValuesAgree V.rails lane v t owns.new.items }
+        ValuesAgree V.signal.rails lane u t column.new.items
+        × ValuesAgree V.signal.rails lane v t owns.new.items }
 {
     column.clear();
     owns.clear();

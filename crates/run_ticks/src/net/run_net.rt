@@ -16,6 +16,7 @@ use model_timing::Step;
 use net_gates::Compiled;
 use net_gates::laws::gates_stand_for_their_trees;
 use run_signal::{Carried, Timed};
+use run_step::Run;
 use std::alloc::Global;
 
 /// Runs the net of a line over a script, from tick 0 to the horizon. A span stands for each
@@ -30,35 +31,40 @@ pub fn run<V: Timed + Carried>(
 ) -> Result<Waves<V>, Memory>
     requires spans { length spans.now ≡ param_count compiled.now.line.now }
     requires ascending { IsTrue (ascend steps.now) }
-    requires delayed { AreDelayed V.LANES V.ends compiled.now.line.now spans.now steps.now }
+    requires delayed { AreDelayed V.signal compiled.now.line.now spans.now steps.now }
     ensures waves { IfOk result (λ waves. AreWavesOf compiled.now.net.now compiled.now.line.now
         waves) }
     // In each lane each gate has the pairs of its tree over the lane's box and the run's own keys,
-    ensures pairs { IfOk result (λ waves. (lane : ℕ) → lane < V.LANES →
-        HavePairs V.rails lane compiled.now.line.now script.now
-        (lane_box V.ends compiled.now.line.now spans.now steps.now lane) compiled.now.net.now
-        waves) }
+    ensures pairs { IfOk result (λ waves. (lane : ℕ) → lane < V.signal.lanes →
+        HavePairs V.signal.rails lane compiled.now.line.now script.now
+        (lane_box V.signal.ends compiled.now.line.now spans.now steps.now lane)
+        compiled.now.net.now waves) }
     // keys and trips are the one interval history over that box,
-    ensures history { IfOk result (λ waves. (lane : ℕ) → lane < V.LANES →
-        IsTheHistory compiled.now.line.now script.now (lane_box V.ends compiled.now.line.now
-        spans.now steps.now lane)
-        (waves_history V.rails lane waves)) }
+    ensures history { IfOk result (λ waves. (lane : ℕ) → lane < V.signal.lanes →
+        IsTheHistory compiled.now.line.now script.now
+        (lane_box V.signal.ends compiled.now.line.now spans.now steps.now lane)
+        (waves_history V.signal.rails lane waves)) }
     // the waves cover the history of each choice within it, gate by gate,
-    ensures covers { IfOk result (λ waves. (lane : ℕ) → lane < V.LANES →
-        CoverChoices V.rails lane compiled.now.line.now script.now
-        (lane_box V.ends compiled.now.line.now spans.now steps.now lane) compiled.now.net.now
-        waves) }
+    ensures covers { IfOk result (λ waves. (lane : ℕ) → lane < V.signal.lanes →
+        CoverChoices V.signal.rails lane compiled.now.line.now script.now
+        (lane_box V.signal.ends compiled.now.line.now spans.now steps.now lane)
+        compiled.now.net.now waves) }
     // and where it holds one choice alone, keys and trips are the history at that choice.
-    ensures exact { IfOk result (λ waves. (lane : ℕ) (choice : Choice) → lane < V.LANES →
-        IsPoint compiled.now.line.now (lane_box V.ends compiled.now.line.now spans.now steps.now
-        lane) choice →
-        IsExactAt compiled.now.line.now script.now choice (waves_history V.rails lane waves)) }
+    ensures exact { IfOk result (λ waves. (lane : ℕ) (choice : Choice) → lane < V.signal.lanes →
+        IsPoint compiled.now.line.now
+        (lane_box V.signal.ends compiled.now.line.now spans.now steps.now lane) choice →
+        IsExactAt compiled.now.line.now script.now choice (waves_history V.signal.rails lane waves)) }
 {
     line_laws();
     gates_stand_for_their_trees();
     let width = compiled.net.len();
     let keys = Vec::from_slice(alloc, compiled.net.key_gates())?;
     let trips = Vec::from_slice(alloc, compiled.net.trip_gates())?;
-    let values = run_ticks::<V>(alloc, compiled, script, spans, steps)?;
+    let run = Run {
+        compiled,
+        spans,
+        steps,
+    };
+    let values = run_ticks::<V>(alloc, &run, script)?;
     Ok(Waves::new(width, compiled.line.horizon, values, keys, trips))
 }

@@ -22,21 +22,23 @@ pub fn walk<V: Timed + Carried>(
     requires room { length net.now.gates ≤ vec_capacity column.old }
     requires names { NamedFrom moment.now.line.now 0 net.now.gates }
     requires cells { HaveCells net.now.gates cells.old.items }
-    requires moment { CanHear V.LANES V.ends moment.now }
+    requires moment { CanHear V.signal moment.now }
     ensures room { length net.now.gates ≤ vec_capacity column.new }
     ensures count { length column.new.items ≡ length net.now.gates }
     ensures cells { HaveCells net.now.gates cells.new.items }
     ensures stands { (lane : ℕ) (w : PairWorld) (keys : PairSignals) (u : GateSignals) →
-        lane < V.LANES → IsWorldAt V.ends lane present.now moment.now.delays.now w moment.now.t →
-        IsReady V.stands_for V.ends V.rails lane w keys u moment.now.t net.now.gates
+        lane < V.signal.lanes →
+        IsWorldAt V.signal.ends lane present.now moment.now.delays.now w moment.now.t →
+        IsReady V.signal V.stands_for lane w keys u moment.now.t net.now.gates
         moment.now.sent.now cells.old.items →
-        AllStand V.stands_for V.ends V.rails lane w u (suc moment.now.t) net.now.gates
+        AllStand V.signal V.stands_for lane w u (suc moment.now.t) net.now.gates
         cells.new.items }
     ensures answers { (lane : ℕ) (w : PairWorld) (keys : PairSignals) (u : GateSignals) →
-        lane < V.LANES → IsWorldAt V.ends lane present.now moment.now.delays.now w moment.now.t →
-        IsReady V.stands_for V.ends V.rails lane w keys u moment.now.t net.now.gates
+        lane < V.signal.lanes →
+        IsWorldAt V.signal.ends lane present.now moment.now.delays.now w moment.now.t →
+        IsReady V.signal V.stands_for lane w keys u moment.now.t net.now.gates
         moment.now.sent.now cells.old.items →
-        ValuesAgree V.rails lane u moment.now.t column.new.items }
+        ValuesAgree V.signal.rails lane u moment.now.t column.new.items }
 {
     column.clear();
     for i in 0..net.len() {

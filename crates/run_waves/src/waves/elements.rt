@@ -53,11 +53,11 @@ fn steady_within<V: Timed>(cells: &V::Cells, input: V, most: u32) -> u32
     requires { 1 ≤ most }
     ensures within { result ≤ most }
     ensures steady { (pickup dropout : V.Span) (inputs : ℕ → List Rails) →
-        ((lane : ℕ) → lane < V.LANES →
+        ((lane : ℕ) → lane < V.signal.lanes →
         V.stands_for cells.now pickup dropout lane (inputs lane)) →
-        StaysSteady V.LANES
-        (λ lane k. next_rails (V.ends pickup lane) (V.ends dropout lane)
-        (inputs lane) (V.rails input lane) k)
+        StaysSteady V.signal.lanes
+        (λ lane k. next_rails (V.signal.ends pickup lane) (V.signal.ends dropout lane)
+        (inputs lane) (V.signal.rails input lane) k)
         result }
 {
     if most == 1 {
@@ -72,14 +72,14 @@ fn first_answer<V: Timed>(cells: &mut V::Cells, input: V, count: u32) -> V
     requires some { 1 ≤ count }
     requires limited { count ≤ 4000 }
     ensures stands { (pickup dropout : V.Span) (lane : ℕ) (inputs : List Rails) →
-        lane < V.LANES → V.stands_for cells.old pickup dropout lane inputs →
+        lane < V.signal.lanes → V.stands_for cells.old pickup dropout lane inputs →
         V.stands_for cells.new pickup dropout lane
-        (inputs ++ replicate count (V.rails input lane)) }
+        (inputs ++ replicate count (V.signal.rails input lane)) }
     ensures timed { (pickup dropout : V.Span) (lane : ℕ) (inputs : List Rails) →
-        lane < V.LANES → V.stands_for cells.old pickup dropout lane inputs →
-        V.rails result lane
-        ≡ rails_timed (rails_at (inputs ++ V.rails input lane ∷ []))
-        (V.ends pickup lane) (V.ends dropout lane) (length inputs) }
+        lane < V.signal.lanes → V.stands_for cells.old pickup dropout lane inputs →
+        V.signal.rails result lane
+        ≡ rails_timed (rails_at (inputs ++ V.signal.rails input lane ∷ []))
+        (V.signal.ends pickup lane) (V.signal.ends dropout lane) (length inputs) }
 {
     let answer = V::tick(cells, input);
     if count > 1 {

@@ -12,11 +12,11 @@ returns-in_err-reading-clause-said g c =
     let inv = c.rows.invariant in
     let told = err_from_is_err_and c.from_residual-in_err-reading.result
     c.from_residual-in_err-reading.ensures.1 in
-    let row = rw c.if-branch.true at c.in_ok-next.ensures in
+    let row = rw c.if-branch.true at c.in_ok-next_row.ensures in
     let some : 0 < length all = omega (arith, inv.later, inv.number, ap length row.0) in
     rw (told.1, told.2) (record_fails file (g.R.RecordReader.said c.rows.reading) c.rows.n
-    (left_of c.rows.rows) (fields_of c.next.new.row) (left_of c.next.new.rows)
-    (after_header file all) g.R.RecordReader.is_memory c.in_err-reading.field-0.0 row.0
+    (left_of c.rows.rows) (fields_of c.next_row.new.row) (left_of c.next_row.new.rows)
+    (after_header file all) c.in_err-reading.field-0.0 row.0
     c.in_err-reading.ensures (inv.rest ∙ sym (some_records file all some)))
 
 pub rows-preserved : goal.rows-preserved
@@ -24,15 +24,15 @@ rows-preserved g c =
     let file = g.R.RecordReader.file c.args.reader.now in
     let said = g.R.RecordReader.said in
     let inv = c.rows.invariant in
-    let row = rw c.if-branch.true at c.in_ok-next.ensures in
+    let row = rw c.if-branch.true at c.in_ok-next_row.ensures in
     record {
       reading = row.1;
       later = omega (arith, inv.later);
       number = omega (arith, inv.number, ap length row.0);
       before = c.requires.goes_on c.rows.n (said c.rows.reading) (said c.in_ok-reading.reading)
-          (fields_of c.next.new.row) inv.before c.in_ok-reading.ensures;
+          (fields_of c.next_row.new.row) inv.before c.in_ok-reading.ensures;
       rest = record_passes file (said c.rows.reading) c.rows.n (left_of c.rows.rows)
-          (fields_of c.next.new.row) (left_of c.next.new.rows) _ (said c.in_ok-reading.reading)
+          (fields_of c.next_row.new.row) (left_of c.next_row.new.rows) _ (said c.in_ok-reading.reading)
           row.0 c.in_ok-reading.ensures inv.rest;
     }
 
@@ -41,7 +41,7 @@ returns-clause-said g c =
     let file = g.R.RecordReader.file c.args.reader.now in
     let all = left_of c.args.rows in
     let inv = c.rows.invariant in
-    let none = rw c.if-branch.false at c.in_ok-next.ensures in
+    let none = rw c.if-branch.false at c.in_ok-next_row.ensures in
     let more = c.if-n-eq2.false in
     let some : 0 < length all = omega (arith, inv.later, inv.number, ap length none) in
     some_records file all some ∙ sym inv.rest

@@ -20,8 +20,8 @@ returns-in-Ok c =
     (rw c.as_slice-3.ensures.value at c.in-Ok.ensures)
     (rw (c.as_slice-in-Ok.ensures.value, c.as_slice-in-Ok-2.ensures.value) at c.text_over.ensures)
 
-pub returns : goal.returns
-returns c =
+pub returns-in-Err-Fault : goal.returns-in-Err-Fault
+returns-in-Err-Fault c =
     let line = c.args.line.now in
     let m = map_values c.args.map.now in
     let files = c.args.files.now in
@@ -29,7 +29,7 @@ returns c =
     let is : placed ≡ placed_of line m (map files_values files) =
     placed_are line m files placed (map bytes_values c.in_ok-bytes.bytes.items) c.in_ok-bytes.ensures
     (rw (c.as_slice.ensures.value, c.as_slice-2.ensures.value) at c.in_ok-placed.ensures) in
-    over_none c.args.work line m (map files_values files) placed c.in-Err.fault.place c.in-Err.fault.why
-    c.fault_halt.result is
-    (rw c.as_slice-3.ensures.value at c.in-Err.ensures)
-    (rw c.as_slice-in-Err.ensures.value at c.fault_halt.ensures)
+    over_none c.args.work line m (map files_values files) placed c.in-Err-Fault.fault.place
+    c.in-Err-Fault.fault.why c.fault_halt.result is
+    (rw (c.as_slice-3.ensures.value, c.in-Err-Fault.field-0-is) at c.in-Err-Fault.ensures)
+    (rw (c.as_slice-in-Err-Fault.ensures.value, c.in-Err-Fault.field-0-is) at c.fault_halt.ensures)

@@ -3,7 +3,7 @@ use Rattle.std.proofs.lemmas.Result.{err_from_is_err_and}
 use Rattle.file_records.specs.map.Maps.{MapValues, map_of, map_values}
 use Rattle.file_records.specs.declared.map.{fault.MapFault.MapFault, source.Signal.Signal}
 use Rattle.call_records.specs.Course.{after_map, map_file, over, recorders_course, unless_untold, untold_by}
-use Rattle.call_records.specs.Faults.{is_map_memory, map_refusal, untold_refusal}
+use Rattle.call_records.specs.Faults.{map_refusal, untold_refusal}
 use Rattle.call_records.specs.{Files.Runs, Read.text_seen}
 use Rattle.call_records.proofs.Running.{reader_stops, runs_next, runs_refused, runs_stops}
 use Rattle.call_records.proofs.top.text_for_line.Goals as goal
@@ -35,7 +35,7 @@ returns-in_err-map g c =
     let stops = rw c.as_slice.ensures.value at c.in_err-map.ensures.reads in
     rw (p.1, p.2) (runs_next held (map_file ask.map.now)
     (λ b. after_map ask.work ask.map.now line (map_of line b)) bytes f.1 f.2 (Err why) c1 c2 c2 f.0
-    (reader_stops held is_map_memory map_refusal (map_of line bytes)
+    (reader_stops held map_refusal (map_of line bytes)
     (after_map ask.work ask.map.now line) (λ e. refl) why c2 stops))
 
 pub returns-in-Some : goal.returns-in-Some

@@ -3,7 +3,7 @@ use Rattle.std.proofs.lemmas.Result.{err_from_is_err_and}
 use Rattle.file_line.specs.{LineFiles.line_of, Lines.LineValues, Lines.line_values}
 use Rattle.file_line.specs.declared.fault.LineFault.{LineFault}
 use Rattle.call_records.specs.Course.{after_line, line_file, with_line}
-use Rattle.call_records.specs.Faults.{is_line_memory, line_refusal}
+use Rattle.call_records.specs.Faults.{line_refusal}
 use Rattle.call_records.specs.{Files.Runs, Read.text_seen}
 use Rattle.call_records.proofs.Running.{reader_stops, runs_made, runs_next, runs_stops}
 use Rattle.call_records.proofs.top.text_of.Goals as goal
@@ -33,7 +33,7 @@ returns-in_err-line g c =
     let stops = rw c.as_slice.ensures.value at c.in_err-line.ensures in
     rw (p.1, p.2) (runs_next held (line_file ask.line.now)
     (λ b. after_line ask.work ask.map.now (line_of b)) bytes f.1 f.2 (Err why) c1 c2 c2 f.0
-    (reader_stops held is_line_memory line_refusal (line_of bytes) (after_line ask.work ask.map.now)
+    (reader_stops held line_refusal (line_of bytes) (after_line ask.work ask.map.now)
     (λ e. refl) why c2 stops))
 
 pub returns : goal.returns

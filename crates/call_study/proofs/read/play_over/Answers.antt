@@ -18,7 +18,7 @@ returns-in_err-timings c =
     rw (p.1, p.2) (timings_halt (timings_of loaded.study.line c.args.timings.now)
     (answer_by (play_of c.args.form (as_read (studied loaded)) c.args.timings.now
     (option_copied c.args.script) (option_copied c.args.timing)))
-    c.in_err-timings.field-0.0 c.in_err-timings.ensures.said (λ is. rw is (refl, refl)))
+    c.in_err-timings.field-0.0 c.in_err-timings.ensures.said (λ fault is. rw is (refl, refl)))
 
 pub returns : goal.returns
 returns c =

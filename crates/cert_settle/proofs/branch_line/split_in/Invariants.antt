@@ -1,7 +1,7 @@
 use Rattle.std.proofs.Common.{◌≢◌, ◌<◌, ℕ}
 use Rattle.model_logic.specs.Choice.{Box}
 use Rattle.model_line.specs.NamesByNumber.{parameter_name}
-use Rattle.model_settle.specs.CaseTrees.{CanSplit}
+use Rattle.model_logic.specs.Boxes.{CanSplit}
 use Rattle.judge_split.specs.Parts.{IsPart}
 use Rattle.cert_settle.specs.Grammar.{split_line}
 use Rattle.cert_settle.proofs.branch_line.split_in.Given as goal

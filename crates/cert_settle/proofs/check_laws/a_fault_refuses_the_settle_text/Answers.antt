@@ -4,7 +4,7 @@ use Rattle.cert_settle.proofs.OneSettleFault.{of_text_or_script}
 use Rattle.cert_settle.proofs.check_laws.a_fault_refuses_the_settle_text.Goals as goal
 
 pub returns : goal.returns
-returns c = λ line scripts bytes counts fault some h.
+returns c = λ line scripts bytes counts fault h.
     let law = c.texts_and_results_are_told_apart.ensures in
-    refuses _ _ _ _ _ scripts _ _ (law.texts line scripts bytes) (law.results line) all_verdicts
-    counts fault (of_text_or_script line scripts bytes fault some h)
+    refuses _ _ _ _ scripts _ _ (law.texts line scripts bytes) (law.results line) all_verdicts
+    counts fault (of_text_or_script line scripts bytes fault h)

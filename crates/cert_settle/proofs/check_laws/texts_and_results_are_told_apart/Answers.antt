@@ -13,10 +13,9 @@ returns c =
         none = λ parts n. lines.refused line scripts parts bytes n;
       };
       results = λ line. record {
-        refused = λ script results f some. results_refused
-            (record { one = of_no.one; refused = of_no.refused }) line script results f some;
-        one = λ script results f g some other. results_once
-            (record { one = of_no.one; refused = of_no.refused }) line script results f g some
-            other;
+        refused = λ script results f. results_refused
+            (record { one = of_no.one; refused = of_no.refused }) line script results f;
+        one = λ script results f g. results_once
+            (record { one = of_no.one; refused = of_no.refused }) line script results f g;
       };
     }

@@ -19,7 +19,7 @@ returns-in_err-bytes c =
     missing c.args.line.now box later text c.args.number c.steps.steps.items c.steps.bytes.now
     c.steps.lines.rest.now c.steps.at c.steps.lines.number
     (c.steps.invariant.read box later text begins) c.steps.invariant.number step
-    c.in_err-bytes.field-0.0 c.in-Some.ensures.0 follows c.in-Some.ensures.1.1
+    c.in_err-bytes.field-0.0.line c.in-Some.ensures.0 follows c.in-Some.ensures.1.1
     c.in_err-bytes.ensures.0 c.in_err-bytes.ensures.1)
 
 pub steps-preserved : goal.steps-preserved

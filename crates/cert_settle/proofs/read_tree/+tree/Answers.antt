@@ -1,7 +1,7 @@
 use Rattle.std.proofs.Common.{ℕ, List, [], ◌∷◌, ◌++◌, map, arith}
 use Rattle.std.proofs.lemmas.Result.{err_from_is_err_and, MatchResult-weaker}
 use Rattle.model_logic.specs.Choice.{declared_box}
-use Rattle.model_settle.specs.CaseTrees.{lower_half, upper_half}
+use Rattle.model_logic.specs.Boxes.{lower_half, upper_half}
 use Rattle.judge_cases.specs.declared.node.CaseNode.TheVariants as node
 use Rattle.base_text.specs.lines.ReadLaws.{later_fault}
 use Rattle.judge_cases.specs.Nodes.{preorder}

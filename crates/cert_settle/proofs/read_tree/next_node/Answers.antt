@@ -1,8 +1,8 @@
 use Rattle.std.proofs.Common.{ℕ, ◌∷◌, sym, subst}
 use Rattle.std.proofs.lemmas.Result.{err_from_is_err_and}
-use Rattle.base_text.specs.{declared.lines.fault.TextFault.TextFault, lines.Grammar.IsFault}
+use Rattle.base_text.specs.lines.Lines.{LeavesAt}
 use Rattle.base_text.specs.lines.LineLaws.{absent, refused, goes_one}
-use Rattle.cert_settle.specs.Grammar.{Stands, opens, roots, Root, says_node, grammar_of}
+use Rattle.cert_settle.specs.Grammar.{Stands, opens, roots, Root, says_node}
 use Rattle.cert_settle.proofs.TreeLaws.{not_root}
 use Rattle.cert_settle.proofs.read_tree.next_node.Goals as goal
 
@@ -13,8 +13,8 @@ returns-in_err-bytes c =
     let line = c.args.line.now in
     rw (p.1, p.2) (λ box others later part.
     let root : Root = record { depth = c.args.limits.depth; box = box } in
-    let P : TextFault → Type 0 = λ f. IsFault (grammar_of line)
-    (roots c.args.limits.room root others ∷ later) c.args.lines.now.rest.now a f in
+    let P : ℕ → Type 0 = λ n. LeavesAt (Stands line) opens
+    (roots c.args.limits.room root others ∷ later) c.args.lines.now.rest.now a n in
     subst P (sym c.in_err-bytes.ensures.0) (absent (Stands line) opens
     (roots c.args.limits.room root others) later c.args.lines.now.rest.now a
     c.in_err-bytes.ensures.1))

@@ -1,9 +1,8 @@
-use Rattle.std.proofs.Common.{[], sym, ◌∙◌}
+use Rattle.std.proofs.Common.{[], refl, sym, ◌∙◌}
 use Rattle.std.proofs.lemmas.List.{append-nil}
-use Rattle.std.proofs.lemmas.Result.{err_from_is_err_and}
 use Rattle.judge_cases.specs.Nodes.{preorder}
 use Rattle.cert_settle.specs.CaseParts.{whole_part}
-use Rattle.cert_settle.proofs.ResultLaws.{tree_few, whole_fault}
+use Rattle.cert_settle.proofs.ResultLaws.{tree_few, whole_not_shown}
 use Rattle.cert_settle.proofs.result.check_tree.Goals as goal
 
 pub walk-requires-clause-few : goal.walk-requires-clause-few
@@ -22,23 +21,24 @@ walk-requires-clause-tree c =
       branches = r.branches;
     }
 
-pub returns-in_err-walk : goal.returns-in_err-walk
-returns-in_err-walk c =
-    let p = err_from_is_err_and c.from_residual-in_err-walk.result c.from_residual-in_err-walk.ensures.1 in
+pub returns-in-Err-Fault : goal.returns-in-Err-Fault
+returns-in-Err-Fault c =
     let line = c.args.of.now.compiled.line.now in
-    let r = c.requires.tree in
-    rw (p.1, p.2) (whole_fault line c.args.of.now.script.now c.args.of.now.terminal c.args.nodes.now r.tree
-    c.in_err-walk.field-0.0 r.are
-    (c.in_err-walk.ensures (whole_part line) r.tree [] c.in_ok-view.ensures r.branches
-    (r.are ∙ sym (append-nil (preorder r.tree)))))
+    let r = c.requires.tree in (
+      refl,
+      whole_not_shown line c.args.of.now.script.now c.args.of.now.terminal c.args.nodes.now r.tree
+          c.in-Err-Fault.not_shown r.are
+          (rw c.in-Err-Fault.field-0-is at (c.in-Err-Fault.ensures (whole_part line) r.tree []
+          c.in_ok-view.ensures r.branches (r.are ∙ sym (append-nil (preorder r.tree))))),
+    )
 
-pub returns : goal.returns
-returns c =
+pub returns-in-Ok : goal.returns-in-Ok
+returns-in-Ok c =
     let line = c.args.of.now.compiled.line.now in
     let r = c.requires.tree in
     record {
       tree = r.tree;
       are = r.are;
-      sound = (c.in_ok-walk.ensures (whole_part line) r.tree [] c.in_ok-view.ensures r.branches
+      sound = (c.in-Ok.ensures (whole_part line) r.tree [] c.in_ok-view.ensures r.branches
           (r.are ∙ sym (append-nil (preorder r.tree)))).sound;
     }

@@ -5,6 +5,7 @@ use Rattle.model_line.specs.Parameters.{terminal_count}
 use Rattle.model_logic.specs.Histories.{MeetsBy}
 use Rattle.model_timing.specs.{declared.step.Step.Step, Timing.TimingValues, Choice.timing_choice}
 use Rattle.run_changes.specs.changes.PlayedTracks.{played, shown_is}
+use Rattle.run_signal.specs.Levels.{level_signal}
 use Rattle.run_step.specs.{LaneBox.lane_box, Played.ends_of_tick, Runs.AreDelayed}
 use Rattle.run_step.specs.Runs.{IsPoint}
 use Rattle.cert_claims.specs.check.Refutations.{IsMetAt}
@@ -16,9 +17,9 @@ pub run_tracks-requires-clause-delayed : goal.run_tracks-requires-clause-delayed
 run_tracks-requires-clause-delayed c =
     let line = c.args.compiled.now.line.now in
     let steps : List (Step ℕ) = c.args.steps.now in
-    let P : List ℕ → Type 0 = λ l. AreDelayed 1 ends_of_tick line l steps in
+    let P : List ℕ → Type 0 = λ l. AreDelayed level_signal line l steps in
     subst P (sym (c.as_slice.ensures.value ∙ c.in_ok-numbers.ensures))
-    (c.a_timing_is_one_choice.ensures.delayed line (timing_of steps c.args.values.now) 1
+    (c.a_timing_is_one_choice.ensures.delayed line (timing_of steps c.args.values.now)
     c.requires.inside)
 
 pub returns : goal.returns

@@ -1,11 +1,12 @@
 use Rattle.std.proofs.Common.{◌≡◌, ◌+◌, ◌++◌, ℕ, List, length, drop, refl, sym, subst, arith}
 use Rattle.std.proofs.lemmas.Result.{err_from_is_err_and, MatchResult-weaker}
 use Rattle.std.specs.Prelude.{slice_index_or}
+use Rattle.base_memory.specs.{Gives.OfFault, declared.stopped.Stopped.Stopped}
 use Rattle.judge_cases.specs.declared.node.CaseNode.{CaseNode}
 use Rattle.judge_cases.specs.declared.node.CaseNode.TheVariants as node
 use Rattle.judge_cases.specs.Nodes.{preorder}
-use Rattle.cert_settle.specs.declared.fault.ResultFault.{ResultFault}
-use Rattle.cert_settle.specs.{declared.tree.Passed.Passed, Walks.IsWalkFault}
+use Rattle.cert_settle.specs.declared.tree.{NotShown.NotShown, Passed.Passed}
+use Rattle.cert_settle.specs.Walks.{IsNotShownFrom}
 use Rattle.cert_settle.proofs.WalkLaws.{root_at, within, two_next, few_leaves, can_stand}
 use Rattle.cert_settle.proofs.WalkLaws.{walked_leaf, fault_leaf, walked_two, fault_first}
 use Rattle.cert_settle.proofs.WalkLaws.{fault_second}
@@ -123,7 +124,7 @@ returns-in_err-between t c =
     let nodes : List CaseNode = c.args.nodes.now in
     let at : ℕ = c.args.passed.nodes in
     let root : CaseNode = slice_index_or nodes at node.Yes in
-    let fault : ResultFault = c.in_err-between.field-0.0 in
+    let why : Stopped NotShown = c.in_err-between.field-0.0 in
     let views = rw c.in-Some.is at (c.in_ok-first.ensures part is) in
     let two = two_next line part tree root views.first views.second after nodes at branches are
     (root_at tree after nodes at node.Yes root are refl) views.are in
@@ -132,8 +133,8 @@ returns-in_err-between t c =
     (subst (λ (n : ℕ). drop n nodes ≡ preorder two.first ++ (preorder two.second ++ after))
     (sym c.after_branch.ensures.nodes) two.first_next) in
     fault_first line script k part views.first views.second tree after nodes at two
-    c.args.passed.leaves fault
-    (subst (λ (n : ℕ). IsWalkFault line script k views.first two.first n fault)
+    c.args.passed.leaves why
+    (subst (λ (n : ℕ). OfFault (IsNotShownFrom line script k views.first two.first n) why)
     c.after_branch.ensures.leaves found))
 
 pub walk-requires-2 : goal.walk-requires-2
@@ -212,7 +213,7 @@ returns t c = λ part tree after is branches are.
     (λ walked above. walked_two line script k part views.first views.second tree after nodes at two
     c.args.passed below between walked c.after_branch.ensures.nodes c.after_branch.ensures.leaves one
     above)
-    (λ fault above. subst (λ (n : ℕ). IsWalkFault line script k part tree n fault)
+    (λ why above. subst (λ (n : ℕ). OfFault (IsNotShownFrom line script k part tree n) why)
     c.after_branch.ensures.leaves
     (fault_second line script k part views.first views.second tree after nodes at two below between
-    fault one above))
+    why one above))

@@ -36,6 +36,3 @@ returns-in-Ok c =
           (map results_in parts) (λ others. c.a_settle_text_has_one_meaning.ensures line scripts (map results_in parts) others
           bytes is) c.check_scripts.result c.check_scripts.ensures.told;
     }
-
-pub returns-in-Err : goal.returns-in-Err
-returns-in-Err c = record { exact = c.of_text.ensures; sound = tt }

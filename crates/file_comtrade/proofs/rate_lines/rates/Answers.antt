@@ -1,13 +1,13 @@
 use Rattle.std.proofs.Common.{[]}
 use Rattle.std.proofs.lemmas.Result.{err_from_is_err_and}
 use Rattle.file_comtrade.specs.Config.{rate_after}
-use Rattle.file_comtrade.specs.{Gives.is_memory, Views.texts}
+use Rattle.file_comtrade.specs.{Views.texts}
 use Rattle.file_comtrade.proofs.Steps.{steps_fail}
 use Rattle.file_comtrade.proofs.rate_lines.rates.Goals as goal
 
 pub returns-in_err-rates-clause-said : goal.returns-in_err-rates-clause-said
 returns-in_err-rates-clause-said c =
     let told = err_from_is_err_and c.from_residual.result c.from_residual.ensures.1 in
-    rw (told.1, told.2) (steps_fail (rate_after (texts c.args.lines.now) c.args.at c.args.count) [] is_memory
+    rw (told.1, told.2) (steps_fail (rate_after (texts c.args.lines.now) c.args.at c.args.count) []
     c.in_err-rates.field-0.0 c.loop-k.k c.args.many (c.loop-k.rates.items)
     c.loop-k-test.true c.loop-k.invariant.said c.in_err-rates.ensures.said)

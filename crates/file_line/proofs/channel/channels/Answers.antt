@@ -5,7 +5,7 @@ use Rattle.std.proofs.lemmas.Result.{err_from_is_err_and}
 use Rattle.std.proofs.lemmas.List.{drop_all}
 use Rattle.file_line.specs.{Lines.LineValues, Lines.values_of, Lines.items_at}
 use Rattle.file_line.specs.ChannelTables.{channel_at}
-use Rattle.file_line.proofs.Readings.{fails_ends}
+use Rattle.base_memory.specs.CheckLaws.{fails_ends}
 use Rattle.file_line.proofs.{ItemSteps.items_more, ChannelSteps.channel_at-ok}
 use Rattle.file_line.proofs.ChannelPairs.{channels_few, channels_more}
 use Rattle.file_line.proofs.channel.channels.Goals as goal

@@ -13,3 +13,14 @@ loop-k-preserved c =
     (known.held.one line script c.loop-k.k (declared_box line) (pair_history c.in_ok-waves.waves)
     (known.lines.deadlines line script c.requires.fits) (known.lines.inside.declared line) (omega arith)
     c.in_ok-waves.ensures.history.is (c.is_held.ensures.held c.if-not-is_held.false))
+
+pub returns-then-not-is_held : goal.returns-then-not-is_held
+returns-then-not-is_held c = record {
+  exists = omega arith;
+  lost = λ over.
+      let held = c.is_held.ensures.not_held (over.held (pair_history c.in_ok-waves.waves)
+      c.in_ok-waves.ensures.history.is) in
+      let lost = c.if-not-is_held.true in
+      cc;
+  before = c.loop-k.invariant;
+}

@@ -10,7 +10,7 @@ returns-then-c-len c = λ lane inside.
     let t = length keys in
     let past : c.args.c ≤ t = omega (arith, c.if-c-len.true, c.len.ensures.length) in
     let u = rails_at (in_lane bit_rails lane keys) in
-    sym (rails_read 64 bit_rails keys _ c.at.result lane c.at.ensures)
+    sym (rails_read bit_rails keys _ c.at.result lane c.at.ensures)
     ∙ ap (λ (n : ℕ). u (n - c.args.c)) c.len-then-c-len.ensures.length
     ∙ sym (c.one_delay_reads_one_tick.ensures.rails u c.args.c t past)
 

@@ -16,6 +16,6 @@ loop-c-preserved c =
       past = past;
       on = ap (λ (n : ℕ). must_of (u (n - c.loop-c.c))) (sym c.len-else-c-len.ensures.length)
           ∙ ap must_of
-          (rails_read 1 (λ v _. tern_rails v) keys _ c.at.result 0 c.at.ensures)
+          (rails_read (λ v _. tern_rails v) keys _ c.at.result 0 c.at.ensures)
           ∙ sym c.must.ensures ∙ c.if-not-must.false;
     })

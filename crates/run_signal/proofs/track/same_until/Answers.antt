@@ -9,7 +9,7 @@ loop-end-init g c = record {
   later = omega arith;
   limited = let inside = c.requires.inside in omega (arith, inside);
   stays = λ lane inside.
-      stays_once g.V.Signal.LANES g.V.Signal.rails c.args.values.now c.args.t lane c.requires.inside;
+      stays_once g.V.Signal.signal c.args.values.now c.args.t lane c.requires.inside;
 }
 
 pub loop-end-preserved : goal.loop-end-preserved
@@ -26,7 +26,7 @@ loop-end-preserved g c =
       later = omega (arith, later);
       limited = omega (arith, inside);
       stays = λ lane there.
-          stays_more g.V.Signal.LANES g.V.Signal.rails values c.index-values-t.result
+          stays_more g.V.Signal.signal values c.index-values-t.result
           c.index-values-end.result c.args.t end lane first last
           (c.same.ensures c.if-not-same.false lane there)
           (c.loop-end.invariant.stays lane there);

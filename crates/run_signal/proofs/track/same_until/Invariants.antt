@@ -8,8 +8,9 @@ abbrev pub invariant-loop-end : goal.invariant-loop-end
 invariant-loop-end g l = record {
   later : l.t < l.end;
   limited : l.end ≤ length l.values;
-  stays : (lane : ℕ) → lane < g.V.Signal.LANES
-      → StaysUntil (rails_at (in_lane g.V.Signal.rails lane l.values)) l.t (length l.values) l.end;
+  stays : (lane : ℕ) → lane < g.V.Signal.signal.lanes
+      → StaysUntil (rails_at (in_lane g.V.Signal.signal.rails lane l.values)) l.t (length l.values)
+      l.end;
 }
 
 abbrev pub decreases-loop-end : goal.decreases-loop-end

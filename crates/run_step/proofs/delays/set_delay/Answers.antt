@@ -1,6 +1,6 @@
-use Rattle.std.proofs.Common.{◌≡◌, ◌≤◌, Some, refl, sym, ◌∙◌, ap, arith, length}
-use Rattle.std.proofs.lemmas.Option.{slice_get_read}
-use Rattle.std.specs.Prelude.{slice_get, option_map}
+use Rattle.std.proofs.Common.{◌≡◌, ◌≤◌, Some, sym, ◌∙◌, ap, arith}
+use Rattle.std.proofs.lemmas.Option.{slice_get-get_or}
+use Rattle.std.specs.Prelude.{slice_get, option_map, get_or}
 use Rattle.model_timing.specs.Timing.{number_at}
 use Rattle.run_step.specs.LaneBox.{ends_in}
 use Rattle.run_step.specs.InputLaws.{number_keeps}
@@ -8,14 +8,14 @@ use Rattle.run_step.proofs.delays.set_delay.Goals as goal
 
 pub returns-clause-stands : goal.returns-clause-stands
 returns-clause-stands g c =
-    let spans = c.args.spans.now in
-    let steps = c.args.steps.now in
+    let spans = c.args.run.now.spans.now in
+    let steps = c.args.run.now.steps.now in
     let i = c.args.delay.now.param in
-    let own = c.index-spans-delay.result in
-    let ends = g.V.Signal.ends in
+    let own = get_or spans i c.index-run-delay.result in
+    let ends = g.V.Signal.signal.ends in
     let less : c.lesser.result ≤ c.steps_stay-stays.result = c.lesser.ensures.first in
     let at : slice_get spans i ≡ Some own =
-    slice_get_read spans (length spans) i own refl c.requires.exists c.index-spans-delay.is in
+    slice_get-get_or spans i c.index-run-delay.result c.requires.exists in
     record {
       holds = λ lane r low high.
           ap (λ s. ends s lane) c.value_at-span.ensures

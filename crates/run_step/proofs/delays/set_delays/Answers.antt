@@ -18,18 +18,20 @@ pub set_delay-requires-clause-exists : goal.set_delay-requires-clause-exists
 set_delay-requires-clause-exists g c =
     let delays = c.loop-channel.delays.items in
     let at : slice_get delays c.loop-channel.channel ≡ Some c.index_mut.result.now =
-    slice_get_read delays (channel_count c.args.line.now) c.loop-channel.channel
+    slice_get_read delays (channel_count c.args.run.now.compiled.now.line.now)
+    c.loop-channel.channel
     c.index_mut.result.now (sym c.loop-channel.invariant.are.count)
     (omega (arith, c.loop-channel-test.true, c.len-channel-end.ensures, c.requires.delays.count))
     c.index_mut.ensures.value in
-    subst (λ (n : ℕ). c.index_mut.result.now.param < n) (sym c.requires.spans)
+    subst (λ (n : ℕ). c.index_mut.result.now.param < n) (sym c.requires.can.one_each)
     (c.loop-channel.invariant.are.there c.loop-channel.channel c.index_mut.result.now at)
 
 pub set_delay-requires-clause-stands : goal.set_delay-requires-clause-stands
 set_delay-requires-clause-stands g c =
     let delays = c.loop-channel.delays.items in
     let at : slice_get delays c.loop-channel.channel ≡ Some c.index_mut.result.now =
-    slice_get_read delays (channel_count c.args.line.now) c.loop-channel.channel
+    slice_get_read delays (channel_count c.args.run.now.compiled.now.line.now)
+    c.loop-channel.channel
     c.index_mut.result.now (sym c.loop-channel.invariant.are.count)
     (omega (arith, c.loop-channel-test.true, c.len-channel-end.ensures, c.requires.delays.count))
     c.index_mut.ensures.value in
@@ -42,17 +44,18 @@ loop-channel-preserved g c =
     let new = c.set_delay.new.delay in
     let delays = c.loop-channel.delays.items in
     let at : slice_get delays i ≡ Some old =
-    slice_get_read delays (channel_count c.args.line.now) i old
+    slice_get_read delays (channel_count c.args.run.now.compiled.now.line.now) i old
     (sym c.loop-channel.invariant.are.count)
     (omega (arith, c.loop-channel-test.true, c.len-channel-end.ensures, c.requires.delays.count))
     c.index_mut.ensures.value in
     record {
-      are = span_set c.args.line.now delays i old new at c.set_delay.ensures.from
+      are = span_set c.args.run.now.compiled.now.line.now delays i old new at
+          c.set_delay.ensures.from
           c.set_delay.ensures.param c.loop-channel.invariant.are;
       stand = λ j d there.
           ⊎_elim
-          (λ p. subst (λ k. DelayStands g.V.Signal.LANES g.V.Signal.ends c.args.spans.now
-          c.args.steps.now c.args.t k) p.1 c.set_delay.ensures.stands)
+          (λ p. subst (λ k. DelayStands g.V.Signal.signal c.args.run.now
+          c.args.t k) p.1 c.set_delay.ensures.stands)
           (λ p. c.loop-channel.invariant.stand j d p.1)
           (at_set delays i new j d there);
       set = λ j d lt there.

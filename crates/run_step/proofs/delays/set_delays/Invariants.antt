@@ -6,7 +6,7 @@ use Rattle.run_step.proofs.delays.set_delays.Given as goal
 
 abbrev pub invariant-loop-channel : goal.invariant-loop-channel
 invariant-loop-channel g l = record {
-  are : AreDelays l.line l.delays.items;
-  stand : DelaysStand g.V.Signal.LANES g.V.Signal.ends l.spans l.steps l.t l.delays.items;
+  are : AreDelays l.run.compiled.now.line.now l.delays.items;
+  stand : DelaysStand g.V.Signal.signal l.run l.t l.delays.items;
   set : FirstHave (λ d. l.t < d.until) l.delays.items l.channel;
 }

@@ -5,6 +5,6 @@ abbrev pub invariant-loop-lane : goal.invariant-loop-lane
 invariant-loop-lane g l = record {
   some : 1 ≤ l.least;
   limited : l.least ≤ 4000;
-  before : (lane : ℕ) → lane < l.lane → 1 ≤ (g.V.Signal.ends l.span lane).least
-      → l.least ≤ (g.V.Signal.ends l.span lane).least;
+  before : (lane : ℕ) → lane < l.lane → 1 ≤ (g.V.Signal.signal.ends l.span lane).least
+      → l.least ≤ (g.V.Signal.signal.ends l.span lane).least;
 }

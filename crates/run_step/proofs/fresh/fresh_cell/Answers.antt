@@ -6,9 +6,9 @@ use Rattle.run_step.proofs.fresh.fresh_cell.Goals as goal
 pub returns-in-Timer-clause-stands : goal.returns-in-Timer-clause-stands
 returns-in-Timer-clause-stands g c = λ lane w u inside times.
     let cell = c.fresh_timer.result in
-    let ends = g.V.Signal.ends in
+    let ends = g.V.Signal.signal.ends in
     let stands_for = g.V.Timed.stands_for in
-    subst (λ k. CellStands stands_for ends g.V.Signal.rails lane w u 0 k cell)
+    subst (λ k. CellStands g.V.Signal.signal stands_for lane w u 0 k cell)
     (sym c.in-Timer.is)
     (subst (λ (e : Ends). TimerStands stands_for ends lane e (w.time c.in-Timer.dropout) [] cell)
     (c.time_span.ensures lane inside ∙ sym (times c.in-Timer.pickup))

@@ -21,7 +21,7 @@ loop-i-preserved g c =
           (ap (λ l. slice_get l j) (sym pushed) ∙ ca);
       stands = λ lane w u inside times j gate cell ga ca.
           one_more
-          (CellStands g.V.Timed.stands_for g.V.Signal.ends g.V.Signal.rails lane w u 0)
+          (CellStands g.V.Signal.signal g.V.Timed.stands_for lane w u 0)
           gates cells c.loop-i.i c.gate.result.now x c.loop-i.invariant.count c.gate.ensures.is
           (c.loop-i.invariant.stands lane w u inside times)
           (c.fresh_cell.ensures.stands lane w u inside times) j gate cell ga

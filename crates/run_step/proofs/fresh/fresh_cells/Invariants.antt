@@ -12,8 +12,8 @@ invariant-loop-i g l = record {
   room : length l.net.gates ≤ vec_capacity l.cells;
   shape : (j : ℕ) (gate : Gate) (cell : _) → slice_get l.net.gates j ≡ Some gate
       → slice_get l.cells.items j ≡ Some cell → HasCell gate cell;
-  stands : (lane : ℕ) (w : PairWorld) (u : GateSignals) → lane < g.V.Signal.LANES
-      → ((x : Time) → w.time x ≡ time_ends g.V.Signal.ends lane l.spans x)
-      → AllStand g.V.Timed.stands_for g.V.Signal.ends g.V.Signal.rails lane w u 0 l.net.gates
+  stands : (lane : ℕ) (w : PairWorld) (u : GateSignals) → lane < g.V.Signal.signal.lanes
+      → ((x : Time) → w.time x ≡ time_ends g.V.Signal.signal.ends lane l.spans x)
+      → AllStand g.V.Signal.signal g.V.Timed.stands_for lane w u 0 l.net.gates
       l.cells.items;
 }

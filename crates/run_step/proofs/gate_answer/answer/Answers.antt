@@ -8,14 +8,14 @@ use Rattle.run_step.proofs.gate_answer.answer.Goals as goal
 pub returns-in-Seen-clause-answers : goal.returns-in-Seen-clause-answers
 returns-in-Seen-clause-answers g c = λ lane w keys u inside shown of sent agree before.
     seen_pair w keys u c.args.moment.now.t c.args.gate.now _ c.in-Seen.place c.in-Seen.is
-    (subst (λ b. g.V.Signal.rails c.known-in-Seen.result lane ≡ both b) (c.shown_in.ensures
+    (subst (λ b. g.V.Signal.signal.rails c.known-in-Seen.result lane ≡ both b) (c.shown_in.ensures
     ∙ subst (λ h. IsShownAt c.args.spans.now w c.args.moment.now.t h) c.in-Seen.is shown)
     (c.known-in-Seen.ensures lane inside))
 
 pub returns-in-Loss-clause-answers : goal.returns-in-Loss-clause-answers
 returns-in-Loss-clause-answers g c = λ lane w keys u inside shown of sent agree before.
     loss_pair w keys u c.args.moment.now.t c.args.gate.now _ c.in-Loss.channel c.in-Loss.is
-    (subst (λ b. g.V.Signal.rails c.known-in-Loss.result lane ≡ both b) (c.lost_in.ensures
+    (subst (λ b. g.V.Signal.signal.rails c.known-in-Loss.result lane ≡ both b) (c.lost_in.ensures
     ∙ subst (λ h. IsShownAt c.args.spans.now w c.args.moment.now.t h) c.in-Loss.is shown)
     (c.known-in-Loss.ensures lane inside))
 
@@ -26,42 +26,44 @@ returns-in-Raw-clause-answers g c = λ lane w keys u inside shown of sent agree 
 
 pub returns-in-Timer-clause-stands : goal.returns-in-Timer-clause-stands
 returns-in-Timer-clause-stands g c = λ lane w u inside agree before.
-    timer_stands g.V.Timed.stands_for g.V.Signal.ends g.V.Signal.rails lane w (λ _ _. both false) u
+    timer_stands g.V.Signal.signal g.V.Timed.stands_for lane w (λ _ _. both false) u
     c.args.moment.now.t c.args.gate.now c.args.cell.now c.timer_answer.new.cell c.in-Timer.x
     c.in-Timer.field-1 c.in-Timer.field-2 c.in-Timer.is
-    (g.V.Signal.rails c.argument-in-Timer.result lane)
+    (g.V.Signal.signal.rails c.argument-in-Timer.result lane)
     (agree c.in-Timer.x.0 c.argument-in-Timer.result c.argument-in-Timer.ensures) before
     (λ p d inputs h. c.timer_answer.ensures.stands lane p d inputs inside h)
 
 pub returns-in-Timer-clause-answers : goal.returns-in-Timer-clause-answers
 returns-in-Timer-clause-answers g c = λ lane w keys u inside shown of sent agree before.
-    timer_pair g.V.Timed.stands_for g.V.Signal.ends g.V.Signal.rails lane w keys u
+    timer_pair g.V.Signal.signal g.V.Timed.stands_for lane w keys u
     c.args.moment.now.t c.args.gate.now c.args.cell.now c.timer_answer.new.cell c.in-Timer.x
     c.in-Timer.field-1 c.in-Timer.field-2 c.in-Timer.is
-    (g.V.Signal.rails c.argument-in-Timer.result lane)
+    (g.V.Signal.signal.rails c.argument-in-Timer.result lane)
     (agree c.in-Timer.x.0 c.argument-in-Timer.result c.argument-in-Timer.ensures) before
-    c.recorded_ticks_suffice.ensures (g.V.Signal.rails c.timer_answer.result lane)
+    c.recorded_ticks_suffice.ensures (g.V.Signal.signal.rails c.timer_answer.result lane)
     (λ p d inputs h. c.timer_answer.ensures.timed lane p d inputs inside h)
 
 pub returns-in-Seal-clause-stands : goal.returns-in-Seal-clause-stands
 returns-in-Seal-clause-stands g c = λ lane w u inside agree before.
-    seal_stands g.V.Timed.stands_for g.V.Signal.ends g.V.Signal.rails lane w (λ _ _. both false) u
-    c.args.moment.now.t c.args.gate.now c.args.cell.now c.seal_answer.new.cell c.in-Seal.x c.in-Seal.y
+    seal_stands g.V.Signal.signal g.V.Timed.stands_for lane w (λ _ _. both false) u
+    c.args.moment.now.t c.args.gate.now c.args.cell.now c.seal_answer.new.cell c.in-Seal.x
+    c.in-Seal.y
     c.in-Seal.is
-    (g.V.Signal.rails c.argument-in-Seal.result lane)
-    (g.V.Signal.rails c.argument-in-Seal-2.result lane)
+    (g.V.Signal.signal.rails c.argument-in-Seal.result lane)
+    (g.V.Signal.signal.rails c.argument-in-Seal-2.result lane)
     (agree c.in-Seal.x.0 c.argument-in-Seal.result c.argument-in-Seal.ensures)
     (agree c.in-Seal.y.0 c.argument-in-Seal-2.result c.argument-in-Seal-2.ensures) before
     (λ x y h. c.seal_answer.ensures.stands lane x y inside h)
 
 pub returns-in-Seal-clause-answers : goal.returns-in-Seal-clause-answers
 returns-in-Seal-clause-answers g c = λ lane w keys u inside shown of sent agree before.
-    seal_pair g.V.Timed.stands_for g.V.Signal.ends g.V.Signal.rails lane w keys u
-    c.args.moment.now.t c.args.gate.now c.args.cell.now c.seal_answer.new.cell c.in-Seal.x c.in-Seal.y
+    seal_pair g.V.Signal.signal g.V.Timed.stands_for lane w keys u
+    c.args.moment.now.t c.args.gate.now c.args.cell.now c.seal_answer.new.cell c.in-Seal.x
+    c.in-Seal.y
     c.in-Seal.is
-    (g.V.Signal.rails c.argument-in-Seal.result lane)
-    (g.V.Signal.rails c.argument-in-Seal-2.result lane)
+    (g.V.Signal.signal.rails c.argument-in-Seal.result lane)
+    (g.V.Signal.signal.rails c.argument-in-Seal-2.result lane)
     (agree c.in-Seal.x.0 c.argument-in-Seal.result c.argument-in-Seal.ensures)
     (agree c.in-Seal.y.0 c.argument-in-Seal-2.result c.argument-in-Seal-2.ensures) before
-    c.recorded_ticks_suffice.ensures (g.V.Signal.rails c.seal_answer.result lane)
+    c.recorded_ticks_suffice.ensures (g.V.Signal.signal.rails c.seal_answer.result lane)
     (λ x y h. c.seal_answer.ensures.sealed lane x y inside h)

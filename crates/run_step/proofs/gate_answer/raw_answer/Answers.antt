@@ -17,13 +17,13 @@ offset_bounds-moment-channel g c =
 
 pub bounds-moment-delay : goal.bounds-moment-delay
 bounds-moment-delay g c =
-    sender_inside g.V.Signal.LANES g.V.Signal.ends c.args.moment.now c.args.channel
+    sender_inside g.V.Signal.signal c.args.moment.now c.args.channel
     c.index-moment-channel.result c.requires.moment c.requires.exists
 
 pub offset_bounds-moment-delay : goal.offset_bounds-moment-delay
 offset_bounds-moment-delay g c =
     let inside =
-    sender_inside g.V.Signal.LANES g.V.Signal.ends c.args.moment.now c.args.channel
+    sender_inside g.V.Signal.signal c.args.moment.now c.args.channel
     c.index-moment-channel.result c.requires.moment c.requires.exists in
     search (rules, inside)
 
@@ -44,7 +44,7 @@ received-requires-clause-room g c =
     let d = get_or moment.delays.now c.args.channel c.index-moment-channel.result in
     let s = get_or moment.sent.now d.from c.index-moment-delay.result in
     let inside =
-    sender_inside g.V.Signal.LANES g.V.Signal.ends moment c.args.channel
+    sender_inside g.V.Signal.signal moment c.args.channel
     c.index-moment-channel.result can c.requires.exists in
     let f : slice_get moment.sent.now d.from ≡ Some s =
     slice_get-get_or moment.sent.now d.from c.index-moment-delay.result inside in
@@ -67,10 +67,11 @@ returns g c = λ lane w keys inside of have.
     (omega (arith, there, can.sent.count)) in
     let delay = of.delay c.args.channel d at in
     c.received.ensures lane inside
-    ∙ received-is c.history_laws.ensures (in_lane g.V.Signal.rails lane s.keys) (keys d.from) t
-    (length s.keys) (g.V.Signal.ends d.span lane) (g.V.Signal.ends d.span lane)
+    ∙ received-is c.history_laws.ensures (in_lane g.V.Signal.signal.rails lane s.keys) (keys d.from)
+    t
+    (length s.keys) (g.V.Signal.signal.ends d.span lane) (g.V.Signal.signal.ends d.span lane)
     (have d.from s f) (can.sent.each d.from s f).0 refl
     (can.delays.later c.args.channel d at lane inside)
-    ∙ ap (λ (k : ℕ). rails_delayed (keys k) (g.V.Signal.ends d.span lane) t)
+    ∙ ap (λ (k : ℕ). rails_delayed (keys k) (g.V.Signal.signal.ends d.span lane) t)
     (of.from c.args.channel d at)
     ∙ ap (λ e. rails_delayed (keys (w.from c.args.channel)) e t) delay

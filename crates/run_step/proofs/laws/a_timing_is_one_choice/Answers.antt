@@ -8,10 +8,10 @@ returns-clause-point c = λ line timing lane inside.
     timing_point c.line_laws.ensures line timing lane inside.count
 
 pub returns-clause-delayed : goal.returns-clause-delayed
-returns-clause-delayed c = λ line timing lanes inside.
+returns-clause-delayed c = λ line timing inside.
     timing_delayed c.line_laws.ensures line timing inside
     (c.line_laws.ensures.inside.choices line (timing_choice line timing)
-    (c.timings_inside_are_choices_inside.ensures line timing inside)) lanes
+    (c.timings_inside_are_choices_inside.ensures line timing inside))
 
 pub returns-clause-choice : goal.returns-clause-choice
 returns-clause-choice c = λ line timing inside.

@@ -7,12 +7,12 @@ use Rattle.run_step.proofs.send.send_all.Given as goal
 
 abbrev pub invariant-loop-k : goal.invariant-loop-k
 invariant-loop-k g l =
-    let rails = g.V.Signal.rails in
+    let rails = g.V.Signal.signal.rails in
     record {
       count : length l.tracks.items ≡ length l.gates;
       long : PartDone (HasKeys l.horizon (l.t + l.count)) (HasKeys l.horizon l.t) l.k
           l.tracks.items;
-      sent : (lane : ℕ) (keys : PairSignals) → lane < g.V.Signal.LANES
+      sent : (lane : ℕ) (keys : PairSignals) → lane < g.V.Signal.signal.lanes
           → ((k : ℕ) (x : _) → k < length l.gates
           → slice_get l.column (id_at l.gates k) ≡ Some x
           → (r : ℕ) → l.t ≤ r → r < l.t + l.count → keys k r ≡ rails x lane)

@@ -9,7 +9,8 @@ use Rattle.model_timing.specs.NamedValues.{NamedValues, values_of}
 use Rattle.call_pilot.specs.commands.Play.{IsPlayText, IsTimingText, Pieces, play_answer, play_header}
 use Rattle.call_answer.specs.{Answers.WritesAnswer, SinkLaws.grew_both}
 use Rattle.call_answer.specs.Sinks.{SinkView, WriteStops, sink_view}
-use Rattle.call_answer.specs.declared.put.WriteStop.{WriteStop}
+use Rattle.base_text.specs.declared.store.sink.PutFailed.{PutFailed}
+use Rattle.base_memory.specs.declared.stopped.Stopped.{Stopped}
 use Rattle.call_answer.specs.declared.done.Done.TheVariants.{Good}
 use Rattle.call_pilot.proofs.commands_lemmas.Writing.{stops_more, stops_then}
 use Rattle.call_pilot.proofs.commands.play.play.Goals as goal
@@ -28,7 +29,7 @@ rows_exist values line scripts timings exists inside =
 
 -- a play stops
 play_stops : (line : Line) (scripts : List Script) (timings : List NamedValues) (rows : List ℕ)
-    → Pieces (IsTimingText line scripts) timings rows → (old new : SinkView) (why : WriteStop)
+    → Pieces (IsTimingText line scripts) timings rows → (old new : SinkView) (why : Stopped PutFailed)
     → WriteStops old new (play_header ++ rows) why
     → WritesAnswer (play_answer line scripts timings) old new (Err why)
 play_stops line scripts timings rows are old new why stops = record {

@@ -51,14 +51,14 @@ returns-in-Ok-clause-said g c =
       },
     )
 
-pub want_of_memory-requires : goal.want_of_memory-requires
-want_of_memory-requires g c =
+-- the own certificate has no fault
+pub unreachable-requires : goal.unreachable-requires
+unreachable-requires g c =
     let line = c.in_ok-line.line in
     let scripts = c.in_ok-scripts.scripts.items in
     let fit = c.in_ok-scripts.ensures.fit line c.in_ok-line.ensures in
     let own = rw c.as_slice.ensures.value at c.in_ok-cert.ensures.text in
     let fault =
-    rw (c.as_slice-2.ensures.value, c.as_slice-3.ensures.value, own.text_is)
-    at c.in-Err.ensures.exact in
-    c.what_is_certified_is_accepted.ensures.no_fault line scripts own.claims c.in-Err.fault fit
-    own.certified fault
+    rw (c.as_slice-2.ensures.value, c.as_slice-3.ensures.value, own.text_is, c.in-Err-Fault.field-0-is)
+    at c.in-Err-Fault.ensures.exact in
+    c.what_is_certified_is_accepted.ensures.no_fault line scripts own.claims _ fit own.certified fault

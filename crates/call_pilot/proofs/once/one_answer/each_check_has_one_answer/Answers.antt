@@ -1,7 +1,6 @@
 use Rattle.cert_claims.specs.text.Grammar.{IsCertificate}
 use Rattle.cert_claims.specs.check.Check.{IsAccepted, IsCheckFault}
 use Rattle.cert_claims.specs.{check.Counts.all_verdicts, check.Verdicts.AreAccepted}
-use Rattle.cert_claims.specs.declared.check.fault.CheckFault.TheVariants as fault
 use Rattle.call_pilot.specs.commands.Check.{rejected_pieces}
 use Rattle.call_pilot.proofs.once_lemmas.EachCheck.{each_check}
 use Rattle.call_pilot.proofs.once_lemmas.OneAnswer.{checked_once, good_once}
@@ -13,11 +12,11 @@ returns c = record {
       each_check c.line_laws.ensures c.timings_inside_are_choices_inside.ensures
       c.certificates_can_be_written.ensures line scripts fit cert;
   only = λ line scripts cert.
-      checked_once (IsAccepted line scripts cert) (IsCheckFault line scripts cert) fault.Memory
+      checked_once (IsAccepted line scripts cert) (IsCheckFault line scripts cert)
       (rejected_pieces line scripts)
       (good_once (λ claims. IsCertificate line scripts claims cert) (AreAccepted line) all_verdicts
       scripts (λ p q. c.a_text_has_one_meaning.ensures line scripts p q cert))
-      (λ counts why known first.
-      c.a_fault_refuses_the_certificate.ensures line scripts cert counts why known first)
+      (λ counts why first.
+      c.a_fault_refuses_the_certificate.ensures line scripts cert counts why first)
       (λ f g. c.a_certificate_has_one_first_fault.ensures line scripts cert f g);
 }

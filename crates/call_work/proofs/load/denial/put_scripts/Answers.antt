@@ -5,6 +5,3 @@ returns-in-Refused g c = rw c.in-Refused.is c.put_fault.ensures
 
 pub returns-in-Twice : goal.returns-in-Twice
 returns-in-Twice g c = rw c.in-Twice.is c.put_twice.ensures
-
-pub returns-in-Memory : goal.returns-in-Memory
-returns-in-Memory g c = rw c.in-Memory.is c.put_pieces.ensures

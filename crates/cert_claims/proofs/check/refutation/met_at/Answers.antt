@@ -5,6 +5,7 @@ use Rattle.model_line.specs.Parameters.{terminal_count}
 use Rattle.model_logic.specs.Histories.{MeetsBy}
 use Rattle.model_timing.specs.{Timing.TimingValues, Choice.timing_choice}
 use Rattle.run_changes.specs.changes.PlayedTracks.{played, shown_is}
+use Rattle.run_signal.specs.Levels.{level_signal}
 use Rattle.run_step.specs.{LaneBox.lane_box, Played.ends_of_tick, Runs.AreDelayed}
 use Rattle.run_step.specs.Runs.{IsPoint}
 use Rattle.cert_claims.specs.check.Refutations.{steady_timing, choice_of, IsMetAt}
@@ -21,9 +22,9 @@ run_tracks-requires-clause-spans c =
 pub run_tracks-requires-clause-delayed : goal.run_tracks-requires-clause-delayed
 run_tracks-requires-clause-delayed c =
     let line = c.args.compiled.now.line.now in
-    let P : List ℕ → Type 0 = λ l. AreDelayed 1 ends_of_tick line l [] in
+    let P : List ℕ → Type 0 = λ l. AreDelayed level_signal line l [] in
     subst P (sym (c.as_slice.ensures.value ∙ c.in_ok-numbers.ensures))
-    (c.a_timing_is_one_choice.ensures.delayed line (steady_timing c.args.values.now) 1
+    (c.a_timing_is_one_choice.ensures.delayed line (steady_timing c.args.values.now)
     c.requires.inside)
 
 pub index-trip-requires : goal.index-trip-requires

@@ -1,6 +1,7 @@
 use Rattle.std.proofs.Common.{◌<◌, List, map, sym, subst, arith}
 use Rattle.std.proofs.lemmas.Option.{slice_get_within}
 use Rattle.std.specs.Prelude.{MatchResult}
+use Rattle.base_memory.specs.Gives.{OfFault}
 use Rattle.run_signal.specs.declared.tern.Tern.{Tern}
 use Rattle.model_logic.specs.Histories.{AreCovered, with_derived_trips}
 use Rattle.model_logic.specs.{PairMean.PairSignals, Choice.declared_box}
@@ -45,8 +46,8 @@ told : (c : goal.After-drop-waves-2) → MatchResult c.check_verdicts.result
     (λ _. AreSupported c.args.compiled.now.line.now c.args.script.now
     (pairs_of c.args.said.now.keys.items)
     (map verdict_in c.args.said.now.verdicts.items))
-    (λ fault. IsVerdictFault c.args.compiled.now.line.now c.args.script.now
-    (pairs_of c.args.said.now.keys.items) (map verdict_in c.args.said.now.verdicts.items) fault)
+    (OfFault (IsVerdictFault c.args.compiled.now.line.now c.args.script.now
+    (pairs_of c.args.said.now.keys.items) (map verdict_in c.args.said.now.verdicts.items)))
 told c =
     let line = c.args.compiled.now.line.now in
     let script = c.args.script.now in
@@ -56,7 +57,7 @@ told c =
     AreGateWaves line script gates (pairs_of l) c.as_slice-2.result.now in
     let Q : List Claim → Type 0 = λ v. MatchResult c.check_verdicts.result
     (λ _. AreSupported line script claims (map verdict_in v))
-    (λ fault. IsVerdictFault line script claims (map verdict_in v) fault) in
+    (OfFault (IsVerdictFault line script claims (map verdict_in v))) in
     subst Q c.as_slice-3.ensures.value
     (c.check_verdicts.ensures claims (subst P c.as_slice-keys.ensures.value
     (subst (λ (l : List (List Tern)). AreGateWaves line script gates
@@ -76,7 +77,7 @@ returns-clause-yes c =
     let claims : PairSignals = pairs_of said.keys in
     let w = with_derived_trips line script (declared_box line) claims in
     where_good (AreSupported line script claims said.verdicts) _
-    (λ fault. IsVerdictFault line script claims said.verdicts fault) c.check_verdicts.result (told c)
+    (OfFault (IsVerdictFault line script claims said.verdicts)) c.check_verdicts.result (told c)
     (λ supported k is choice h inside is_h.
     let there : k < terminal_count line =
     omega (arith, slice_get_within said.verdicts k yes is, c.requires.written.each.verdicts) in

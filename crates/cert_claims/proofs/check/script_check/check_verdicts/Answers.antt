@@ -7,9 +7,9 @@ use Rattle.model_logic.specs.Logic.{trip_tree}
 use Rattle.net_gates.specs.Formulas.{formula_of}
 use Rattle.cert_claims.specs.declared.text.claim.Claim.{Claim}
 use Rattle.cert_claims.specs.text.Grammar.{HasNumbers, Verdict, verdict_in}
-use Rattle.cert_claims.specs.check.Verdicts.{IsSupported}
+use Rattle.cert_claims.specs.check.Verdicts.{IsSupported, IsFaultOf}
 use Rattle.run_waves.specs.derived.Claims.{derived_trip}
-use Rattle.cert_claims.specs.check.ScriptLaws.{each_mapped, slice_mapped, one_more}
+use Rattle.cert_claims.specs.check.ScriptLaws.{each_mapped, first_wrong, slice_mapped, one_more}
 use Rattle.cert_claims.proofs.check_lemmas.Acceptance.{tree_pairs}
 use Rattle.cert_claims.proofs.check.script_check.check_verdicts.Goals as goal
 
@@ -51,17 +51,16 @@ returns-in_err-check_claim c =
     let item : Claim = c.index-verdicts-i.result in
     let inside : i < length verdicts = omega (arith, c.loop-i-test.true) in
     let there : i < terminal_count line = omega (arith, inside, c.requires.many) in
-    rw (p.1, p.2) (λ claims are. record {
-      place = i;
-      item = verdict_in item;
-      is = slice_mapped (λ x. verdict_in x) verdicts i item inside c.index-verdicts-i.is;
-      before = c.loop-i.invariant claims are;
-      wrong = c.in_err-check_claim.ensures (derived_trip line script claims i)
-          (tree_pairs line script gates claims c.args.waves.now c.trip_gate.result.0
-          (trip_tree line i) c.nth-trip.result.now are c.trip_gate.ensures.exists
-          (ap (formula_of gates) c.trip_gate.ensures.is ∙ c.args.compiled.now.of_line.trips i there)
-          c.nth-trip.ensures);
-    })
+    rw (p.1, p.2) (λ claims are.
+    first_wrong (λ k. IsSupported line script k (derived_trip line script claims k))
+    (λ k. IsFaultOf line script k (derived_trip line script claims k)) (map verdict_in verdicts) i
+    (verdict_in item) (slice_mapped (λ x. verdict_in x) verdicts i item inside c.index-verdicts-i.is)
+    (c.loop-i.invariant claims are) c.in_err-check_claim.field-0.0
+    (c.in_err-check_claim.ensures (derived_trip line script claims i)
+    (tree_pairs line script gates claims c.args.waves.now c.trip_gate.result.0
+    (trip_tree line i) c.nth-trip.result.now are c.trip_gate.ensures.exists
+    (ap (formula_of gates) c.trip_gate.ensures.is ∙ c.args.compiled.now.of_line.trips i there)
+    c.nth-trip.ensures)))
 
 pub returns : goal.returns
 returns c = λ claims are k verdict at.

@@ -2,7 +2,7 @@ use Rattle.std.proofs.Common.{List, map, sym, ◌∙◌, subst}
 use Rattle.std.proofs.lemmas.List.{length-map}
 use Rattle.cert_claims.specs.declared.text.claim.ScriptClaims.{ScriptClaims}
 use Rattle.cert_claims.specs.text.Grammar.{claims_in, IsCertificate}
-use Rattle.cert_claims.specs.{check.ScriptLaws.each_told, check.Verdicts.AreSound}
+use Rattle.cert_claims.specs.{check.ScriptLaws.each_told, check.Verdicts.AreSoundClaims}
 use Rattle.cert_claims.proofs.check.whole.check.Goals as goal
 
 pub check_scripts-requires : goal.check_scripts-requires
@@ -30,10 +30,10 @@ returns-in-Ok c =
     let is : P claims = subst P (sym c.as_slice.ensures.value) c.in-Ok.ensures in
     record {
       exact = c.check_scripts.ensures.exact bytes is;
-      yes = each_told (λ others. IsCertificate line scripts others bytes) (AreSound line) scripts
+      yes = each_told (λ others. IsCertificate line scripts others bytes) (AreSoundClaims line) scripts
           (map claims_in claims) (λ others. c.a_text_has_one_meaning.ensures line scripts (map claims_in claims) others
           bytes is) c.check_scripts.result c.check_scripts.ensures.yes;
     }
 
-pub returns-in-Err : goal.returns-in-Err
-returns-in-Err c = record { exact = c.of_text.ensures; yes = tt }
+pub returns-in-Err-Fault : goal.returns-in-Err-Fault
+returns-in-Err-Fault c = record { exact = c.of_text.ensures; yes = tt }

@@ -2,7 +2,7 @@ use Rattle.std.proofs.Common.{◌<◌, ◌≤◌, ℕ, List, length, map, sym, a
 use Rattle.model_line.specs.{declared.script.Script.Script, Fits.Fits}
 use Rattle.cert_claims.specs.declared.text.claim.ScriptClaims.{ScriptClaims}
 use Rattle.cert_claims.specs.{text.Grammar.claims_in, text.Text.CanBeWritten}
-use Rattle.cert_claims.specs.{check.Check.IsCheckFault, check.Verdicts.AreAccepted, check.Verdicts.AreSound}
+use Rattle.cert_claims.specs.{check.Check.IsCheckFault, check.Verdicts.AreAccepted, check.Verdicts.AreSoundClaims}
 use Rattle.cert_claims.specs.check.ScriptLaws.{each_mapped, script_at, one_script}
 use Rattle.cert_claims.proofs.check_lemmas.OneCheckFault.{told}
 use Rattle.cert_claims.proofs.check.whole.check_scripts.Goals as goal
@@ -33,13 +33,13 @@ loop-i-preserved c =
     (omega (arith, c.loop-i-test.true)) c.requires.many c.index-scripts-i.is c.index-claims-i.is in
     record {
       accepted = one_script (AreAccepted line) scripts (map claims_in claims) i script
-          (claims_in said) at.0 at.1 c.loop-i.invariant.accepted c.in_default.ensures.exact;
-      sound = one_script (AreSound line) scripts (map claims_in claims) i script
-          (claims_in said) at.0 at.1 c.loop-i.invariant.sound c.in_default.ensures.yes;
+          (claims_in said) at.0 at.1 c.loop-i.invariant.accepted c.in-Ok.ensures.exact;
+      sound = one_script (AreSoundClaims line) scripts (map claims_in claims) i script
+          (claims_in said) at.0 at.1 c.loop-i.invariant.sound c.in-Ok.ensures.yes;
     }
 
-pub returns-in-Err : goal.returns-in-Err
-returns-in-Err c =
+pub returns-in-Err-Fault : goal.returns-in-Err-Fault
+returns-in-Err-Fault c =
     let line = c.args.compiled.now.line.now in
     let scripts : List Script = c.args.scripts.now in
     let claims : List ScriptClaims = c.args.claims.now in
@@ -49,8 +49,9 @@ returns-in-Err c =
     let at = script_at (λ x. claims_in x) scripts claims i script said
     (omega (arith, c.loop-i-test.true)) c.requires.many c.index-scripts-i.is c.index-claims-i.is in
     record {
-      exact = λ bytes is. subst (IsCheckFault line scripts bytes) (sym c.in_script.ensures)
-          (told line scripts bytes i c.in-Err.fault (record {
+      exact = λ bytes is. subst (IsCheckFault line scripts bytes)
+          (sym (rw c.in-Err-Fault.field-0-is at c.in_script.ensures))
+          (told line scripts bytes i c.in-Err-Fault.fault (record {
             claims = map claims_in claims;
             is = is;
             script = script;
@@ -58,7 +59,7 @@ returns-in-Err c =
             script_is = at.0;
             said_is = at.1;
             before = c.loop-i.invariant.accepted;
-            wrong = c.in-Err.ensures.exact;
+            wrong = rw c.in-Err-Fault.field-0-is at c.in-Err-Fault.ensures.exact;
           }));
       yes = tt;
     }

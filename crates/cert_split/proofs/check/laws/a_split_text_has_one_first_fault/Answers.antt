@@ -3,8 +3,7 @@ use Rattle.cert_split.proofs.check_lemmas.OneSplitFault.{of_text_or_script}
 use Rattle.cert_split.proofs.check.laws.a_split_text_has_one_first_fault.Goals as goal
 
 pub returns : goal.returns
-returns c = λ line scripts bytes fault other some any h k.
+returns c = λ line scripts bytes fault other h k.
     let law = c.texts_and_results_are_told_apart.ensures in
-    one_fault _ _ _ _ _ scripts _ _ (law.texts line scripts bytes) (law.results line) fault other
-    (of_text_or_script line scripts bytes fault some h)
-    (of_text_or_script line scripts bytes other any k)
+    one_fault _ _ _ _ scripts _ _ (law.texts line scripts bytes) (law.results line) fault other
+    (of_text_or_script line scripts bytes fault h) (of_text_or_script line scripts bytes other k)

@@ -1,4 +1,5 @@
 use Rattle.std.proofs.Common.{ℕ, List, sym, subst, MatchResult}
+use Rattle.base_memory.specs.Gives.{OfFault}
 use Rattle.judge_split.specs.declared.node.Node.{Node}
 use Rattle.cert_split.specs.{declared.text.claim.SplitClaim.SplitClaim, text.Reading.result_in}
 use Rattle.cert_split.specs.check.FirstLeaf.{IsTreeHeld}
@@ -12,6 +13,6 @@ returns-in-Tree c =
     let k : ℕ = c.args.terminal in
     subst (λ (x : SplitClaim). MatchResult c.check_tree.result
     (λ _. IsSupported line script k (result_in x))
-    (λ fault. IsFaultOf line script k (result_in x) fault)) (sym c.in-Tree.is)
+    (OfFault (IsFaultOf line script k (result_in x)))) (sym c.in-Tree.is)
     (subst (λ (l : List Node). MatchResult c.check_tree.result (λ _. IsTreeHeld line script k l)
-    (λ fault. IsTreeFault line script k l fault)) c.as_slice.ensures.value c.check_tree.ensures)
+    (OfFault (IsTreeFault line script k l))) c.as_slice.ensures.value c.check_tree.ensures)

@@ -3,8 +3,8 @@ use Rattle.std.proofs.lemmas.List.{length-map}
 use Rattle.std.proofs.lemmas.Result.{err_from_is_err_and}
 use Rattle.cert_split.specs.declared.text.claim.SplitClaim.{SplitClaim}
 use Rattle.cert_split.specs.{text.Grammar.SplitResult, text.Grammar.IsSplitResult, text.Reading.result_in}
-use Rattle.cert_split.specs.check.Results.{IsSupported}
-use Rattle.cert_claims.specs.check.ScriptLaws.{each_mapped, slice_mapped, one_more}
+use Rattle.cert_split.specs.check.Results.{IsSupported, IsFaultOf}
+use Rattle.cert_claims.specs.check.ScriptLaws.{each_mapped, first_wrong, slice_mapped, one_more}
 use Rattle.cert_split.proofs.check_lemmas.ResultLaws.{supported_told}
 use Rattle.cert_split.proofs.check.result.check_results.Goals as goal
 
@@ -37,18 +37,16 @@ loop-i-preserved c =
 pub returns-in_err-check_result : goal.returns-in_err-check_result
 returns-in_err-check_result c =
     let p = err_from_is_err_and c.from_residual.result c.from_residual.ensures.1 in
+    let line = c.args.compiled.now.line.now in
+    let script = c.args.script.now in
     let results : List SplitClaim = c.args.results.now in
     let i : ℕ = c.loop-i.i in
     let item : SplitClaim = c.index-results-i.result in
     let inside : i < length results = omega (arith, c.loop-i-test.true) in
     rw (p.1, p.2) (record {
-      exact = record {
-        place = i;
-        item = result_in item;
-        is = slice_mapped result_in results i item inside c.index-results-i.is;
-        before = c.loop-i.invariant;
-        wrong = c.in_err-check_result.ensures;
-      };
+      exact = first_wrong (IsSupported line script) (IsFaultOf line script) (map result_in results) i
+          (result_in item) (slice_mapped result_in results i item inside c.index-results-i.is)
+          c.loop-i.invariant c.in_err-check_result.field-0.0 c.in_err-check_result.ensures;
       told = tt;
     })
 

@@ -1,12 +1,13 @@
 use Rattle.std.proofs.Common.{◌≡◌, ◌<◌, ◌+◌, ◌++◌, ℕ, List, length, drop, sym, subst, arith}
 use Rattle.std.proofs.lemmas.Result.{err_from_is_err_and, MatchResult-weaker}
+use Rattle.base_memory.specs.{Gives.OfFault, declared.stopped.Stopped.Stopped}
 use Rattle.model_logic.specs.Choice.{declared_box}
 use Rattle.judge_split.specs.declared.node.Node.{Node}
 use Rattle.judge_split.specs.declared.node.Node.TheVariants as node
 use Rattle.judge_split.specs.Trees.{SplitTree, Split, preorder}
-use Rattle.judge_split.specs.Leaves.{lower_half, upper_half}
-use Rattle.cert_split.specs.declared.check.fault.ResultFault.{ResultFault}
-use Rattle.cert_split.specs.{declared.check.tree.Passed.Passed, check.Walks.IsWalked, check.Walks.IsWalkFault}
+use Rattle.model_logic.specs.Boxes.{lower_half, upper_half}
+use Rattle.cert_split.specs.declared.check.tree.{NotHeld.NotHeld, Passed.Passed}
+use Rattle.cert_split.specs.check.Walks.{IsWalked, IsNotHeldFrom}
 use Rattle.cert_split.proofs.check_lemmas.WalkLaws.{root_at, within, split_next, few_leaves, walked_yes}
 use Rattle.cert_split.proofs.check_lemmas.WalkLaws.{walked_undecided, walked_split, fault_leaf}
 use Rattle.cert_split.proofs.check_lemmas.WalkLaws.{fault_first}
@@ -132,7 +133,7 @@ returns-in_err-between-in-Split t c =
     let nodes : List Node = c.args.nodes.now in
     let param : ℕ = c.in-Split.param in
     let mid : ℕ = c.in-Split.mid in
-    let fault : ResultFault = c.in_err-between-in-Split.field-0.0 in
+    let why : Stopped NotHeld = c.in_err-between-in-Split.field-0.0 in
     let here = split_next line box tree after nodes c.args.passed.nodes param mid splits are
     (root_at tree after nodes c.args.passed.nodes node.Yes _ are c.in-Split.is) in
     let found = c.in_err-between-in-Split.ensures line (lower_half box param mid) here.first
@@ -140,10 +141,10 @@ returns-in_err-between-in-Split t c =
     here.lower
     (subst (λ (n : ℕ). drop n nodes ≡ preorder here.first ++ (preorder here.second ++ after))
     (sym c.after_split.ensures.nodes) here.first_next) in
-    subst (λ (x : SplitTree). IsWalkFault line script k box x c.args.passed.leaves fault)
+    subst (λ (x : SplitTree). OfFault (IsNotHeldFrom line script k box x c.args.passed.leaves) why)
     (sym here.is)
-    (fault_first line script k box param mid here.first here.second c.args.passed.leaves fault
-    (subst (λ (n : ℕ). IsWalkFault line script k (lower_half box param mid) here.first n fault)
+    (fault_first line script k box param mid here.first here.second c.args.passed.leaves why
+    (subst (λ (n : ℕ). OfFault (IsNotHeldFrom line script k (lower_half box param mid) here.first n) why)
     c.after_split.ensures.leaves found)))
 
 pub upper_part-requires : goal.upper_part-requires
@@ -239,10 +240,11 @@ returns-in_ok-upper_line-in-Split t c = λ line box tree after is_part splits ar
     subst (λ (x : SplitTree). IsWalked line script k box x c.args.passed walked) (sym here.is)
     (walked_split line script k box param mid here.first here.second c.args.passed below between
     walked here.can c.after_split.ensures.nodes c.after_split.ensures.leaves lower above))
-    (λ fault above.
-    subst (λ (x : SplitTree). IsWalkFault line script k box x c.args.passed.leaves fault)
+    (λ why above.
+    subst (λ (x : SplitTree). OfFault (IsNotHeldFrom line script k box x c.args.passed.leaves) why)
     (sym here.is)
-    (subst (λ (n : ℕ). IsWalkFault line script k box (Split param mid here.first here.second) n fault)
+    (subst (λ (n : ℕ). OfFault
+    (IsNotHeldFrom line script k box (Split param mid here.first here.second) n) why)
     c.after_split.ensures.leaves
-    (fault_second line script k box param mid here.first here.second below between fault lower
+    (fault_second line script k box param mid here.first here.second below between why lower
     above)))

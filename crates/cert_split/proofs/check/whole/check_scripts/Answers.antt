@@ -43,26 +43,27 @@ loop-i-preserved c =
       supported = one_script (AreSupported line) scripts (map results_in parts) i script
           (results_in item) at.0 at.1 c.loop-i.invariant.supported
           (subst (λ (l : List SplitClaim). AreSupported line script (map result_in l))
-          c.as_slice.ensures.value c.in_default.ensures.exact);
+          c.as_slice.ensures.value c.in-Ok.ensures.exact);
       told = one_script (AreTold line) scripts (map results_in parts) i script
           (results_in item) at.0 at.1 c.loop-i.invariant.told
           (subst (λ (l : List SplitClaim). AreTold line script (map result_in l))
-          c.as_slice.ensures.value c.in_default.ensures.told);
+          c.as_slice.ensures.value c.in-Ok.ensures.told);
     }
 
-pub returns-in-Err : goal.returns-in-Err
-returns-in-Err c =
+pub returns-in-Err-Fault : goal.returns-in-Err-Fault
+returns-in-Err-Fault c =
     let line = c.args.compiled.now.line.now in
     let scripts : List Script = c.args.scripts.now in
     let parts : List (Vec SplitClaim Global) = c.args.parts.now in
     let i : ℕ = c.loop-i.i in
     let script : Script = c.index-scripts-i.result in
     let item : Vec SplitClaim Global = c.index-parts-i.result in
-    let fault : ResultFault = c.in-Err.fault in
+    let fault : ResultFault = c.in-Err-Fault.fault in
     let at = script_at results_in scripts parts i script item (omega (arith, c.loop-i-test.true))
     c.requires.many c.index-scripts-i.is c.index-parts-i.is in
     record {
-      exact = λ bytes is. subst (IsSplitFault line scripts bytes) (sym c.in_script.ensures)
+      exact = λ bytes is. subst (IsSplitFault line scripts bytes)
+          (sym (rw c.in-Err-Fault.field-0-is at c.in_script.ensures))
           (told line scripts bytes i fault (record {
             claims = map results_in parts;
             is = is;
@@ -73,7 +74,8 @@ returns-in-Err c =
             before = c.loop-i.invariant.supported;
             wrong = subst (λ (l : List SplitClaim).
                 IsFirstFault line script (map result_in l) fault)
-                c.as_slice.ensures.value c.in-Err.ensures.exact;
+                c.as_slice.ensures.value
+                (rw c.in-Err-Fault.field-0-is at c.in-Err-Fault.ensures.exact);
           }));
       told = tt;
     }

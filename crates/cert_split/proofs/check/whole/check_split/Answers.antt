@@ -37,5 +37,5 @@ returns-in-Ok c =
           bytes is) c.check_scripts.result c.check_scripts.ensures.told;
     }
 
-pub returns-in-Err : goal.returns-in-Err
-returns-in-Err c = record { exact = c.of_text.ensures; sound = tt }
+pub returns-in-Err-Fault : goal.returns-in-Err-Fault
+returns-in-Err-Fault c = record { exact = c.of_text.ensures; sound = tt }

@@ -1,7 +1,7 @@
 use Rattle.std.proofs.Common.{◌≡◌, ◌≢◌, ◌∙◌, ℕ, List, true, false, below_more, arith, subst, sym}
 use Rattle.model_logic.specs.Choice.{declared_box}
 use Rattle.model_line.specs.NamesByNumber.{parameter_name}
-use Rattle.judge_split.specs.Leaves.{CanSplit}
+use Rattle.model_logic.specs.Boxes.{CanSplit}
 use Rattle.cert_split.specs.text.Grammar.{split_line}
 use Rattle.cert_split.proofs.text_lemmas.NodeLaws.{one_mid}
 use Rattle.cert_split.proofs.text.node_line.split_in.Goals as goal

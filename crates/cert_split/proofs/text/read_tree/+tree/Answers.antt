@@ -1,7 +1,8 @@
 use Rattle.std.proofs.Common.{◌-◌, ℕ, List, [], ◌∷◌, ◌++◌, map, arith}
 use Rattle.std.proofs.lemmas.Result.{err_from_is_err_and, MatchResult-weaker}
 use Rattle.model_logic.specs.Choice.{Box, declared_box}
-use Rattle.judge_split.specs.{Trees.preorder, Leaves.lower_half, Leaves.upper_half}
+use Rattle.judge_split.specs.{Trees.preorder}
+use Rattle.model_logic.specs.Boxes.{lower_half, upper_half}
 use Rattle.base_text.specs.lines.ReadLaws.{later_fault}
 use Rattle.cert_split.specs.text.Grammar.{Place, node_over, says_node, below, grammar_of}
 use Rattle.cert_split.proofs.text_lemmas.TreeLaws.{split_can, halves_fault, whole_tree, below_yes}

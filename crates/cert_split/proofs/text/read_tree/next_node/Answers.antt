@@ -1,8 +1,8 @@
 use Rattle.std.proofs.Common.{ℕ, ◌∷◌, sym, subst}
 use Rattle.std.proofs.lemmas.Result.{err_from_is_err_and}
-use Rattle.base_text.specs.{declared.lines.fault.TextFault.TextFault, lines.Grammar.IsFault}
+use Rattle.base_text.specs.lines.Lines.{LeavesAt}
 use Rattle.base_text.specs.lines.LineLaws.{absent, refused}
-use Rattle.cert_split.specs.text.Grammar.{Stands, opens, node_over, grammar_of}
+use Rattle.cert_split.specs.text.Grammar.{Stands, opens, node_over}
 use Rattle.cert_split.proofs.text_lemmas.NodeLaws.{not_node}
 use Rattle.cert_split.proofs.text.read_tree.next_node.Goals as goal
 
@@ -14,8 +14,8 @@ returns-in_err-bytes c =
     let p = err_from_is_err_and c.from_residual.result c.from_residual.ensures.1 in
     let a : ℕ = c.args.lines.now.number in
     rw (p.1, p.2) (λ box later part.
-    let P : TextFault → Type 0 = λ f. IsFault (grammar_of c.args.line.now)
-    (node_over c.args.depth box ∷ later) c.args.lines.now.rest.now a f in
+    let P : ℕ → Type 0 = λ n. LeavesAt (Stands c.args.line.now) opens
+    (node_over c.args.depth box ∷ later) c.args.lines.now.rest.now a n in
     subst P (sym c.in_err-bytes.ensures.0) (absent (Stands c.args.line.now) opens
     (node_over c.args.depth box) later c.args.lines.now.rest.now a c.in_err-bytes.ensures.1))
 

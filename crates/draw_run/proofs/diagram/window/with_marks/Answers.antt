@@ -1,6 +1,6 @@
 use Rattle.std.proofs.Common.{take, arith}
 use Rattle.std.proofs.lemmas.List.Elements.{All-more}
-use Rattle.draw_run.specs.diagram.Windows.{Holds}
+use Rattle.draw_run.specs.diagram.Windows.{IsInWindow}
 use Rattle.draw_run.proofs.diagram_lemmas.WindowLaws.{marks_still_shown}
 use Rattle.draw_run.proofs.diagram.window.with_marks.Goals as goal
 
@@ -12,7 +12,7 @@ loop-mark-preserved c =
     let i = c.loop-mark.mark-index in
     record {
       shown =
-          All-more (Holds wide) xs i 0 (omega arith)
+          All-more (IsInWindow wide) xs i 0 (omega arith)
           (marks_still_shown before wide c.widened-wide.ensures.wider (take i xs)
           c.loop-mark.invariant.shown)
           c.widened-wide.ensures.holds;

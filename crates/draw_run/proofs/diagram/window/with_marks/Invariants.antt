@@ -1,11 +1,11 @@
 use Rattle.std.proofs.Common.{◌<◌, ℕ, take}
 use Rattle.std.specs.List.{All}
-use Rattle.draw_run.specs.diagram.Windows.{Holds, IsTickBelow, IsWider}
+use Rattle.draw_run.specs.diagram.Windows.{IsInWindow, IsTickBelow, ShowsMore}
 use Rattle.draw_run.proofs.diagram.window.with_marks.Given as goal
 
 abbrev pub invariant-loop-mark : goal.invariant-loop-mark
 invariant-loop-mark l = record {
-  shown : All (Holds l.wide) (take l.mark-index l.marks);
+  shown : All (IsInWindow l.wide) (take l.mark-index l.marks);
   below : (h : ℕ) → l.fn.window.last < h → All (IsTickBelow h) l.marks → l.wide.last < h;
-  wider : IsWider l.fn.window l.wide;
+  wider : ShowsMore l.fn.window l.wide;
 }

@@ -4,6 +4,7 @@ use Rattle.model_line.specs.declared.line.Line.{Line}
 use Rattle.model_logic.specs.Choice.{Choice}
 use Rattle.model_timing.specs.declared.step.Step.{Step}
 use Rattle.model_timing.specs.{Timing.TimingValues, Timing.ascend, Choice.timing_choice}
+use Rattle.run_signal.specs.Levels.{level_signal}
 use Rattle.run_step.specs.LaneBox.{lane_box}
 use Rattle.run_step.specs.{Played.ends_of_tick, Played.played, Runs.AreDelayed, Runs.IsPoint}
 use Rattle.draw_run.proofs.dump_lemmas.LevelLaws.{if_ok_more, levels_are}
@@ -29,9 +30,9 @@ pub run-requires-clause-delayed : goal.run-requires-clause-delayed
 run-requires-clause-delayed c =
     let line : Line = c.args.compiled.now.line.now in
     let timing : TimingValues = c.args.timing.now.timing in
-    of_lists (λ v s. AreDelayed 1 ends_of_tick line v s) c.values-values.result.now
+    of_lists (λ v s. AreDelayed level_signal line v s) c.values-values.result.now
     c.steps-steps.result.now timing c.values-values.ensures c.steps-steps.ensures.same
-    (c.a_timing_is_one_choice.ensures.delayed line timing 1 c.requires.inside)
+    (c.a_timing_is_one_choice.ensures.delayed line timing c.requires.inside)
 
 pub returns-clause-played : goal.returns-clause-played
 returns-clause-played c =

@@ -4,7 +4,7 @@ use Rattle.std.proofs.lemmas.List.{drop_all}
 use Rattle.toml.specs.View.{table_view}
 use Rattle.model_line.specs.declared.line.Setting.TheVariants.{Z1Pickup}
 use Rattle.file_line.specs.Times.{times_at}
-use Rattle.file_line.proofs.{Readings.fails_is, TimesSteps.times_more}
+use Rattle.file_line.proofs.{TimesSteps.times_more}
 use Rattle.file_line.proofs.times.TableTimes.times.Goals as goal
 
 pub returns-in_err-interval : goal.returns-in_err-interval
@@ -14,7 +14,7 @@ returns-in_err-interval c =
     c.args.self.now.unit (table_view c.args.self.now.table.now) c.loop-setting.intervals.items Z1Pickup
     c.loop-setting-test.true in
     let fault = rw (← c.in_err-interval.ensures) at more in
-    rw (p.1, p.2) (fails_is c.in_err-interval.field-0.0 _ (sym c.loop-setting.invariant ∙ fault))
+    rw (p.1, p.2) (sym c.loop-setting.invariant ∙ fault)
 
 pub loop-setting-preserved : goal.loop-setting-preserved
 loop-setting-preserved c =

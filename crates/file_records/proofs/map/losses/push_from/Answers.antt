@@ -1,9 +1,10 @@
 use Rattle.std.proofs.Common.{sym, ◌∙◌}
 use Rattle.std.proofs.lemmas.Result.{err_from_is_err_and}
 use Rattle.std.proofs.lemmas.List.{drop_all}
+use Rattle.base_memory.specs.CheckLaws.{fails_ends}
 use Rattle.toml.specs.View.{table_view}
 use Rattle.file_records.specs.map.Signals.{signals_values, losses_from}
-use Rattle.file_records.proofs.{map_lemmas.Ends.fails_ends, map_lemmas.Steps.losses_more}
+use Rattle.file_records.proofs.map_lemmas.Steps.{losses_more}
 use Rattle.file_records.proofs.map.losses.push_from.Goals as goal
 
 pub returns-in_err-push_loss : goal.returns-in_err-push_loss

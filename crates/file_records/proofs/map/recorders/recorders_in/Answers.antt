@@ -1,8 +1,9 @@
 use Rattle.std.proofs.Common.{◌∷◌, [], map, sym, ◌∙◌}
 use Rattle.std.proofs.lemmas.Result.{err_from_is_err_and}
 use Rattle.std.proofs.lemmas.List.{drop_all, map-append}
+use Rattle.base_memory.specs.CheckLaws.{fails_ends}
 use Rattle.file_records.specs.map.Recorders.{recorder_values, recorders_in}
-use Rattle.file_records.proofs.{map_lemmas.Ends.fails_ends, map_lemmas.Steps.recorders_more}
+use Rattle.file_records.proofs.map_lemmas.Steps.{recorders_more}
 use Rattle.file_records.proofs.map.recorders.recorders_in.Goals as goal
 
 pub returns-in_err-recorder : goal.returns-in_err-recorder

@@ -1,8 +1,9 @@
 use Rattle.std.proofs.Common.{◌∷◌, [], map, sym, ◌∙◌}
 use Rattle.std.proofs.lemmas.Result.{err_from_is_err_and}
 use Rattle.std.proofs.lemmas.List.{drop_all, map-append}
+use Rattle.base_memory.specs.CheckLaws.{fails_ends}
 use Rattle.file_records.specs.map.Sources.{source_values, sources_in}
-use Rattle.file_records.proofs.{map_lemmas.Ends.fails_ends, map_lemmas.Steps.sources_more}
+use Rattle.file_records.proofs.map_lemmas.Steps.{sources_more}
 use Rattle.file_records.proofs.map.sources.push_items.Goals as goal
 
 pub returns-in_err-source : goal.returns-in_err-source

@@ -7,6 +7,6 @@ pub returns : goal.returns
 returns c = record {
   track = track_values c.in_ok-track.track;
   is = c.in_ok-track.ensures;
-  more = ap (map track_values) c.in-Ok.ensures.items
+  more = ap (map track_values) c.in_ok-push.ensures.items
       ∙ map-append track_values c.args.tracks.now.items (c.in_ok-track.track ∷ []);
 }

@@ -1,9 +1,10 @@
 use Rattle.std.proofs.Common.{◌∷◌, [], map, sym, ◌∙◌}
 use Rattle.std.proofs.lemmas.Result.{err_from_is_err_and}
 use Rattle.std.proofs.lemmas.List.{drop_all, map-append}
+use Rattle.base_memory.specs.CheckLaws.{fails_ends}
 use Rattle.file_line.specs.Lines.{line_values}
 use Rattle.file_study.specs.study.Faults.{fault_values, faults_in}
-use Rattle.file_study.proofs.{study_lemmas.Ends.fails_ends, study_lemmas.Steps.faults_more, study_lemmas.NewNames.names_same}
+use Rattle.file_study.proofs.{study_lemmas.Steps.faults_more, study_lemmas.NewNames.names_same}
 use Rattle.file_study.proofs.study.faults.faults_in.Goals as goal
 
 pub returns-in_err-fault : goal.returns-in_err-fault

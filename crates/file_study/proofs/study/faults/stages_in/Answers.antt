@@ -1,9 +1,10 @@
 use Rattle.std.proofs.Common.{◌∷◌, [], map, sym, ◌∙◌}
 use Rattle.std.proofs.lemmas.Result.{err_from_is_err_and}
 use Rattle.std.proofs.lemmas.List.{drop_all, map-append}
+use Rattle.base_memory.specs.CheckLaws.{fails_ends}
 use Rattle.file_line.specs.Lines.{line_values}
 use Rattle.file_study.specs.study.Faults.{stage_values, stages_in}
-use Rattle.file_study.proofs.{study_lemmas.Ends.fails_ends, study_lemmas.Steps.stages_more}
+use Rattle.file_study.proofs.study_lemmas.Steps.{stages_more}
 use Rattle.file_study.proofs.study.faults.stages_in.Goals as goal
 
 pub returns-in_err-stage : goal.returns-in_err-stage

@@ -2,11 +2,12 @@ use Rattle.std.proofs.Common.{◌∷◌, [], map, sym, ◌∙◌}
 use Rattle.std.proofs.lemmas.Result.{err_from_is_err_and}
 use Rattle.std.proofs.lemmas.List.{drop_all, map-append}
 use Rattle.std.specs.Prelude.{option_map}
+use Rattle.base_memory.specs.CheckLaws.{fails_ends}
 use Rattle.toml.specs.View.{view, table_view}
 use Rattle.toml.specs.declared.value.Value.{Table}
 use Rattle.toml.proofs.Views.{view-Table}
 use Rattle.file_study.specs.study.LineTables.{tables_of, terminal_members}
-use Rattle.file_study.proofs.{study_lemmas.Ends.fails_ends, study_lemmas.Steps.tables_more}
+use Rattle.file_study.proofs.study_lemmas.Steps.{tables_more}
 use Rattle.file_study.proofs.study.line.each_terminal.Goals as goal
 
 pub returns-in_err-table : goal.returns-in_err-table

@@ -1,10 +1,10 @@
 use Rattle.std.proofs.Common.{ap, sym, ◌∙◌, refl, arith}
 use Rattle.std.proofs.lemmas.Result.{err_from_is_err_and}
 use Rattle.toml.specs.{View.table_view}
+use Rattle.base_memory.specs.CheckLaws.{fails_ends}
 use Rattle.file_line.specs.LineFiles.{line_in}
 use Rattle.file_study.specs.study.LineTables.{as_line, line_of_study}
-use Rattle.file_study.proofs.{study_lemmas.Ends.fails_ends, study_lemmas.Flat.line_flat, study_lemmas.LineFaults.fails_so}
-use Rattle.file_study.proofs.study_lemmas.LineFaults.{line_read}
+use Rattle.file_study.proofs.{study_lemmas.Flat.line_flat, study_lemmas.LineFaults.line_read}
 use Rattle.file_study.proofs.study.line.line.Goals as goal
 
 pub returns-in_err-table : goal.returns-in_err-table
@@ -31,10 +31,9 @@ returns-in-Ok c =
     let said = rw c.deref.ensures.value at c.in-Ok.ensures in
     rw c.in_ok-table.ensures (ap as_line (sym read ∙ said))
 
-pub returns : goal.returns
+pub returns-in-Err-Fault : goal.returns-in-Err-Fault
 unfolding line_of_study
-returns c =
+returns-in-Err-Fault c =
     let read = line_read c.in_ok-text.text.items _ c.in_ok-text.ensures in
-    let said = rw c.deref.ensures.value at c.in-Err.ensures in
-    rw (c.as_study.ensures, c.in_ok-table.ensures)
-    (fails_so c.in-Err.why (line_in (table_view c.in_ok-table.table)) (rw read at said))
+    let said = rw (c.deref.ensures.value, c.in-Err-Fault.field-0-is) at c.in-Err-Fault.ensures in
+    rw (c.as_study.ensures, c.in_ok-table.ensures) (ap as_line (sym read ∙ said))

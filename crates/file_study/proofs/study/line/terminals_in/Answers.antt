@@ -2,10 +2,12 @@ use Rattle.std.proofs.Common.{false, [], ◌∷◌, length-append, sym, ◌∙�
 use Rattle.std.proofs.lemmas.Result.{err_from_is_err_and}
 use Rattle.std.proofs.lemmas.List.{drop_all}
 use Rattle.std.proofs.lemmas.List.Folds.{list_all-append}
+use Rattle.base_memory.specs.CheckLaws.{fails_ends}
+use Rattle.base_memory.specs.declared.stopped.Stopped.TheVariants as stopped
 use Rattle.model_line.specs.PlainNames.{is_plain_name}
 use Rattle.model_line.specs.declared.line.Terminal.{Terminal}
 use Rattle.file_study.specs.study.LineTables.{terminals_in}
-use Rattle.file_study.proofs.{study_lemmas.Ends.fails_is, study_lemmas.Ends.fails_ends, study_lemmas.Steps.terminals_more}
+use Rattle.file_study.proofs.study_lemmas.Steps.{terminals_more}
 use Rattle.file_study.proofs.study.line.terminals_in.Goals as goal
 
 pub returns-in_err-text-clause-terminals : goal.returns-in_err-text-clause-terminals
@@ -15,8 +17,7 @@ returns-in_err-text-clause-terminals c =
     c.loop-i.terminals.items c.loop-i-test.true in
     let here = rw (← c.index-names-i.is, ← c.item.ensures) at more in
     rw (told.1, told.2)
-    (fails_ends c.in_err-text.field-0.0 _ _ _
-    (fails_is c.in_err-text.field-0.0 _ (sym c.in_err-text.ensures))
+    (fails_ends (stopped.Fault c.in_err-text.field-0.0) _ _ _ (sym c.in_err-text.ensures)
     (here ∙ c.loop-i.invariant.read))
 
 pub returns-in_err-name-clause-terminals : goal.returns-in_err-name-clause-terminals
@@ -28,8 +29,7 @@ returns-in_err-name-clause-terminals c =
     let here = rw (← c.index-names-i.is, ← c.item.ensures) at more in
     let then = rw (← c.in_ok-text.ensures, c.item.ensures, ← c.item-in-loop-i.ensures) at here in
     rw (told.1, told.2)
-    (fails_ends c.in_err-name.field-0.0 _ _ _
-    (fails_is c.in_err-name.field-0.0 _ (sym c.in_err-name.ensures.is))
+    (fails_ends (stopped.Fault c.in_err-name.field-0.0) _ _ _ (sym c.in_err-name.ensures.is)
     (then ∙ c.loop-i.invariant.read))
 
 pub loop-i-preserved : goal.loop-i-preserved

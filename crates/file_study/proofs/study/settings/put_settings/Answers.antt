@@ -2,9 +2,10 @@ use Rattle.std.proofs.Common.{sym, ◌∙◌}
 use Rattle.std.proofs.lemmas.Result.{err_from_is_err_and}
 use Rattle.std.proofs.lemmas.Map.Iter.{rest_more, rest_all}
 use Rattle.std.specs.Map.Iter.{deref_pair}
+use Rattle.base_memory.specs.CheckLaws.{fails_ends}
 use Rattle.toml.specs.View.{table_view}
 use Rattle.file_study.specs.study.Settings.{put_settings}
-use Rattle.file_study.proofs.{study_lemmas.Ends.fails_ends, study_lemmas.Steps.settings_more}
+use Rattle.file_study.proofs.study_lemmas.Steps.{settings_more}
 use Rattle.file_study.proofs.study.settings.put_settings.Goals as goal
 
 pub returns-in_err-setting : goal.returns-in_err-setting

@@ -1,8 +1,10 @@
 use Rattle.std.proofs.Common.{sym, ◌∙◌}
 use Rattle.std.proofs.lemmas.Result.{err_from_is_err_and}
 use Rattle.std.proofs.lemmas.List.{drop_all}
+use Rattle.base_memory.specs.CheckLaws.{fails_ends}
+use Rattle.base_memory.specs.declared.stopped.Stopped.TheVariants as stopped
 use Rattle.file_study.specs.study.Shows.{all_shown}
-use Rattle.file_study.proofs.{study_lemmas.Ends.fails_is, study_lemmas.Ends.fails_ends, study_lemmas.Steps.shown_more}
+use Rattle.file_study.proofs.study_lemmas.Steps.{shown_more}
 use Rattle.file_study.proofs.study.shows.push_shown.Goals as goal
 
 pub returns-in_err-shown : goal.returns-in_err-shown
@@ -12,8 +14,7 @@ returns-in_err-shown c =
     c.loop-i.i c.args.items.now c.index-items-i.result c.loop-i.shows.items c.loop-i-test.true in
     let here = rw (← c.index-items-i.is, ← c.item.ensures) at more in
     rw (told.1, told.2)
-    (fails_ends c.in_err-shown.field-0.0 _ _ _
-    (fails_is c.in_err-shown.field-0.0 _ (sym c.in_err-shown.ensures))
+    (fails_ends (stopped.Fault c.in_err-shown.field-0.0) _ _ _ (sym c.in_err-shown.ensures)
     (here ∙ c.loop-i.invariant))
 
 pub loop-i-preserved : goal.loop-i-preserved

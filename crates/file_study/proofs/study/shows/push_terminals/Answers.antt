@@ -1,9 +1,10 @@
 use Rattle.std.proofs.Common.{sym, ◌∙◌}
 use Rattle.std.proofs.lemmas.Result.{err_from_is_err_and}
 use Rattle.std.proofs.lemmas.List.{drop_all}
+use Rattle.base_memory.specs.CheckLaws.{fails_ends}
 use Rattle.toml.specs.View.{table_view}
 use Rattle.file_study.specs.study.Shows.{terminals_show}
-use Rattle.file_study.proofs.{study_lemmas.Ends.fails_ends, study_lemmas.Steps.terminals_show_more}
+use Rattle.file_study.proofs.study_lemmas.Steps.{terminals_show_more}
 use Rattle.file_study.proofs.study.shows.push_terminals.Goals as goal
 
 pub returns-in_err-push_terminal : goal.returns-in_err-push_terminal

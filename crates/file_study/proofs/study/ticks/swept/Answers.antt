@@ -2,7 +2,6 @@ use Rattle.std.proofs.Common.{◌<◌, ◌-◌, ap, sym, ◌∙◌, arith}
 use Rattle.std.proofs.lemmas.Result.{err_from_is_err_and}
 use Rattle.file_study.specs.times.Sweeps.{value_of}
 use Rattle.file_study.specs.study.Moments.{all_limited}
-use Rattle.file_study.proofs.study_lemmas.Ends.{fails_is}
 use Rattle.file_study.proofs.study_lemmas.Quotients.{values_more, values_none, limited_more, limited_ends}
 use Rattle.file_study.proofs.study_lemmas.Quotients.{limited_none, test_true, test_false}
 use Rattle.file_study.proofs.study_lemmas.Quotients.{many_values, few_values}
@@ -27,9 +26,8 @@ returns-in_err-ticks c =
     let few = few_values c.args.upward c.args.tick_us c.args.path s c.count-count.result
     c.count-count.ensures (omega arith) in
     rw (told.1, told.2)
-    (fails_is c.in_err-ticks.field-0.0 _
     (few ∙ sym c.loop-i.invariant
-    ∙ ap (λ xs. all_limited c.args.upward c.args.tick_us c.args.path xs done) more ∙ all))
+    ∙ ap (λ xs. all_limited c.args.upward c.args.tick_us c.args.path xs done) more ∙ all)
 
 pub loop-i-preserved : goal.loop-i-preserved
 loop-i-preserved c =

@@ -1,9 +1,10 @@
 use Rattle.std.proofs.Common.{Ok, arith}
 use Rattle.std.proofs.lemmas.Result.{IfOk-weaker, err_from_is_err_and}
-use Rattle.base_records.specs.{CheckLaws.fails_first, RecordFile.said_of}
+use Rattle.base_memory.specs.CheckLaws.{fails_first}
+use Rattle.base_records.specs.RecordFile.{said_of}
 use Rattle.file_tables.specs.script.Scripts.{script_file, scripts_in}
 use Rattle.base_records.specs.SoFar.{all_of, so_far_of}
-use Rattle.file_tables.specs.{script.Gives.is_memory, script.Values.values_of}
+use Rattle.file_tables.specs.{script.Values.values_of}
 use Rattle.file_tables.proofs.script_lemmas.SoFar.{given_good, is_small, none_so_far, record_so_far}
 use Rattle.file_tables.proofs.script.read.read_scripts.Goals as goal
 
@@ -23,7 +24,7 @@ pub returns-in_err-read_file-clause-said : goal.returns-in_err-read_file-clause-
 unfolding scripts_in
 returns-in_err-read_file-clause-said c =
     let told = err_from_is_err_and c.from_residual.result c.from_residual.ensures.1 in
-    rw (told.1, told.2) (fails_first is_memory c.in_err-read_file.field-0.0
+    rw (told.1, told.2) (fails_first c.in_err-read_file.field-0.0
     (said_of (script_file c.args.line.now) c.args.bytes.now) (λ s. Ok (all_of s))
     c.in_err-read_file.ensures.said)
 

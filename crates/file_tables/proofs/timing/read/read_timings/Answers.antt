@@ -1,8 +1,9 @@
 use Rattle.std.proofs.Common.{Ok, arith}
 use Rattle.std.proofs.lemmas.Result.{err_from_is_err_and}
-use Rattle.base_records.specs.{CheckLaws.fails_first, RecordFile.said_of}
+use Rattle.base_memory.specs.CheckLaws.{fails_first}
+use Rattle.base_records.specs.RecordFile.{said_of}
 use Rattle.file_tables.specs.timing.SoFar.{all_timings, so_far_of}
-use Rattle.file_tables.specs.{timing.Gives.is_memory, timing.Timings.timing_file, timing.Timings.timings_in}
+use Rattle.file_tables.specs.{timing.Timings.timing_file, timing.Timings.timings_in}
 use Rattle.file_tables.proofs.timing_lemmas.SoFarInside.{given_inside, none_so_far, record_so_far}
 use Rattle.file_tables.proofs.timing.read.read_timings.Goals as goal
 
@@ -22,7 +23,7 @@ pub returns-in_err-read_file-clause-said : goal.returns-in_err-read_file-clause-
 unfolding timings_in
 returns-in_err-read_file-clause-said c =
     let told = err_from_is_err_and c.from_residual.result c.from_residual.ensures.1 in
-    rw (told.1, told.2) (fails_first is_memory c.in_err-read_file.field-0.0
+    rw (told.1, told.2) (fails_first c.in_err-read_file.field-0.0
     (said_of (timing_file c.args.line.now) c.args.bytes.now) (λ s. Ok (all_timings s))
     c.in_err-read_file.ensures.said)
 

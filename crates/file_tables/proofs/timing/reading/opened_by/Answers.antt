@@ -8,7 +8,6 @@ use Rattle.model_timing.specs.NamedValues.{values_of}
 use Rattle.file_tables.specs.timing.SoFar.{open_of, closed, opened}
 use Rattle.model_timing.specs.declared.named_timing.NamedTiming.{NamedTiming}
 use Rattle.file_tables.specs.timing.Checks.{Opening}
-use Rattle.base_records.specs.CheckLaws.{same_ok}
 use Rattle.file_tables.proofs.timing_lemmas.Earlier.{out_of_order, too_many, opens, opening_same}
 use Rattle.file_tables.proofs.timing.reading.opened_by.Goals as goal
 
@@ -51,11 +50,9 @@ returns-clause-said c =
     let done : map values_of c.push.new.self.items
     ≡ map values_of ts ++ closed (open_of c.in-Some.timing) ∷ [] =
     ap (λ xs. map values_of xs) pushed ∙ map-append values_of ts (c.in_ok-closed.field-0 ∷ [])
-    ∙ ap (λ v. map values_of ts ++ v ∷ []) (sym (same_ok (closed (open_of c.in-Some.timing))
-    (values_of c.in_ok-closed.field-0) c.in_ok-closed.ensures)) in
+    ∙ ap (λ v. map values_of ts ++ v ∷ []) c.in_ok-closed.ensures in
     let opening : opened line c.plain-2.result ≡ open_of c.in_ok-timing-2.timing =
-    same_ok (opened line c.plain-2.result) (open_of c.in_ok-timing-2.timing)
-    c.in_ok-timing-2.ensures.said in
+    sym c.in_ok-timing-2.ensures.said in
     let timing : opened line name ≡ open_of c.in_ok-timing-2.timing =
     ap (opened line) (sym c.plain-2.ensures) ∙ opening in
     rw c.in-Some.is

@@ -2,6 +2,7 @@ use Rattle.std.proofs.Common.{◌≡◌, ◌*◌, ℕ, [], List, length, subst, 
 use Rattle.model_line.specs.Parameters.{terminal_count}
 use Rattle.run_step.specs.{LaneBox.lane_box, Runs.AreDelayed}
 use Rattle.judge_verdict.specs.boxes.Spans.{SpanLists, span_ends}
+use Rattle.judge_verdict.specs.boxes.Terns.{terns_signal}
 use Rattle.judge_margins.specs.map.Blocks.{AreRuled, lane_cell}
 use Rattle.judge_margins.proofs.{map_lemmas.CellLaws.box_of_lane, map_lemmas.CellLaws.cells_delayed, map_lemmas.RuledLaws.ruled_in}
 use Rattle.judge_margins.proofs.map.grid.ruled_block.Goals as goal
@@ -10,7 +11,7 @@ pub rule_script-requires-clause-delayed : goal.rule_script-requires-clause-delay
 rule_script-requires-clause-delayed c =
     let line = c.args.compiled.now.line.now in
     let spans = c.in_ok-spans.spans.items in
-    subst (λ (l : List SpanLists). AreDelayed 64 span_ends line l []) (sym c.deref.ensures.value)
+    subst (λ (l : List SpanLists). AreDelayed terns_signal line l []) (sym c.deref.ensures.value)
     (cells_delayed c.laws_below.ensures line c.args.axes.now c.args.first spans c.in_ok-spans.ensures
     c.requires.can c.requires.first)
 

@@ -1,4 +1,4 @@
-use Rattle.std.proofs.Common.{◌≡◌, ◌≤◌, ◌+◌, ℕ, List, Some, sym, subst, true}
+use Rattle.std.proofs.Common.{◌≡◌, ◌≤◌, ◌+◌, ℕ, List, Some, arith, sym, subst, true}
 use Rattle.std.specs.Prelude.{slice_get}
 use Rattle.judge_margins.specs.declared.margins.bracket.Bracket.{Bracket}
 use Rattle.judge_margins.specs.margins.Brackets.{AreBrackets, AreBracketsOf, left_of}
@@ -45,3 +45,9 @@ halving-preserved c =
     c.in_ok-brackets-3.ensures c.halving.width
     (subst (λ (l : List Bracket). AreBrackets c.args.of.now c.args.ends.now c.halving.width l)
     (sym c.deref-in-halving.ensures.value) c.halving.invariant)
+
+pub returns : goal.returns
+returns c =
+    let none : c.halving.width ≡ 0 = omega (arith, c.halving-test.false) in
+    subst (λ (n : ℕ). AreBrackets c.args.of.now c.args.ends.now n c.halving.brackets.items) none
+    c.halving.invariant

@@ -1,6 +1,4 @@
-use Rattle.std.proofs.Common.{refl, ◌≡◌, ◌<◌, ℕ, length, arith}
-use Rattle.std.proofs.lemmas.Bool.{eqb-true}
-use Rattle.std.specs.List.{AllZip}
+use Rattle.std.proofs.Common.{refl, ◌≡◌, length, arith}
 use Rattle.judge_match.specs.explain.Changes.{AreNear}
 use Rattle.judge_match.proofs.explain_lemmas.ListLaws.{zip_from}
 use Rattle.judge_match.proofs.explain.changes.are_near.Goals as goal

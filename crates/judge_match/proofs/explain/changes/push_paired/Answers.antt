@@ -1,8 +1,7 @@
-use Rattle.std.proofs.Common.{◌≡◌, ◌≤◌, ◌<◌, ◌∙◌, ap, subst, sym, List, ℕ, Bool, true, length, ◌++◌, ◌∷◌, [], drop, arith, get_or, ⊎_elim, inl, inr}
+use Rattle.std.proofs.Common.{◌≤◌, ◌<◌, List, ℕ, true, length, ◌++◌, arith, ⊎_elim, inl, inr}
 use Rattle.std.proofs.lemmas.Bool.{cases_lt}
 use Rattle.judge_match.specs.explain.Answers.{paired}
-use Rattle.judge_match.specs.declared.explain.paired.Paired.{Paired}
-use Rattle.judge_match.proofs.explain_lemmas.PairedLaws.{paired_end, paired_step}
+use Rattle.judge_match.proofs.explain_lemmas.PairedLaws.{paired_end}
 use Rattle.judge_match.proofs.explain.changes.push_paired.Goals as goal
 
 pub returns : goal.returns

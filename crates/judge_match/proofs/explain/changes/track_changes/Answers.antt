@@ -1,7 +1,7 @@
-use Rattle.std.proofs.Common.{◌≡◌, ◌∙◌, ap, subst, sym, List, ℕ, Bool, length}
+use Rattle.std.proofs.Common.{◌≡◌, subst, sym, List, ℕ, length}
 use Rattle.std.specs.Prelude.{IfOk}
 use Rattle.run_changes.specs.changes.PlayedTracks.{is_on}
-use Rattle.judge_match.specs.{explain.Changes.changes as changes_of, explain.Asked.level_in, explain.Asked.AreLevels}
+use Rattle.judge_match.specs.{explain.Asked.AreLevels}
 use Rattle.judge_match.proofs.explain_lemmas.ListLaws.{levels_changes}
 use Rattle.judge_match.proofs.explain.changes.track_changes.Goals as goal
 

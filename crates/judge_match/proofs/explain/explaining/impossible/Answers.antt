@@ -1,4 +1,4 @@
-use Rattle.std.proofs.Common.{◌≡◌, ◌∙◌, ◌+◌, ◌*◌, ap, arith, subst, sym, ℕ, length}
+use Rattle.std.proofs.Common.{◌≡◌, ◌+◌, ◌*◌, ap, arith, length}
 use Rattle.judge_match.specs.explain.Parts.{preorder, part_count}
 use Rattle.judge_match.proofs.explain_lemmas.TreeLaws.{nodes_counted}
 use Rattle.judge_match.proofs.explain.explaining.impossible.Goals as goal

@@ -1,8 +1,7 @@
-use Rattle.std.proofs.Common.{◌≡◌, ◌∙◌, ap, subst, sym, List, ℕ}
+use Rattle.std.proofs.Common.{◌∙◌, subst, sym, List}
 use Rattle.run_signal.specs.SentKeys.{SentKeys}
 use Rattle.run_signal.specs.declared.tern.Tern.{Tern}
 use Rattle.judge_match.specs.explain.Asked.{AreRecorded, IsOut, tern_pairs, recorded_of}
-use Rattle.judge_match.specs.declared.explain.recorded.Recorded.{Recorded}
 use Rattle.judge_match.proofs.explain_lemmas.ExcludedLaws.{by_key, by_trip}
 use Rattle.judge_match.proofs.explain.leaf.is_excluded.Goals as goal
 use Rattle.judge_match.proofs.explain.leaf.is_excluded.Goals.{then-is_out, else-is_out}

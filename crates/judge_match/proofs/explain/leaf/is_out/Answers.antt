@@ -1,4 +1,4 @@
-use Rattle.std.proofs.Common.{◌≡◌, ◌<◌, ◌∙◌, ap, arith, sym, Some, length}
+use Rattle.std.proofs.Common.{◌<◌, ◌∙◌, ap, arith, sym, Some, length}
 use Rattle.std.proofs.lemmas.Option.{slice_get-get_or}
 use Rattle.judge_match.proofs.explain_lemmas.ExcludedLaws.{out_of}
 use Rattle.judge_match.proofs.explain.leaf.is_out.Goals as goal

@@ -1,8 +1,6 @@
-use Rattle.std.proofs.Common.{◌≡◌, ◌<◌, ◌∙◌, ap, arith, subst, sym, ℕ, List, []}
-use Rattle.std.specs.Prelude.{IfOk}
-use Rattle.model_history.specs.Rails.{Ends}
+use Rattle.std.proofs.Common.{◌<◌, arith, subst, sym, ℕ, []}
 use Rattle.model_logic.specs.Choice.{Box, LeastFromOne}
-use Rattle.run_signal.specs.{Terns.tern_rails, declared.tern.Tern.Tern}
+use Rattle.run_signal.specs.{Terns.tern_rails}
 use Rattle.run_step.specs.{LaneBox.lane_box, Runs.IsTheHistory}
 use Rattle.run_changes.specs.changes.Tracks.{tracks_history}
 use Rattle.judge_match.specs.explain.Parts.{part_box}

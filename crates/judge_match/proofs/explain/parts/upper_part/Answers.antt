@@ -1,4 +1,4 @@
-use Rattle.std.proofs.Common.{◌≡◌, ◌∙◌, ◌+◌, ap, subst, sym, ℕ, List}
+use Rattle.std.proofs.Common.{◌≡◌, ◌∙◌, ◌+◌, ap, subst, sym, ℕ}
 use Rattle.std.specs.Prelude.{IfOk}
 use Rattle.model_history.specs.Rails.{Ends}
 use Rattle.std.specs.Prelude.{slice_set}

@@ -1,9 +1,9 @@
-use Rattle.std.proofs.Common.{◌≡◌, ◌∙◌, ap, subst, sym, refl, List, ℕ, Bool, true, false, ◌↔◌}
+use Rattle.std.proofs.Common.{◌≡◌, ◌∙◌, subst, sym, List, true, false}
 use Rattle.run_signal.specs.SentKeys.{SentKeys}
 use Rattle.run_signal.specs.declared.level.Level.{Level}
 use Rattle.run_changes.specs.changes.PlayedTracks.{played, is_shown}
 use Rattle.judge_match.specs.explain.Asked.{AreRecorded, recorded_of}
-use Rattle.judge_match.specs.explain.Explains.{AreNearEach, IsNear, Explains}
+use Rattle.judge_match.specs.explain.Explains.{AreNearEach}
 use Rattle.judge_match.proofs.explain_lemmas.PlayLaws.{explains_by}
 use Rattle.judge_match.proofs.explain.play.explains.Goals as goal
 use Rattle.judge_match.proofs.explain.play.explains.Goals.{then-branch+in_ok-are_all_near-2, else-branch}

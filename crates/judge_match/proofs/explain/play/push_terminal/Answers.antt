@@ -1,11 +1,10 @@
-use Rattle.std.proofs.Common.{◌≡◌, ◌<◌, ◌∙◌, ◌++◌, ap, arith, subst, sym, List, ℕ, Bool, true, false, length}
+use Rattle.std.proofs.Common.{◌≡◌, ◌<◌, ◌∙◌, ◌++◌, arith, List, ℕ, true, false, length}
 use Rattle.run_signal.specs.SentKeys.{SentKeys}
 use Rattle.run_signal.specs.declared.level.Level.{Level}
 use Rattle.run_changes.specs.changes.PlayedTracks.{played}
 use Rattle.judge_match.specs.explain.Answers.{paired, paired_signal, paired_terminal}
 use Rattle.judge_match.specs.explain.Asked.{recorded_of}
 use Rattle.judge_match.specs.declared.explain.paired.Paired.{Paired}
-use Rattle.judge_match.specs.declared.explain.recorded.Recorded.{Recorded}
 use Rattle.judge_match.proofs.explain_lemmas.ListLaws.{indexed, on_ok_weaker}
 use Rattle.judge_match.proofs.explain_lemmas.PlayLaws.{signal_rows, rows_grow}
 use Rattle.judge_match.proofs.explain.play.push_terminal.Goals as goal

@@ -1,4 +1,4 @@
-use Rattle.std.proofs.Common.{◌≡◌, ◌<◌, ◌≤◌, ◌∙◌, ◌++◌, ap, arith, subst, sym, ℕ, List}
+use Rattle.std.proofs.Common.{◌≡◌, ◌∙◌, ◌++◌, ap, arith, sym, ℕ}
 use Rattle.std.specs.List.{flat_map, range_with_len}
 use Rattle.model_line.specs.Parameters.{terminal_count}
 use Rattle.run_changes.specs.changes.PlayedTracks.{played}

@@ -1,6 +1,6 @@
-use Rattle.std.proofs.Common.{◌≡◌, ◌∙◌, ap, subst, sym, List, ℕ, Bool, length}
+use Rattle.std.proofs.Common.{◌∙◌, subst, sym, ℕ, Bool, length}
 use Rattle.run_waves.specs.waves.Waves.{wave_at}
-use Rattle.judge_match.specs.{explain.Changes.StaysAround, explain.Asked.level_in, explain.Asked.AreLevels}
+use Rattle.judge_match.specs.{explain.Asked.AreLevels}
 use Rattle.judge_match.proofs.explain_lemmas.ListLaws.{levels_changes, levels_stay}
 use Rattle.judge_match.proofs.explain.recorded.kept_of_wave.Goals as goal
 

@@ -1,4 +1,3 @@
-use Rattle.std.proofs.Common.{ℕ}
 use Rattle.judge_match.proofs.explain.search.+search_part.Given as goal
 
 abbrev pub decreases-search_part : goal.decreases-search_part

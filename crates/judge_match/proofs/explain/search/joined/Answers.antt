@@ -1,5 +1,5 @@
-use Rattle.std.proofs.Common.{◌≡◌, ◌∙◌, ◌++◌, ◌∷◌, ap, subst, sym, List}
-use Rattle.std.specs.Prelude.{IfSome, Option}
+use Rattle.std.proofs.Common.{◌∙◌, ◌++◌, ◌∷◌, ap, subst, List}
+use Rattle.std.specs.Prelude.{IfSome}
 use Rattle.judge_match.specs.explain.Found.{AreNodesOver}
 use Rattle.judge_match.specs.explain.Parts.{Parted, preorder, lower_part, upper_part}
 use Rattle.judge_match.specs.declared.explain.tree.PartNode.{PartNode}

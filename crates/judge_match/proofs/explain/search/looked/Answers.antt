@@ -1,4 +1,4 @@
-use Rattle.std.proofs.Common.{◌≡◌, inr}
+use Rattle.std.proofs.Common.{inr}
 use Rattle.judge_match.specs.explain.Parts.{Excluded}
 use Rattle.judge_match.proofs.explain.search.looked.Goals as goal
 

@@ -45,3 +45,8 @@ steps-preserved c =
           subst (λ (n : ℕ). IsPassed of (without_step cut n)) (sym at) (tried.passes both.1))
           (cases_lt j i));
     }
+
+pub returns-clause-matter : goal.returns-clause-matter
+returns-clause-matter c = λ off. λ j from lt.
+    let done = c.steps-test.false in
+    c.steps.invariant.matter off j (omega (arith, done, from)) lt

@@ -5,6 +5,7 @@ use Rattle.model_line.specs.Parameters.{terminal_count}
 use Rattle.model_logic.specs.{Choice.Choice, Histories.MeetsBy}
 use Rattle.model_timing.specs.{declared.step.Step.Step, Timing.TimingValues, Choice.timing_choice}
 use Rattle.run_changes.specs.changes.PlayedTracks.{played, shown_is}
+use Rattle.run_signal.specs.Levels.{level_signal}
 use Rattle.run_step.specs.{LaneBox.lane_box, Played.ends_of_tick, Runs.AreDelayed}
 use Rattle.run_step.specs.Runs.{IsPoint}
 use Rattle.judge_settle.proofs.settle.play.is_met.Goals as goal
@@ -13,11 +14,11 @@ pub run_tracks-requires-clause-delayed : goal.run_tracks-requires-clause-delayed
 run_tracks-requires-clause-delayed c =
     let line = c.args.compiled.now.line.now in
     let timing : TimingValues = c.args.timing.now in
-    subst (λ (values : List ℕ). AreDelayed 1 ends_of_tick line values c.steps-steps.result.now)
+    subst (λ (values : List ℕ). AreDelayed level_signal line values c.steps-steps.result.now)
     (sym c.values-values.ensures)
-    (subst (λ (steps : List (Step ℕ)). AreDelayed 1 ends_of_tick line timing.values steps)
+    (subst (λ (steps : List (Step ℕ)). AreDelayed level_signal line timing.values steps)
     (sym c.steps-steps.ensures.same)
-    (c.a_timing_is_one_choice.ensures.delayed line timing 1 c.requires.inside))
+    (c.a_timing_is_one_choice.ensures.delayed line timing c.requires.inside))
 
 pub returns : goal.returns
 returns c = λ not_met.

@@ -10,13 +10,10 @@ returns g c = record {
       let spans = c.args.spans.now in
       let steps = c.args.steps.now in
       only_told c.line_laws.ensures c.gates_stand_for_their_trees.ensures line script
-      (lane_box g.V.Signal.ends line spans steps lane) (c.requires.delayed lane inside)
+      (lane_box g.V.Signal.signal.ends line spans steps lane) (c.requires.delayed lane inside)
       c.args.compiled.now.net.now
       c.args.compiled.now.of_line choice point c.args.recorded.now.keys.items
       c.args.recorded.now.trips.items
-      (g.V.Signal.rails c.take_agreeing-lanes.result lane)
-      (c.take_agreeing-lanes.ensures script (c.in_ok-kept.ensures.stands steps) lane inside);
+      (g.V.Signal.signal.rails c.take_agreeing-lanes.result lane)
+      (c.take_agreeing-lanes.ensures script (c.in_ok-kept.ensures.stands) lane inside);
 }
-
-pub take_agreeing-lanes-requires-clause-kept : goal.take_agreeing-lanes-requires-clause-kept
-take_agreeing-lanes-requires-clause-kept g c = c.in_ok-kept.ensures.can c.args.steps.now

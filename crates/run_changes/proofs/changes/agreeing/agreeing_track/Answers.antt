@@ -10,9 +10,9 @@ stretches-init g c = record {
   from = omega arith;
   inside = omega arith;
   lanes = λ lane inside.
-      none_yet (rails_at (in_lane g.V.Signal.rails lane c.args.track.now.keys))
+      none_yet (rails_at (in_lane g.V.Signal.signal.rails lane c.args.track.now.keys))
       (rails_at (in_lane (λ x _. level_rails x) 0 c.args.recorded.now.keys)) c.args.from
-      (g.V.Signal.rails c.known-lanes.result lane) (c.known-lanes.ensures lane inside);
+      (g.V.Signal.signal.rails c.known-lanes.result lane) (c.known-lanes.ensures lane inside);
 }
 
 pub stretches-preserved : goal.stretches-preserved
@@ -20,7 +20,7 @@ stretches-preserved g c =
     let t = c.stretches.t in
     let track = c.args.track.now in
     let recorded = c.args.recorded.now in
-    let rails = g.V.Signal.rails in
+    let rails = g.V.Signal.signal.rails in
     let low : c.args.from ≤ t = c.stretches.invariant.from in
     record {
       from = omega (arith, c.both_stay-t.ensures.later);

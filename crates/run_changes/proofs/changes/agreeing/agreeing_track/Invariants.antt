@@ -9,9 +9,9 @@ abbrev pub invariant-stretches : goal.invariant-stretches
 invariant-stretches g l = record {
   from : l.from ≤ l.t;
   inside : l.t ≤ l.end;
-  lanes : (lane : ℕ) → lane < g.V.Signal.LANES
-      → (IsTrue (g.V.Signal.rails l.lanes lane).must
-      ↔ AgreeIn (rails_at (in_lane g.V.Signal.rails lane l.track.keys))
+  lanes : (lane : ℕ) → lane < g.V.Signal.signal.lanes
+      → (IsTrue (g.V.Signal.signal.rails l.lanes lane).must
+      ↔ AgreeIn (rails_at (in_lane g.V.Signal.signal.rails lane l.track.keys))
       (rails_at (in_lane (λ x _. level_rails x) 0 l.recorded.keys)) l.from l.t);
 }
 

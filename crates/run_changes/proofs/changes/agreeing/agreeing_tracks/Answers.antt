@@ -11,8 +11,8 @@ use Rattle.run_changes.proofs.changes.agreeing.agreeing_tracks.Goals as goal
 
 pub loop-k-init : goal.loop-k-init
 loop-k-init g c = λ lane inside.
-    no_track (own_pairs g.V.Signal.rails lane c.args.tracks.now) c.args.recorded.now c.args.from
-    c.args.end (g.V.Signal.rails c.known-lanes.result lane) (c.known-lanes.ensures lane inside)
+    no_track (own_pairs g.V.Signal.signal.rails lane c.args.tracks.now) c.args.recorded.now c.args.from
+    c.args.end (g.V.Signal.signal.rails c.known-lanes.result lane) (c.known-lanes.ensures lane inside)
 
 pub agreeing_track-requires-clause-track : goal.agreeing_track-requires-clause-track
 agreeing_track-requires-clause-track g c =
@@ -39,7 +39,7 @@ agreeing_track-requires-clause-recorded g c =
 pub loop-k-preserved : goal.loop-k-preserved
 loop-k-preserved g c = λ lane inside.
     let n = c.loop-k.k in
-    let rails = g.V.Signal.rails in
+    let rails = g.V.Signal.signal.rails in
     let tracks = c.args.tracks.now in
     let recorded = c.args.recorded.now in
     let x = c.index-tracks-k.result in

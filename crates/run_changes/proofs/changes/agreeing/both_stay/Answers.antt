@@ -6,7 +6,8 @@ use Rattle.run_changes.proofs.changes.agreeing.both_stay.Goals as goal
 
 pub returns-then-end-t-eq1-clause-track : goal.returns-then-end-t-eq1-clause-track
 returns-then-end-t-eq1-clause-track g c = λ lane inside.
-    stays_once (rails_at (in_lane g.V.Signal.rails lane c.args.track.now.keys)) c.args.t c.args.end (omega arith)
+    stays_once (rails_at (in_lane g.V.Signal.signal.rails lane c.args.track.now.keys)) c.args.t
+    c.args.end (omega arith)
 
 pub returns-then-end-t-eq1-clause-recorded : goal.returns-then-end-t-eq1-clause-recorded
 returns-then-end-t-eq1-clause-recorded g c =
@@ -14,7 +15,8 @@ returns-then-end-t-eq1-clause-recorded g c =
 
 pub returns-clause-track : goal.returns-clause-track
 returns-clause-track g c = λ lane inside.
-    stays_less (rails_at (in_lane g.V.Signal.rails lane c.args.track.now.keys)) c.args.t _ c.args.end
+    stays_less (rails_at (in_lane g.V.Signal.signal.rails lane c.args.track.now.keys)) c.args.t _
+    c.args.end
     c.stays_until-stays.result c.min-2.result (omega arith) (omega arith) (omega arith)
     (c.stays_until-stays.ensures.stays lane inside)
 

@@ -4,4 +4,4 @@ use Rattle.run_changes.proofs.changes.agreeing.some_left.Given as goal
 
 -- none so far
 abbrev pub invariant-loop-lane : goal.invariant-loop-lane
-invariant-loop-lane g l = (k : ℕ) → k < l.lane → IsFalse (g.V.Signal.rails l.lanes k).must
+invariant-loop-lane g l = (k : ℕ) → k < l.lane → IsFalse (g.V.Signal.signal.rails l.lanes k).must

@@ -3,12 +3,11 @@ use Rattle.std.specs.Prelude.{◌↔◌, IsTrue}
 use Rattle.run_signal.specs.declared.level.Level.{Level}
 use Rattle.run_signal.specs.SentKeys.{SentKeys}
 use Rattle.model_line.specs.Parameters.{terminal_count}
-use Rattle.model_logic.specs.PairMean.{PairWorld, PairSignals}
-use Rattle.model_logic.specs.{Logic.key_tree, Solution.the_keys}
+use Rattle.model_logic.specs.PairMean.{PairSignals}
 use Rattle.run_changes.specs.changes.Agreeing.{AllAgreeIn, LaneAgrees, own_pairs}
 use Rattle.run_changes.specs.changes.Tracks.{trips_of}
-use Rattle.run_step.specs.{GatePairs.GateSignals, GatePairs.line_pairs, LaneBox.lane_box}
-use Rattle.run_step.specs.{LaneBox.lane_world, Ticks.AreSent}
+use Rattle.run_step.specs.Lanes.{line_lane}
+use Rattle.run_step.specs.{Lanes.LanePairs, Ticks.AreSent}
 use Rattle.run_changes.proofs.changes_lemmas.AgreeLaws.{before_none, before_more, none_left}
 use Rattle.run_changes.proofs.changes_lemmas.TrackLaws.{kept_pair}
 use Rattle.run_changes.proofs.changes.agreeing.take_agreeing.Goals as goal
@@ -19,73 +18,64 @@ loop-t-init g c = record {
   kept = c.requires.kept;
   stands = λ script given. given;
   agree = λ script given lane inside.
-      let line = c.args.compiled.now.line.now in
-      let ends = g.V.Signal.ends in
-      let spans = c.args.spans.now in
-      let steps = c.args.steps.now in
-      let w : PairWorld = lane_world ends line script spans steps lane in
-      let u : GateSignals =
-      line_pairs line script (lane_box ends line spans steps lane) c.args.compiled.now.net.now in
-      before_none (terminal_count line) (the_keys w (key_tree line)) (trips_of
-      c.args.compiled.now.net.now u)
+      let line = c.args.run.now.compiled.now.line.now in
+      let p : LanePairs = line_lane g.V.Signal.signal.ends c.args.run.now script lane in
+      before_none (terminal_count line) p.keys (trips_of c.args.run.now.compiled.now.net.now p.pairs)
       c.args.recorded.now.keys.items c.args.recorded.now.trips.items
-      (g.V.Signal.rails c.known-lanes.result lane) (c.known-lanes.ensures lane inside);
+      (g.V.Signal.signal.rails c.known-lanes.result lane) (c.known-lanes.ensures lane inside);
 }
 
 pub agreeing_tracks-keys-requires-clause-tracks : goal.agreeing_tracks-keys-requires-clause-tracks
 agreeing_tracks-keys-requires-clause-tracks g c =
-    let h = c.args.compiled.now.line.now.horizon in
-    let n : length c.args.compiled.now.net.now.keys ≡ terminal_count c.args.compiled.now.line.now =
-    c.args.compiled.now.of_line.terminals in
-    subst (λ (l : List (SentKeys _)). AreSent (terminal_count c.args.compiled.now.line.now) h
+    let h = c.args.run.now.compiled.now.line.now.horizon in
+    let n : length c.args.run.now.compiled.now.net.now.keys
+    ≡ terminal_count c.args.run.now.compiled.now.line.now =
+    c.args.run.now.compiled.now.of_line.terminals in
+    subst (λ (l : List (SentKeys _)). AreSent (terminal_count c.args.run.now.compiled.now.line.now) h
     (c.loop-t.t + c.take_stretch-stays.result) l) (sym c.as_slice.ensures.value)
     (subst (λ (m : ℕ). AreSent m h (c.loop-t.t + c.take_stretch-stays.result)
     c.take_stretch-stays.new.kept.keys.items) n c.take_stretch-stays.ensures.kept.keys)
 
 pub agreeing_tracks-trips-requires-clause-tracks : goal.agreeing_tracks-trips-requires-clause-tracks
 agreeing_tracks-trips-requires-clause-tracks g c =
-    let h = c.args.compiled.now.line.now.horizon in
-    let n : length c.args.compiled.now.net.now.trips ≡ terminal_count c.args.compiled.now.line.now =
-    c.args.compiled.now.of_line.laws.same ∙ c.args.compiled.now.of_line.terminals in
-    subst (λ (l : List (SentKeys _)). AreSent (terminal_count c.args.compiled.now.line.now) h
+    let h = c.args.run.now.compiled.now.line.now.horizon in
+    let n : length c.args.run.now.compiled.now.net.now.trips
+    ≡ terminal_count c.args.run.now.compiled.now.line.now =
+    c.args.run.now.compiled.now.of_line.laws.same ∙ c.args.run.now.compiled.now.of_line.terminals in
+    subst (λ (l : List (SentKeys _)). AreSent (terminal_count c.args.run.now.compiled.now.line.now) h
     (c.loop-t.t + c.take_stretch-stays.result) l) (sym c.as_slice-in-loop-t-2.ensures.value)
     (subst (λ (m : ℕ). AreSent m h (c.loop-t.t + c.take_stretch-stays.result)
     c.take_stretch-stays.new.kept.trips.items) n c.take_stretch-stays.ensures.kept.trips)
 
 pub loop-t-preserved : goal.loop-t-preserved
 loop-t-preserved g c =
-    let line = c.args.compiled.now.line.now in
-    let net = c.args.compiled.now.net.now in
-    let ends = g.V.Signal.ends in
-    let rails = g.V.Signal.rails in
-    let spans = c.args.spans.now in
-    let steps = c.args.steps.now in
+    let line = c.args.run.now.compiled.now.line.now in
+    let net = c.args.run.now.compiled.now.net.now in
+    let rails = g.V.Signal.signal.rails in
     let h = line.horizon in
     let t = c.loop-t.t in
     let end : ℕ = t + c.take_stretch-stays.result in
     let kept = c.take_stretch-stays.new.kept in
     let recorded = c.args.recorded.now in
-    let of_line = c.args.compiled.now.of_line in
+    let of_line = c.args.run.now.compiled.now.of_line in
     record {
       fits = c.take_stretch-stays.ensures.fits;
       kept = c.take_stretch-stays.ensures.kept;
       stands = λ script given.
           c.take_stretch-stays.ensures.stands script (c.loop-t.invariant.stands script given);
       agree = λ script given lane inside.
-          let w : PairWorld = lane_world ends line script spans steps lane in
-          let key : PairSignals = the_keys w (key_tree line) in
-          let u : GateSignals = line_pairs line script (lane_box ends line spans steps lane) net in
-          let trip : PairSignals = trips_of net u in
+          let p : LanePairs = line_lane g.V.Signal.signal.ends c.args.run.now script lane in
+          let trip : PairSignals = trips_of net p.pairs in
           let now =
           (c.take_stretch-stays.ensures.stands script (c.loop-t.invariant.stands script given)).tracked
           lane inside in
-          before_more (terminal_count line) key trip recorded.keys.items recorded.trips.items
+          before_more (terminal_count line) p.keys trip recorded.keys.items recorded.trips.items
           (own_pairs rails lane kept.keys.items) (own_pairs rails lane kept.trips.items) t end
           (rails c.loop-t.lanes lane) (rails c.agreeing_tracks-keys.result lane)
           (rails c.agreeing_tracks-trips.result lane) (rails c.and.result lane)
           (rails c.and-lanes.result lane) (omega arith) (c.and.ensures lane inside)
           (c.and-lanes.ensures lane inside)
-          (λ k r kn lt. kept_pair c.history_laws.ensures rails lane key (length net.keys) h end k r
+          (λ k r kn lt. kept_pair c.history_laws.ensures rails lane p.keys (length net.keys) h end k r
           kept.keys.items c.take_stretch-stays.ensures.kept.keys now.keys_kept
           (subst (λ (n : ℕ). k < n) (sym of_line.terminals) kn) lt)
           (λ k r kn lt. kept_pair c.history_laws.ensures rails lane trip (length net.trips) h end k r
@@ -108,28 +98,21 @@ loop-t-preserved g c =
 
 pub returns-then-not-some_left : goal.returns-then-not-some_left
 returns-then-not-some_left g c = λ script given lane inside.
-    let line = c.args.compiled.now.line.now in
-    let ends = g.V.Signal.ends in
-    let spans = c.args.spans.now in
-    let steps = c.args.steps.now in
-    let w : PairWorld = lane_world ends line script spans steps lane in
-    let u : GateSignals =
-    line_pairs line script (lane_box ends line spans steps lane) c.args.compiled.now.net.now in
-    none_left (terminal_count line) (the_keys w (key_tree line)) (trips_of
-    c.args.compiled.now.net.now u)
+    let line = c.args.run.now.compiled.now.line.now in
+    let p : LanePairs = line_lane g.V.Signal.signal.ends c.args.run.now script lane in
+    none_left (terminal_count line) p.keys (trips_of c.args.run.now.compiled.now.net.now p.pairs)
     c.args.recorded.now.keys.items c.args.recorded.now.trips.items c.loop-t.t line.horizon
-    (g.V.Signal.rails c.loop-t.lanes lane) c.loop-t.invariant.fits
+    (g.V.Signal.signal.rails c.loop-t.lanes lane) c.loop-t.invariant.fits
     (c.some_left.ensures c.if-not-some_left.true lane inside)
     (c.loop-t.invariant.agree script given lane inside)
 
 pub returns : goal.returns
 returns g c = λ script given lane inside.
-    let line = c.args.compiled.now.line.now in
+    let line = c.args.run.now.compiled.now.line.now in
     let h = line.horizon in
     let fits : c.loop-t.t ≤ h = c.loop-t.invariant.fits in
     let last : c.loop-t.t ≡ h = omega (arith, fits, c.loop-t-test.false) in
-    subst (λ (m : ℕ). IsTrue (g.V.Signal.rails c.loop-t.lanes lane).must
-    ↔ LaneAgrees g.V.Signal.ends line script c.args.spans.now c.args.steps.now
-    c.args.compiled.now.net.now lane
+    subst (λ (m : ℕ). IsTrue (g.V.Signal.signal.rails c.loop-t.lanes lane).must
+    ↔ LaneAgrees g.V.Signal.signal.ends c.args.run.now script lane
     c.args.recorded.now.keys.items c.args.recorded.now.trips.items m) last
     (c.loop-t.invariant.agree script given lane inside)

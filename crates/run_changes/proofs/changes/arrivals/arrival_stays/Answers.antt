@@ -31,21 +31,20 @@ next_span-preserved g c =
     let below_m : m ≤ c.next_span.stays = c.sooner-first.ensures.limited in
     let below_n : n ≤ m = c.sooner-stays.ensures.limited in
     let limit : c.next_span.stays ≤ 4000 = c.next_span.invariant.limited in
-    let ends = g.V.Signal.ends c.args.delay.now in
-    let lanes : c.LANES-lanes.result ≡ g.V.Signal.LANES = c.LANES-lanes.ensures in
-    let inside : lane < g.V.Signal.LANES = subst (λ k. lane < k) lanes c.next_span-test.true in
-    let lanes_n = g.V.Signal.LANES in
-    let rails = g.V.Signal.rails in
+    let ends = g.V.Signal.signal.ends c.args.delay.now in
+    let lanes : c.LANES-lanes.result ≡ g.V.Signal.signal.lanes = c.LANES-lanes.ensures
+    ∙ sym g.met.V.Signal.lanes_are in
+    let inside : lane < g.V.Signal.signal.lanes = subst (λ k. lane < k) lanes c.next_span-test.true in
     let keys = c.args.key.now.keys in
     let some : 1 ≤ a =
     subst (λ (k : ℕ). 1 ≤ k) (sym c.least-least.ensures.least) (c.requires.later lane inside) in
-    let first : EndStays lanes_n rails keys t a m =
+    let first : EndStays g.V.Signal.signal keys t a m =
     c.sooner-first.ensures.keeps (λ same.
-    subst (λ (k : ℕ). EndStays lanes_n rails keys t k c.next_span.stays) (sym same)
+    subst (λ (k : ℕ). EndStays g.V.Signal.signal keys t k c.next_span.stays) (sym same)
     (c.next_span.invariant.last (subst (λ (k : ℕ). 1 ≤ k) same some))) in
-    let second : EndStays lanes_n rails keys t b n =
+    let second : EndStays g.V.Signal.signal keys t b n =
     c.sooner-stays.ensures.keeps (λ same.
-    subst (λ (k : ℕ). EndStays lanes_n rails keys t k m) (sym same) first) in
+    subst (λ (k : ℕ). EndStays g.V.Signal.signal keys t k m) (sym same) first) in
     record {
       some = c.sooner-stays.ensures.some;
       limited = omega arith;
@@ -71,8 +70,9 @@ pub next_span-smaller : goal.next_span-smaller
 next_span-smaller g c =
     let lane = c.next_span.lane in
     let next = c.first-lane.result in
-    let lanes : c.LANES-lanes.result ≡ g.V.Signal.LANES = c.LANES-lanes.ensures in
-    let few : g.V.Signal.LANES ≤ 64 = c.alike-alike.ensures.few in
+    let lanes : c.LANES-lanes.result ≡ g.V.Signal.signal.lanes = c.LANES-lanes.ensures
+    ∙ sym g.met.V.Signal.lanes_are in
+    let few : g.V.Signal.signal.lanes ≤ 64 = c.alike-alike.ensures.few in
     let here : lane < c.LANES-lanes.result = c.next_span-test.true in
     ⊎_elim
     (λ later. omega (arith, later, here))
@@ -93,10 +93,11 @@ next_span-smaller g c =
 
 pub returns-clause-keeps : goal.returns-clause-keeps
 returns-clause-keeps g c = λ lane u inside is.
-    let lanes : c.LANES-lanes.result ≡ g.V.Signal.LANES = c.LANES-lanes.ensures in
+    let lanes : c.LANES-lanes.result ≡ g.V.Signal.signal.lanes = c.LANES-lanes.ensures
+    ∙ sym g.met.V.Signal.lanes_are in
     let over : c.LANES-lanes.result ≤ c.next_span.lane = c.next_span-test.false in
     let some : 1 ≤ c.next_span.lane = omega (arith, inside, lanes, over) in
-    let few : g.V.Signal.LANES ≤ 64 = c.next_span.invariant.few some in
+    let few : g.V.Signal.signal.lanes ≤ 64 = c.next_span.invariant.few some in
     let low : lane < 64 = omega (arith, inside, few) in
     c.next_span.invariant.keeps lane inside low
     (c.next_span.invariant.passed lane low (omega (arith, inside, lanes, over))) u is

@@ -9,12 +9,12 @@ abbrev pub invariant-next_span : goal.invariant-next_span
 invariant-next_span g l = record {
   some : 1 ≤ l.stays;
   limited : l.stays ≤ 4000;
-  last : 1 ≤ l.last → EndStays g.V.Signal.LANES g.V.Signal.rails l.key.keys l.t l.last l.stays;
-  few : 1 ≤ l.lane → g.V.Signal.LANES ≤ 64;
+  last : 1 ≤ l.last → EndStays g.V.Signal.signal l.key.keys l.t l.last l.stays;
+  few : 1 ≤ l.lane → g.V.Signal.signal.lanes ≤ 64;
   passed : (k : ℕ) → k < 64 → k < l.lane → IsFalse (bit_on l.left k);
-  keeps : (k : ℕ) → k < g.V.Signal.LANES → k < 64 → IsFalse (bit_on l.left k) → (u : ℕ → Rails)
-      → in_lane g.V.Signal.rails k l.key.keys ≡ first_ticks u l.t
-      → ArrivesAs u (g.V.Signal.ends l.delay k) (l.t - 1) l.t l.stays;
+  keeps : (k : ℕ) → k < g.V.Signal.signal.lanes → k < 64 → IsFalse (bit_on l.left k) → (u : ℕ → Rails)
+      → in_lane g.V.Signal.signal.rails k l.key.keys ≡ first_ticks u l.t
+      → ArrivesAs u (g.V.Signal.signal.ends l.delay k) (l.t - 1) l.t l.stays;
 }
 
 abbrev pub decreases-next_span : goal.decreases-next_span

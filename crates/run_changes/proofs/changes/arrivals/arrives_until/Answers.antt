@@ -17,13 +17,13 @@ offset_bounds-moment-channel g c =
 
 pub bounds-moment-delay : goal.bounds-moment-delay
 bounds-moment-delay g c =
-    sender_inside g.V.Signal.LANES g.V.Signal.ends c.args.moment.now c.args.channel
+    sender_inside g.V.Signal.signal c.args.moment.now c.args.channel
     c.index-moment-channel.result c.requires.moment c.requires.exists
 
 pub offset_bounds-moment-delay : goal.offset_bounds-moment-delay
 offset_bounds-moment-delay g c =
     let inside =
-    sender_inside g.V.Signal.LANES g.V.Signal.ends c.args.moment.now c.args.channel
+    sender_inside g.V.Signal.signal c.args.moment.now c.args.channel
     c.index-moment-channel.result c.requires.moment c.requires.exists in
     search (rules, inside)
 
@@ -43,7 +43,7 @@ arrival_stays-stays-requires-clause-known g c =
     let d = get_or moment.delays.now c.args.channel c.index-moment-channel.result in
     let s = get_or moment.sent.now d.from c.index-moment-delay.result in
     let inside =
-    sender_inside g.V.Signal.LANES g.V.Signal.ends moment c.args.channel
+    sender_inside g.V.Signal.signal moment c.args.channel
     c.index-moment-channel.result can c.requires.exists in
     let f : slice_get moment.sent.now d.from ≡ Some s =
     slice_get-get_or moment.sent.now d.from c.index-moment-delay.result inside in
@@ -94,7 +94,8 @@ returns-clause-lasts g c = λ lane w keys inside from have.
     let second : c.lesser.result ≤ d.until = c.lesser.ensures.second in
     subst (λ (k : ℕ). RawLasts (keys k) (w.delay c.args.channel) (t - 1) t (c.lesser.result - t))
     (from.from c.args.channel d at)
-    (raw_lasts (keys d.from) (w.delay c.args.channel) (g.V.Signal.ends d.span lane) (t - 1) t d.until
+    (raw_lasts (keys d.from) (w.delay c.args.channel) (g.V.Signal.signal.ends d.span lane)
+    (t - 1) t d.until
     c.arrival_stays-stays.result (c.lesser.result - t)
     (λ r low high. from.delay c.args.channel d at r low high) until
     (omega (arith, first)) (omega (arith, second, until))

@@ -31,11 +31,11 @@ loop-channel-preserved g c =
           c.hear_one.ensures.hastened;
       heard = λ k d lt at.
           ⊎_elim
-          (λ low. heard_on g.V.Signal.LANES g.V.Signal.rails c.args.net.now
+          (λ low. heard_on g.V.Signal.signal c.args.net.now
           c.args.column.now k d c.args.moment.now.sent.now c.args.moment.now.t old new same
           c.hear_one.ensures.hastened (inv.heard k d low at))
           (λ ge. let here : i ≡ k = omega arith in
-          subst (λ (j : ℕ). IsHeard g.V.Signal.LANES g.V.Signal.rails c.args.net.now
+          subst (λ (j : ℕ). IsHeard g.V.Signal.signal c.args.net.now
           c.args.column.now j d c.args.moment.now.sent.now c.args.moment.now.t new)
           here
           (c.hear_one.ensures.heard d

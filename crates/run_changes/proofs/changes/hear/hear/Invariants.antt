@@ -10,6 +10,6 @@ invariant-loop-channel g l = record {
   next : l.marks.next ≡ l.moment.t + 1;
   horizon : l.marks.horizon ≡ l.initial.marks.horizon;
   hastened : AreHastened l.initial.dues.items l.dues.items;
-  heard : AreHeard g.V.Signal.LANES g.V.Signal.rails l.net l.column l.channel
+  heard : AreHeard g.V.Signal.signal l.net l.column l.channel
       l.moment.delays.now l.moment.sent.now l.moment.t l.dues.items;
 }

@@ -10,14 +10,14 @@ use Rattle.run_changes.proofs.changes.hear.hear_one.Goals as goal
 
 pub bounds-moment-delay : goal.bounds-moment-delay
 bounds-moment-delay g c =
-    sender_inside g.V.Signal.LANES g.V.Signal.ends c.args.moment.now c.args.channel
+    sender_inside g.V.Signal.signal c.args.moment.now c.args.channel
     c.index-moment-channel.result c.requires.moment (subst (λ (n : ℕ). c.args.channel < n)
     c.requires.moment.delays.count c.requires.inside)
 
 pub offset_bounds-moment-delay : goal.offset_bounds-moment-delay
 offset_bounds-moment-delay g c =
     let inside =
-    sender_inside g.V.Signal.LANES g.V.Signal.ends c.args.moment.now c.args.channel
+    sender_inside g.V.Signal.signal c.args.moment.now c.args.channel
     c.index-moment-channel.result c.requires.moment (subst (λ (n : ℕ). c.args.channel < n)
     c.requires.moment.delays.count c.requires.inside) in
     search (rules, inside)
@@ -46,7 +46,6 @@ returns-then-is_last-clause-heard g c = λ d at. inl (λ s x sa xa.
     let sent = moment.sent.now in
     let net = c.args.net.now in
     let column = c.args.column.now in
-    let rails = g.V.Signal.rails in
     let key = c.index-column-key_gate.result in
     let e = get_or delays channel c.index-moment-channel.result in
     let y = get_or sent e.from c.index-moment-delay.result in
@@ -54,7 +53,7 @@ returns-then-is_last-clause-heard g c = λ d at. inl (λ s x sa xa.
     slice_get-get_or delays channel c.index-moment-channel.result c.requires.inside in
     let same : e ≡ d = one_value delays channel channel e d refl ea at in
     let inside =
-    sender_inside g.V.Signal.LANES g.V.Signal.ends moment channel c.index-moment-channel.result
+    sender_inside g.V.Signal.signal moment channel c.index-moment-channel.result
     c.requires.moment (subst (λ (n : ℕ). channel < n) c.requires.moment.delays.count
     c.requires.inside) in
     let ya : slice_get sent e.from ≡ Some y =
@@ -67,8 +66,8 @@ returns-then-is_last-clause-heard g c = λ d at. inl (λ s x sa xa.
     let key_is : key ≡ x =
     one_value column (key_of net e.from) (key_of net d.from) key x
     (ap (λ z. key_of net z.from) same) ka xa in
-    subst (λ k. IsLastKey g.V.Signal.LANES rails s.keys k) key_is
-    (subst (λ z. IsLastKey g.V.Signal.LANES rails z.keys key) sent_is
+    subst (λ k. IsLastKey g.V.Signal.signal s.keys k) key_is
+    (subst (λ z. IsLastKey g.V.Signal.signal z.keys key) sent_is
     (c.is_last.ensures c.if-is_last.true)))
 
 pub overflow_add-first : goal.overflow_add-first
@@ -96,7 +95,7 @@ hasten-requires-clause-later g c =
 pub key_gate-requires : goal.key_gate-requires
 key_gate-requires g c =
     let inside =
-    sender_inside g.V.Signal.LANES g.V.Signal.ends c.args.moment.now c.args.channel
+    sender_inside g.V.Signal.signal c.args.moment.now c.args.channel
     c.index-moment-channel.result c.requires.moment (subst (λ (n : ℕ). c.args.channel < n)
     c.requires.moment.delays.count c.requires.inside) in
     omega (arith, inside, c.requires.moment.sent.count, c.requires.terminals)

@@ -57,9 +57,9 @@ loop-k-preserved g c = λ j s x lt sa xa.
     let va : slice_get column (key_of net k) ≡ Some value =
     slice_get_read column (length column) (key_of net k) value refl there
     (c.index-column-gates.is ∙ ap (λ (i : ℕ). get_or column i value) (sym number)) in
-    subst (λ y. IsLastKey g.V.Signal.LANES g.V.Signal.rails s.keys y)
+    subst (λ y. IsLastKey g.V.Signal.signal s.keys y)
     (one_value column (key_of net k) (key_of net j) value x (ap (key_of net) (sym here)) va xa)
-    (subst (λ y. IsLastKey g.V.Signal.LANES g.V.Signal.rails y.keys value)
+    (subst (λ y. IsLastKey g.V.Signal.signal y.keys value)
     (one_value sent k j key s (sym here) ka sa)
     (c.if-not-is_last.ensures refl)))
     (cases_lt j k)

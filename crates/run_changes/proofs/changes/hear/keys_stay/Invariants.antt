@@ -9,4 +9,4 @@ abbrev pub invariant-loop-k : goal.invariant-loop-k
 invariant-loop-k g l =
     (k : ℕ) (s : SentKeys _) (x : _) → k < l.k → slice_get l.sent k ≡ Some s
     → slice_get l.column (key_of l.net k) ≡ Some x
-    → IsLastKey g.V.Signal.LANES g.V.Signal.rails s.keys x
+    → IsLastKey g.V.Signal.signal s.keys x

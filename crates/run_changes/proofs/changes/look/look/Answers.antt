@@ -9,7 +9,7 @@ pub returns-clause-stands : goal.returns-clause-stands
 returns-clause-stands g c = λ lane p inside agree lags.
     let t = c.args.moment.now.t in
     let next : t + 1 ≡ suc t = omega arith in
-    lags_now g.V.Timed.stands_for g.V.Signal.ends g.V.Signal.rails lane p.world p.pairs t
+    lags_now g.V.Signal.signal g.V.Timed.stands_for lane p.world p.pairs t
     c.args.gate.now c.answer.new.cell (record { fed = t + 1; input = c.input_of.result }) next
     (c.input_of.ensures lane p.pairs t inside agree)
     (c.answer.ensures.stands lane p.world p.pairs inside agree
@@ -19,7 +19,8 @@ pub returns-clause-answers : goal.returns-clause-answers
 returns-clause-answers g c = λ lane p inside shown from sent agree lags.
     let moment = c.args.moment.now in
     c.answer.ensures.answers lane p.world p.keys p.pairs inside (shown moment.t)
-    (delays_now g.V.Signal.ends lane moment.delays.now p.world moment.t c.requires.set from) sent agree
+    (delays_now g.V.Signal.signal.ends lane moment.delays.now p.world moment.t c.requires.set from)
+    sent agree
     (c.catch_up.ensures.stands lane p.world p.pairs inside lags)
 
 pub returns-clause-lasts : goal.returns-clause-lasts
@@ -37,10 +38,10 @@ pub returns-then-is_no_timer-clause-stands : goal.returns-then-is_no_timer-claus
 returns-then-is_no_timer-clause-stands g c = λ lane p inside agree lags.
     let t = c.args.moment.now.t in
     let none : IsNoTimer c.args.gate.now = c.if-is_no_timer.ensures.none refl in
-    no_timer_lags g.V.Timed.stands_for g.V.Signal.ends g.V.Signal.rails lane p.world p.pairs (suc t)
+    no_timer_lags g.V.Signal.signal g.V.Timed.stands_for lane p.world p.pairs (suc t)
     c.args.gate.now c.short_answer-value.new.cell c.args.since.now none
     (c.short_answer-value.ensures.stands lane p.world p.pairs inside agree
-    (no_timer_stands g.V.Timed.stands_for g.V.Signal.ends g.V.Signal.rails lane p.world p.pairs t
+    (no_timer_stands g.V.Signal.signal g.V.Timed.stands_for lane p.world p.pairs t
     c.args.gate.now c.args.cell.now c.args.since.now none lags))
 
 pub returns-then-is_no_timer-clause-answers : goal.returns-then-is_no_timer-clause-answers
@@ -48,8 +49,9 @@ returns-then-is_no_timer-clause-answers g c = λ lane p inside shown from sent a
     let moment = c.args.moment.now in
     let none : IsNoTimer c.args.gate.now = c.if-is_no_timer.ensures.none refl in
     c.short_answer-value.ensures.answers lane p.world p.keys p.pairs inside (shown moment.t)
-    (delays_now g.V.Signal.ends lane moment.delays.now p.world moment.t c.requires.set from) sent agree
-    (no_timer_stands g.V.Timed.stands_for g.V.Signal.ends g.V.Signal.rails lane p.world p.pairs
+    (delays_now g.V.Signal.signal.ends lane moment.delays.now p.world moment.t c.requires.set from)
+    sent agree
+    (no_timer_stands g.V.Signal.signal g.V.Timed.stands_for lane p.world p.pairs
     moment.t c.args.gate.now c.args.cell.now c.args.since.now none lags)
 
 pub returns-then-is_no_timer-clause-lasts : goal.returns-then-is_no_timer-clause-lasts

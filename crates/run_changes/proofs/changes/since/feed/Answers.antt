@@ -7,9 +7,9 @@ pub returns-then-since-t-clause-stands : goal.returns-then-since-t-clause-stands
 returns-then-since-t-clause-stands g c = λ lane p d input inside taken stands held.
     let fed = c.args.since.fed in
     let t = c.args.t in
-    let x = g.V.Signal.rails c.args.since.input lane in
+    let x = g.V.Signal.signal.rails c.args.since.input lane in
     let all : fed + (t - fed) ≡ t = omega (arith, taken) in
-    subst (λ (l : List Rails). TimerStands g.V.Timed.stands_for g.V.Signal.ends lane p d l
+    subst (λ (l : List Rails). TimerStands g.V.Timed.stands_for g.V.Signal.signal.ends lane p d l
     c.hold_timer.new.cell)
     (c.elements_stay_in_a_stretch.ensures.recorded input x fed (t - fed)
     (λ k low high. held k (omega (arith, low)) (omega (arith, low, high, taken)))

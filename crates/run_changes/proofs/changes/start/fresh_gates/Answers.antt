@@ -20,8 +20,8 @@ returns-clause-gates g c = record {
 
 pub returns-clause-wait : goal.returns-clause-wait
 returns-clause-wait g c = λ lane p inside times.
-    wait_fresh g.V.Timed.stands_for g.V.Signal.ends g.V.Signal.rails lane p.world p.keys p.pairs
-    c.args.compiled.now.net.now.gates
+    wait_fresh g.V.Signal.signal g.V.Timed.stands_for lane p.world p.keys p.pairs
+    c.args.run.now.compiled.now.net.now.gates
     (record {
       cells = c.in_ok-cells.cells;
       sinces = c.in_ok-sinces.sinces;

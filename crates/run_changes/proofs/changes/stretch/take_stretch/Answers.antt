@@ -14,7 +14,8 @@ use Rattle.run_step.specs.{Moments.CanHear, declared.moment.Moment.Moment}
 use Rattle.run_step.specs.{Lanes.LanePairs, Lasts.Lasts, Quiet.Keeps}
 use Rattle.model_history.specs.ListLaws.{exists_at}
 use Rattle.run_step.specs.LaneBox.{lane_box}
-use Rattle.run_changes.specs.{changes.Tracks.line_lane, changes.Tracks.trips_of}
+use Rattle.run_step.specs.Lanes.{line_lane}
+use Rattle.run_changes.specs.changes.Tracks.{trips_of}
 use Rattle.run_step.specs.Ticks.{AreSent, KeysSent, ValuesAgree}
 use Rattle.run_step.specs.GivenLaws.{can_receive, delays_from, soonest_now, stand_later}
 use Rattle.run_changes.proofs.changes_lemmas.HearLaws.{hears_no}
@@ -29,9 +30,9 @@ use Rattle.run_changes.proofs.changes.stretch.take_stretch.Goals as goal
 pub trace-requires-clause-can : goal.trace-requires-clause-can
 trace-requires-clause-can g c =
     let t = c.args.t in
-    let line = c.args.compiled.now.line.now in
-    let net = c.args.compiled.now.net.now in
-    let of_line = c.args.compiled.now.of_line in
+    let line = c.args.run.now.compiled.now.line.now in
+    let net = c.args.run.now.compiled.now.net.now in
+    let of_line = c.args.run.now.compiled.now.of_line in
     let delays = c.renew_delays.new.delays.list.items in
     record {
       laws = of_line.laws;
@@ -39,9 +40,9 @@ trace-requires-clause-can g c =
       shown_each = c.requires.kept.shown;
       hear = record {
         tick = c.requires.tick;
-        delays = subst (CanReceive g.V.Signal.LANES g.V.Signal.ends line)
+        delays = subst (CanReceive g.V.Signal.signal line)
             (sym c.as_slice.ensures.value)
-            (can_receive g.V.Signal.LANES g.V.Signal.ends line c.args.spans.now c.args.steps.now
+            (can_receive g.V.Signal.signal c.args.run.now
             delays t c.renew_delays.ensures.delays c.renew_delays.ensures.stand c.renew_delays.ensures.set
             c.requires.tick c.requires.can.delayed);
         sent = subst (λ l. AreSent (terminal_count line) line.horizon t l)
@@ -59,24 +60,23 @@ hear-requires-clause-column g c =
 pub hear-requires-clause-moment : goal.hear-requires-clause-moment
 hear-requires-clause-moment g c = record {
   tick = c.requires.tick;
-  delays = subst (CanReceive g.V.Signal.LANES g.V.Signal.ends c.args.compiled.now.line.now)
+  delays = subst (CanReceive g.V.Signal.signal c.args.run.now.compiled.now.line.now)
       (sym c.as_slice.ensures.value)
-      (can_receive g.V.Signal.LANES g.V.Signal.ends c.args.compiled.now.line.now c.args.spans.now
-      c.args.steps.now
+      (can_receive g.V.Signal.signal c.args.run.now
       c.renew_delays.new.delays.list.items c.args.t c.renew_delays.ensures.delays c.renew_delays.ensures.stand
       c.renew_delays.ensures.set c.requires.tick c.requires.can.delayed);
-  sent = subst (λ l. AreSent (terminal_count c.args.compiled.now.line.now)
-      c.args.compiled.now.line.now.horizon c.args.t l)
+  sent = subst (λ l. AreSent (terminal_count c.args.run.now.compiled.now.line.now)
+      c.args.run.now.compiled.now.line.now.horizon c.args.t l)
       (sym c.as_slice-2.ensures.value)
-      (subst (λ (m : ℕ). AreSent m c.args.compiled.now.line.now.horizon c.args.t
+      (subst (λ (m : ℕ). AreSent m c.args.run.now.compiled.now.line.now.horizon c.args.t
       c.args.kept.now.keys.items)
-      c.args.compiled.now.of_line.terminals c.requires.kept.keys);
+      c.args.run.now.compiled.now.of_line.terminals c.requires.kept.keys);
 }
 
 pub hear-requires-clause-soonest : goal.hear-requires-clause-soonest
 hear-requires-clause-soonest g c =
-    subst (AreSoonest g.V.Signal.LANES g.V.Signal.ends) (sym c.as_slice.ensures.value)
-    (soonest_now g.V.Signal.LANES g.V.Signal.ends c.args.spans.now c.args.steps.now
+    subst (AreSoonest g.V.Signal.signal) (sym c.as_slice.ensures.value)
+    (soonest_now g.V.Signal.signal c.args.run.now
     c.renew_delays.new.delays.list.items c.args.t c.renew_delays.ensures.stand c.renew_delays.ensures.set)
 
 pub quiet_ticks-stays-requires-clause-tick : goal.quiet_ticks-stays-requires-clause-tick
@@ -95,13 +95,13 @@ quiet_ticks-stays-requires-clause-room g c = c.hear.ensures.marks.room
 pub send_all-requires-clause-gates : goal.send_all-requires-clause-gates
 send_all-requires-clause-gates g c =
     subst (λ ids. AreGatesOf ids (length c.as_slice-4.result.now)) (sym c.key_gates.ensures)
-    (subst (AreGatesOf c.args.compiled.now.net.now.keys)
+    (subst (AreGatesOf c.args.run.now.compiled.now.net.now.keys)
     (sym (ap length c.as_slice-4.ensures.value ∙ c.trace.ensures.gates.column))
-    c.args.compiled.now.of_line.laws.keys)
+    c.args.run.now.compiled.now.of_line.laws.keys)
 
 pub send_all-requires-clause-sent : goal.send_all-requires-clause-sent
 send_all-requires-clause-sent g c =
-    subst (λ ids. AreSent (length ids) c.args.compiled.now.line.now.horizon c.args.t
+    subst (λ ids. AreSent (length ids) c.args.run.now.compiled.now.line.now.horizon c.args.t
     c.args.kept.now.keys.items)
     (sym c.key_gates.ensures) c.requires.kept.keys
 
@@ -118,13 +118,13 @@ send_all-requires-clause-room g c =
 pub send_all-requires-2-clause-gates : goal.send_all-requires-2-clause-gates
 send_all-requires-2-clause-gates g c =
     subst (λ ids. AreGatesOf ids (length c.as_slice-5.result.now)) (sym c.trip_gates.ensures)
-    (subst (AreGatesOf c.args.compiled.now.net.now.trips)
+    (subst (AreGatesOf c.args.run.now.compiled.now.net.now.trips)
     (sym (ap length c.as_slice-5.ensures.value ∙ c.trace.ensures.gates.column))
-    c.args.compiled.now.of_line.laws.trips)
+    c.args.run.now.compiled.now.of_line.laws.trips)
 
 pub send_all-requires-2-clause-sent : goal.send_all-requires-2-clause-sent
 send_all-requires-2-clause-sent g c =
-    subst (λ ids. AreSent (length ids) c.args.compiled.now.line.now.horizon c.args.t
+    subst (λ ids. AreSent (length ids) c.args.run.now.compiled.now.line.now.horizon c.args.t
     c.args.kept.now.trips.items)
     (sym c.trip_gates.ensures) c.requires.kept.trips
 
@@ -151,8 +151,8 @@ returns-clause-fits g c =
 pub returns-clause-kept : goal.returns-clause-kept
 returns-clause-kept g c =
     let t = c.args.t in
-    let h = c.args.compiled.now.line.now.horizon in
-    let net = c.args.compiled.now.net.now in
+    let h = c.args.run.now.compiled.now.line.now.horizon in
+    let net = c.args.run.now.compiled.now.net.now in
     let n = c.quiet_ticks-stays.result in
     let at = c.trace.ensures.gates in
     let some : 1 ≤ n = c.quiet_ticks-stays.ensures.some in
@@ -170,7 +170,7 @@ returns-clause-kept g c =
           ∙ c.trace.ensures.horizon ∙ c.requires.kept.horizon;
       shown = c.requires.kept.shown;
       delays = c.renew_delays.ensures.delays;
-      stand = stand_later g.V.Signal.LANES g.V.Signal.ends c.args.spans.now c.args.steps.now
+      stand = stand_later g.V.Signal.signal c.args.run.now
           c.renew_delays.new.delays.list.items t (t + n) (omega arith) c.renew_delays.ensures.stand;
       until = c.renew_delays.ensures.until;
       keys = subst (λ (m : ℕ). AreSent m h (t + n) c.send_all.new.tracks.items)
@@ -183,14 +183,13 @@ pub returns-clause-stands : goal.returns-clause-stands
 unfolding pair_world_of lane_box
 returns-clause-stands g c = λ script before.
     let t = c.args.t in
-    let line = c.args.compiled.now.line.now in
-    let spans = c.args.spans.now in
-    let steps = c.args.steps.now in
-    let net = c.args.compiled.now.net.now in
-    let of_line = c.args.compiled.now.of_line in
-    let ends = g.V.Signal.ends in
-    let rails = g.V.Signal.rails in
-    let lanes = g.V.Signal.LANES in
+    let line = c.args.run.now.compiled.now.line.now in
+    let run = c.args.run.now in
+    let net = c.args.run.now.compiled.now.net.now in
+    let of_line = c.args.run.now.compiled.now.of_line in
+    let ends = g.V.Signal.signal.ends in
+    let rails = g.V.Signal.signal.rails in
+    let signal = g.V.Signal.signal in
     let n = c.quiet_ticks-stays.result in
     let old = c.args.kept.now in
     let delays = c.renew_delays.new.delays.list.items in
@@ -198,38 +197,38 @@ returns-clause-stands g c = λ script before.
     let column = traced.column.items in
     let dues = c.hear.new.dues.items in
     let moment : Moment _ _ _ = record {
-      line = c.args.compiled.now.line;
+      line = c.args.run.now.compiled.now.line;
       delays = c.as_slice.result;
       sent = c.as_slice-2.result;
       t = t;
     } in
-    let p : ℕ → LanePairs = λ l. line_lane ends line script spans steps net l in
-    let given : (l : ℕ) → l < lanes
-    → IsGivenAt ends rails l (p l) net.gates old.shown moment =
+    let p : ℕ → LanePairs = λ l. line_lane ends run script l in
+    let given : (l : ℕ) → l < signal.lanes
+    → IsGivenAt g.V.Signal.signal l (p l) net.gates old.shown moment =
     λ l il. record {
-      shows = λ i h ha. filter_shows ends line script spans steps l (shown_of old.shown i) h
+      shows = λ i h ha. filter_shows ends run script l (shown_of old.shown i) h
           (before.shown i h ha);
       delays = subst (λ x. AreDelaysFrom ends l x (p l).world t) (sym c.as_slice.ensures.value)
-          (delays_from lanes ends line spans steps delays t c.renew_delays.ensures.delays
+          (delays_from signal run delays t c.renew_delays.ensures.delays
           c.renew_delays.ensures.stand c.renew_delays.ensures.set l script);
       sent = subst (KeysSent rails l (p l).keys t) (sym c.as_slice-2.ensures.value)
           (before.tracked l il).keys_kept;
       told = λ r i h at. gate_pairs-kind c.gates_stand_for_their_trees.ensures.kinds (p l).world
           (p l).keys net.gates i h r of_line.laws.gates at;
     } in
-    let can : CanHear lanes ends moment = record {
+    let can : CanHear signal moment = record {
       tick = c.requires.tick;
-      delays = subst (CanReceive lanes ends line) (sym c.as_slice.ensures.value)
-          (can_receive lanes ends line spans steps delays t c.renew_delays.ensures.delays
+      delays = subst (CanReceive signal line) (sym c.as_slice.ensures.value)
+          (can_receive signal run delays t c.renew_delays.ensures.delays
           c.renew_delays.ensures.stand c.renew_delays.ensures.set c.requires.tick c.requires.can.delayed);
       sent = subst (λ l. AreSent (terminal_count line) line.horizon t l)
           (sym c.as_slice-2.ensures.value)
           (subst (λ (m : ℕ). AreSent m line.horizon t old.keys.items) of_line.terminals
           c.requires.kept.keys);
     } in
-    let soonest : AreSoonest lanes ends c.as_slice.result.now =
-    subst (AreSoonest lanes ends) (sym c.as_slice.ensures.value)
-    (soonest_now lanes ends spans steps delays t c.renew_delays.ensures.stand
+    let soonest : AreSoonest signal c.as_slice.result.now =
+    subst (AreSoonest signal) (sym c.as_slice.ensures.value)
+    (soonest_now signal run delays t c.renew_delays.ensures.stand
     c.renew_delays.ensures.set) in
     let set : AreSet t c.as_slice.result.now =
     subst (AreSet t) (sym c.as_slice.ensures.value) c.renew_delays.ensures.set in
@@ -252,7 +251,7 @@ returns-clause-stands g c = λ script before.
           let is : (k r : ℕ) → k < length net.keys → r < line.horizon
           → (p lane).keys k r ≡ (p lane).pairs (key_of net k) r =
           λ k r kn lt. key_is c.line_laws.ensures c.gates_stand_for_their_trees.ensures
-          c.elements_stay_in_a_stretch.ensures ends line script spans steps lane net of_line d k r kn
+          c.elements_stay_in_a_stretch.ensures ends run script lane d k r kn
           lt in
           let traced_lasts : (i : ℕ) (h : Gate) (due : ℕ) → slice_get net.gates i ≡ Some h
           → slice_get traced.dues.items i ≡ Some due → Lasts (p lane) (t - 1) t (due - t) h =
@@ -269,7 +268,7 @@ returns-clause-stands g c = λ script before.
           (omega (arith, within, c.trace.ensures.gates.dues)) in
           let less : due ≤ first = c.hear.ensures.hastened i due da first fa in
           lasts_as (p lane) (t - 1) t t (due - t) h
-          (hears_no c.history_laws.ensures lanes ends rails net c.as_slice-3.result.now
+          (hears_no c.history_laws.ensures signal net c.as_slice-3.result.now
           c.as_slice.result.now c.as_slice-2.result.now t (terminal_count line) line.horizon
           (channel_count line) dues can.delays.count
           can.sent of_line.terminals
@@ -298,7 +297,7 @@ returns-clause-stands g c = λ script before.
           (cases_lt 1 n) in
           let keeps : (i : ℕ) → i < length net.gates → Keeps ((p lane).pairs i) t n =
           stretch_keeps c.line_laws.ensures c.gates_stand_for_their_trees.ensures
-          c.elements_stay_in_a_stretch.ensures ends line script spans steps lane net of_line d t n
+          c.elements_stay_in_a_stretch.ensures ends run script lane d t n
           fits quiet in
           record {
             keys_kept = c.send_all.ensures.keys lane (p lane).keys inside
@@ -325,14 +324,14 @@ returns-clause-stands g c = λ script before.
                 of_line.laws.trips agree keeps k x kn' at' r low high)
                 was.trips_kept;
             wait = all_wait c.elements_stay_in_a_stretch.ensures c.recorded_ticks_suffice.ensures
-                g.V.Timed.stands_for ends rails lane (p lane) t n net.gates
+                signal g.V.Timed.stands_for lane (p lane) t n net.gates
                 (record c.trace.new.gates {
                   dues = c.hear.new.dues;
                   marks = c.quiet_ticks-stays.new.marks;
                 }) some
                 of_line.laws.gates keeps
                 (heard_keeps c.line_laws.ensures c.gates_stand_for_their_trees.ensures
-                c.elements_stay_in_a_stretch.ensures ends line script spans steps lane net of_line d
+                c.elements_stay_in_a_stretch.ensures ends run script lane d
                 t n fits keeps)
                 agree (c.trace.ensures.lags lane (p lane) inside (given lane inside) was.wait) lasts;
           };

@@ -83,8 +83,7 @@ pub returns-clause-takes : goal.returns-clause-takes
 returns-clause-takes g c = λ lane p inside given traced.
     let t = c.args.moment.now.t in
     let i = c.args.i in
-    let rails = g.V.Signal.rails in
-    let ends = g.V.Signal.ends in
+    let rails = g.V.Signal.signal.rails in
     let gates = c.args.net.now.gates in
     let kept = c.args.gates.now in
     let cells = kept.cells.items in
@@ -115,13 +114,12 @@ returns-clause-takes g c = λ lane p inside given traced.
     c.spans_of.ensures p.world (given.shows i gate ga) in
     let agree : ValuesAgree rails lane p.pairs t (take i c.deref.result.now) =
     subst (λ l. ValuesAgree rails lane p.pairs t (take i l)) (sym c.deref.ensures.value)
-    (traced_agree g.V.Timed.stands_for ends rails lane p t gates i kept traced) in
+    (traced_agree g.V.Signal.signal g.V.Timed.stands_for lane p t gates i kept traced) in
     let waits = traced.wait i gate cell since due last (omega arith) ga ca sa da va in
     let now : rails value lane ≡ p.pairs i t =
     c.look-value.ensures.answers lane p inside shows given.delays given.sent agree waits.lags
     ∙ sym (given.told t i gate ga) in
-    traced_more g.V.Timed.stands_for ends rails lane p t gates i
-    g.V.Signal.LANES kept _ gate c.look-value.new.cell
+    traced_more g.V.Signal.signal g.V.Timed.stands_for lane p t gates i kept _ gate c.look-value.new.cell
     c.look-value.new.since new last value inside
     (length-set dues i new ∙ c.requires.gates.dues) refl refl refl c.tell.ensures.lowered
     c.tell.ensures.told ga waits.last now
@@ -131,7 +129,7 @@ pub returns-clause-lasts : goal.returns-clause-lasts
 returns-clause-lasts g c = λ p all lane h d inside ha dat.
     let t = c.args.moment.now.t in
     let i = c.args.i in
-    let rails = g.V.Signal.rails in
+    let rails = g.V.Signal.signal.rails in
     let gates = c.args.net.now.gates in
     let kept = c.args.gates.now in
     let cells = kept.cells.items in
@@ -168,7 +166,7 @@ returns-clause-lasts g c = λ p all lane h d inside ha dat.
       q.0.delays,
       q.0.sent,
       subst (λ x. ValuesAgree rails l (p l).pairs t (take i x)) (sym c.deref.ensures.value)
-          (traced_agree g.V.Timed.stands_for g.V.Signal.ends rails l (p l) t gates i kept q.1),
+          (traced_agree g.V.Signal.signal g.V.Timed.stands_for l (p l) t gates i kept q.1),
       (q.1.wait i gate cell since due last (omega arith) ga ca sa da va).lags,
     ))
     lane inside)))

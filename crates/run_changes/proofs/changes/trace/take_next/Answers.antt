@@ -34,7 +34,7 @@ returns-then-next-len-clause-takes g c = λ lane p inside given traced.
     let next = c.next_marked-next.result in
     let limit : next ≤ length net.gates =
     omega (arith, c.next_marked-next.ensures.limited, c.len.ensures.len) in
-    (traced_past g.V.Timed.stands_for g.V.Signal.ends g.V.Signal.rails lane p c.args.moment.now.t
+    (traced_past g.V.Signal.signal g.V.Timed.stands_for lane p c.args.moment.now.t
     net.gates c.elements_stay_in_a_stretch.ensures c.recorded_ticks_suffice.ensures c.args.i next
     c.args.gates.now c.requires.can.laws.gates at.cells.count at.sinces at.dues at.column at.marks
     at.fresh c.requires.next c.next_marked-next.ensures.later limit
@@ -50,7 +50,7 @@ returns-then-next-len-clause-lasts g c = λ p ready lane k h d inside low lt ha 
     let limit : next ≤ length net.gates =
     omega (arith, c.next_marked-next.ensures.limited, c.len.ensures.len) in
     let q = ready lane inside in
-    (traced_past g.V.Timed.stands_for g.V.Signal.ends g.V.Signal.rails lane (p lane)
+    (traced_past g.V.Signal.signal g.V.Timed.stands_for lane (p lane)
     c.args.moment.now.t
     net.gates c.elements_stay_in_a_stretch.ensures c.recorded_ticks_suffice.ensures c.args.i next
     c.args.gates.now c.requires.can.laws.gates at.cells.count at.sinces at.dues at.column at.marks
@@ -85,7 +85,7 @@ returns-clause-takes g c = λ lane p inside given traced.
     let limit : next ≤ length net.gates =
     omega (arith, c.next_marked-next.ensures.limited, c.len.ensures.len) in
     c.evaluate.ensures.takes lane p inside given
-    (traced_past g.V.Timed.stands_for g.V.Signal.ends g.V.Signal.rails lane p c.args.moment.now.t
+    (traced_past g.V.Signal.signal g.V.Timed.stands_for lane p c.args.moment.now.t
     net.gates c.elements_stay_in_a_stretch.ensures c.recorded_ticks_suffice.ensures c.args.i next
     c.args.gates.now c.requires.can.laws.gates at.cells.count at.sinces at.dues at.column at.marks
     at.fresh c.requires.next c.next_marked-next.ensures.later limit
@@ -101,9 +101,9 @@ returns-clause-lasts g c = λ p ready lane k h d inside low lt ha dat.
     let next = c.next_marked-next.result in
     let limit : next ≤ length net.gates =
     omega (arith, c.next_marked-next.ensures.limited, c.len.ensures.len) in
-    let past = λ (l : ℕ) (il : l < g.V.Signal.LANES).
+    let past = λ (l : ℕ) (il : l < g.V.Signal.signal.lanes).
     let q = ready l il in
-    traced_past g.V.Timed.stands_for g.V.Signal.ends g.V.Signal.rails l (p l) t
+    traced_past g.V.Signal.signal g.V.Timed.stands_for l (p l) t
     net.gates c.elements_stay_in_a_stretch.ensures c.recorded_ticks_suffice.ensures c.args.i next
     c.args.gates.now c.requires.can.laws.gates at.cells.count at.sinces at.dues at.column at.marks
     at.fresh c.requires.next c.next_marked-next.ensures.later limit

@@ -27,7 +27,7 @@ returns-clause-answers g c = λ lane p inside given wait k x at.
     let within : k < length c.trace_all.new.gates.column.items =
     slice_get_within c.trace_all.new.gates.column.items k x at in
     (c.trace_all.ensures.takes lane p inside given
-    (traced_none g.V.Timed.stands_for g.V.Signal.ends g.V.Signal.rails lane p c.args.moment.now.t
+    (traced_none g.V.Signal.signal g.V.Timed.stands_for lane p c.args.moment.now.t
     c.args.net.now.gates c.args.gates.now _ refl refl refl refl wait)).values k x
     (omega (arith, within, c.trace_all.ensures.gates.column)) at
 
@@ -36,7 +36,7 @@ returns-clause-lags g c = λ lane p inside given wait k h cell since ha ca sa.
     let within : k < length c.args.net.now.gates =
     slice_get_within c.args.net.now.gates k h ha in
     (c.trace_all.ensures.takes lane p inside given
-    (traced_none g.V.Timed.stands_for g.V.Signal.ends g.V.Signal.rails lane p c.args.moment.now.t
+    (traced_none g.V.Signal.signal g.V.Timed.stands_for lane p c.args.moment.now.t
     c.args.net.now.gates c.args.gates.now _ refl refl refl refl wait)).lags k h cell since within
     ha ca sa
 
@@ -45,6 +45,6 @@ returns-clause-lasts g c = λ p all.
     c.trace_all.ensures.lasts p
     (λ lane inside. let q = all lane inside in (
       q.0,
-      traced_none g.V.Timed.stands_for g.V.Signal.ends g.V.Signal.rails lane (p lane)
+      traced_none g.V.Signal.signal g.V.Timed.stands_for lane (p lane)
           c.args.moment.now.t c.args.net.now.gates c.args.gates.now _ refl refl refl refl q.1,
     ))

@@ -54,7 +54,7 @@ returns-clause-takes g c = λ lane p inside given before.
     let over : c.len.result ≤ c.loop-i.i = c.loop-i-test.false in
     let under : c.loop-i.i ≤ length c.args.net.now.gates = c.loop-i.invariant.inside in
     let last : c.loop-i.i ≡ length c.args.net.now.gates = omega (arith, len, over, under) in
-    subst (λ (n : ℕ). IsTraced g.V.Timed.stands_for g.V.Signal.ends g.V.Signal.rails lane p
+    subst (λ (n : ℕ). IsTraced g.V.Signal.signal g.V.Timed.stands_for lane p
     c.args.moment.now.t n c.args.net.now.gates c.loop-i.gates) last
     (c.loop-i.invariant.traced lane p inside given before)
 

@@ -40,14 +40,14 @@ returns-clause-history g c = λ lane inside.
     let h = line.horizon in
     let last : c.take_until.result ≡ h =
     omega (arith, c.take_until.ensures.reached, c.take_until.ensures.fits) in
-    let ends = g.V.Signal.ends in
-    let rails = g.V.Signal.rails in
+    let ends = g.V.Signal.signal.ends in
+    let rails = g.V.Signal.signal.rails in
     let w : ℕ → PairWorld = λ l. lane_world ends line script spans steps l in
     let key : ℕ → PairSignals = λ l. the_keys (w l) (key_tree line) in
     let u : ℕ → GateSignals = λ l. line_pairs line script (lane_box ends line spans steps l) net in
     let kept = c.take_until.new.kept in
     let stands =
-    (c.take_until.ensures.stands script (c.in_ok-kept.ensures.stands steps)).tracked lane inside in
+    (c.take_until.ensures.stands script (c.in_ok-kept.ensures.stands)).tracked lane inside in
     kept_history c.line_laws.ensures c.gates_stand_for_their_trees.ensures line script (lane_box ends line spans steps lane) (c.requires.delayed lane inside)
     net of_line
     (tracks_history rails lane kept.keys.items kept.trips.items)
@@ -65,6 +65,3 @@ returns-clause-exact g c = λ lane choice inside point.
     exact_at c.line_laws.ensures c.args.compiled.now.line.now c.args.script.now _
     (c.requires.delayed lane inside) choice point _
     (returns-clause-history g c lane inside).is
-
-pub take_until-requires-clause-kept : goal.take_until-requires-clause-kept
-take_until-requires-clause-kept g c = c.in_ok-kept.ensures.can c.args.steps.now

@@ -37,15 +37,15 @@ returns-clause-exact g c = λ lane choice inside point.
     let of_line = c.args.compiled.now.of_line in
     let h = line.horizon in
     let n = c.take_until.result in
-    let ends = g.V.Signal.ends in
-    let rails = g.V.Signal.rails in
+    let ends = g.V.Signal.signal.ends in
+    let rails = g.V.Signal.signal.rails in
     let w : PairWorld = lane_world ends line script spans steps lane in
     let key : PairSignals = the_keys w (key_tree line) in
     let u : GateSignals = line_pairs line script (lane_box ends line spans steps lane) net in
     let kept = c.take_until.new.kept in
     let reached : c.args.until ≤ n = c.take_until.ensures.reached in
     let stands =
-    (c.take_until.ensures.stands script (c.in_ok-kept.ensures.stands steps)).tracked lane inside in
+    (c.take_until.ensures.stands script (c.in_ok-kept.ensures.stands)).tracked lane inside in
     exact_below c.line_laws.ensures c.gates_stand_for_their_trees.ensures line script
     (lane_box ends line spans steps lane) (c.requires.delayed lane inside) net of_line choice point
     c.args.until (tracks_history rails lane kept.keys.items kept.trips.items) c.requires.inside
@@ -56,6 +56,3 @@ returns-clause-exact g c = λ lane choice inside point.
     kept.trips.items c.take_until.ensures.kept.trips stands.trips_kept
     (subst (λ (m : ℕ). k < m) (sym (of_line.laws.same ∙ of_line.terminals)) kn)
     (omega (arith, lt, reached)))
-
-pub take_until-requires-clause-kept : goal.take_until-requires-clause-kept
-take_until-requires-clause-kept g c = c.in_ok-kept.ensures.can c.args.steps.now

@@ -4,6 +4,7 @@ use Rattle.model_logic.specs.Histories.{History, IsSameHistory}
 use Rattle.model_logic.specs.Choice.{Choice}
 use Rattle.model_timing.specs.declared.step.Step.{Step}
 use Rattle.model_timing.specs.{Timing.TimingValues, Timing.ascend, Choice.timing_choice}
+use Rattle.run_signal.specs.Levels.{level_signal}
 use Rattle.run_step.specs.Played.{ends_of_tick}
 use Rattle.run_step.specs.{LaneBox.lane_box, Ticks.AreSent}
 use Rattle.run_changes.specs.rows.PlayRows.{run_rows}
@@ -25,11 +26,11 @@ pub run_tracks-requires-clause-delayed : goal.run_tracks-requires-clause-delayed
 run_tracks-requires-clause-delayed c =
     let line = c.args.compiled.now.line.now in
     let timing : TimingValues = c.args.timing.now.timing in
-    subst (λ (x : List ℕ). AreDelayed 1 ends_of_tick line x c.steps-steps.result.now)
+    subst (λ (x : List ℕ). AreDelayed level_signal line x c.steps-steps.result.now)
     (sym c.values-values.ensures)
-    (subst (λ (x : List (Step ℕ)). AreDelayed 1 ends_of_tick line timing.values x)
+    (subst (λ (x : List (Step ℕ)). AreDelayed level_signal line timing.values x)
     (sym c.steps-steps.ensures.same)
-    (c.a_timing_is_one_choice.ensures.delayed line timing 1 c.requires.inside))
+    (c.a_timing_is_one_choice.ensures.delayed line timing c.requires.inside))
 
 pub push_run-requires-clause-keys : goal.push_run-requires-clause-keys
 push_run-requires-clause-keys c =

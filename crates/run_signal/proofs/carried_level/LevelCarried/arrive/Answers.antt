@@ -11,10 +11,11 @@ returns-then-c-len c = λ lane inside.
     let past : c.value-c.result ≤ t = omega (arith, c.if-c-len.true, c.len.ensures.length) in
     let e : c.value-c.result ≡ c.args.delay.now = c.value-c.ensures.value in
     let u = rails_at (in_lane (λ v _. level_rails v) lane keys) in
-    sym (rails_read 1 (λ v _. level_rails v) keys _ c.at.result lane c.at.ensures)
+    sym (rails_read (λ v _. level_rails v) keys _ c.at.result lane c.at.ensures)
     ∙ ap (λ (n : ℕ). u (n - c.value-c.result)) c.len-then-c-len.ensures.length
     ∙ ap (λ (k : ℕ). u (t - k)) e
-    ∙ sym (c.one_delay_reads_one_tick.ensures.rails u c.args.delay.now t (subst (λ (k : ℕ). k ≤ t) e past))
+    ∙ sym (c.one_delay_reads_one_tick.ensures.rails u c.args.delay.now t (subst (λ (k : ℕ). k ≤ t) e
+    past))
 
 pub returns-else-c-len : goal.returns-else-c-len
 returns-else-c-len c = λ lane inside.

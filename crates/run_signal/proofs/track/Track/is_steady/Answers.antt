@@ -1,4 +1,4 @@
-use Rattle.std.proofs.Common.{◌≡◌, ℕ, ◌-◌, ◌<◌, ◌≤◌, List, Some, length, sym, subst, arith, leb-true}
+use Rattle.std.proofs.Common.{◌≡◌, ℕ, ◌-◌, ◌<◌, ◌≤◌, List, Some, length, sym, ◌∙◌, subst, arith, leb-true}
 use Rattle.std.specs.Prelude.{slice_get}
 use Rattle.model_history.specs.Rails.{Ends, rails_at}
 use Rattle.run_signal.specs.Lanes.{in_lane}
@@ -9,9 +9,10 @@ use Rattle.run_signal.proofs.track.Track.is_steady.Goals as goal
 pub returns-clause-some : goal.returns-clause-some
 returns-clause-some g c = λ on.
     let inside = c.self.inside in
-    let e : Ends = g.V.Signal.ends c.args.delay.now 0 in
-    let lanes : c.LANES-lanes.result ≡ g.V.Signal.LANES = c.LANES-lanes.ensures in
-    let one : 0 < g.V.Signal.LANES = omega (arith, lanes, c.if-lanes-ne1.false) in
+    let e : Ends = g.V.Signal.signal.ends c.args.delay.now 0 in
+    let lanes : c.LANES-lanes.result ≡ g.V.Signal.signal.lanes = c.LANES-lanes.ensures ∙
+    sym g.met.V.Signal.lanes_are in
+    let one : 0 < g.V.Signal.signal.lanes = omega (arith, lanes, c.if-lanes-ne1.false) in
     let later : 1 ≤ e.least = c.requires 0 one in
     let ordered : e.least ≤ e.greatest = (c.greatest-greatest.ensures.in_order 0 one).ordered in
     let is : c.greatest-greatest.result ≡ e.greatest = c.greatest-greatest.ensures.greatest in
@@ -25,12 +26,13 @@ returns-clause-since g c = λ on lane there.
     let inside = c.self.inside in
     let keys = all_values inside.values.items inside.last inside.len in
     let changes = inside.changes.items in
-    let e : Ends = g.V.Signal.ends c.args.delay.now lane in
+    let e : Ends = g.V.Signal.signal.ends c.args.delay.now lane in
     let most = c.greatest-greatest.result in
-    let lanes : c.LANES-lanes.result ≡ g.V.Signal.LANES = c.LANES-lanes.ensures in
+    let lanes : c.LANES-lanes.result ≡ g.V.Signal.signal.lanes = c.LANES-lanes.ensures ∙
+    sym g.met.V.Signal.lanes_are in
     let first : 0 ≡ lane = omega (arith, lanes, there, c.if-lanes-ne1.false) in
     let is : most ≡ e.greatest =
-    subst (λ (k : ℕ). most ≡ (g.V.Signal.ends c.args.delay.now k).greatest) first
+    subst (λ (k : ℕ). most ≡ (g.V.Signal.signal.ends c.args.delay.now k).greatest) first
     c.greatest-greatest.ensures.greatest in
     let ordered : e.least ≤ e.greatest =
     (c.greatest-greatest.ensures.in_order lane there).ordered in
@@ -39,9 +41,10 @@ returns-clause-since g c = λ on lane there.
     all_long inside.values.items inside.last inside.len c.self.invariant.before in
     let past : most ≤ inside.len = c.if-t-greatest.false in
     let low : c.last_change.result ≤ inside.len - most = leb-true _ _ on in
-    subst (λ (s : SentKeys _). IsSteadySince (rails_at (in_lane g.V.Signal.rails lane s.keys)) e
+    subst (λ (s : SentKeys _). IsSteadySince (rails_at (in_lane g.V.Signal.signal.rails lane
+    s.keys)) e
     (length s.keys)) c.self.view_is
-    (steady_since g.V.Signal.LANES g.V.Signal.rails keys changes e c.self.invariant.track.told
+    (steady_since g.V.Signal.signal keys changes e c.self.invariant.track.told
     ordered (omega (arith, later, ordered)) (omega (arith, past, is, long))
     (λ i k at.
     let before : k ≤ c.last_change.result =

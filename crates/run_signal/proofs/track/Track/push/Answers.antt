@@ -13,7 +13,7 @@ invariant_of-self g c =
     ≤ inside.horizon =
     subst (λ (s : SentKeys _). length s.keys + c.args.count ≤ s.horizon) (sym c.self.view_is)
     c.requires.room in
-    held_on g.V.Signal.LANES g.V.Signal.rails inside.values.items inside.last inside.len
+    held_on g.V.Signal.signal inside.values.items inside.last inside.len
     (vec_capacity inside.values) inside.changes.items (vec_capacity inside.changes)
     inside.horizon c.args.count (c.goes_on.ensures.some c.if-goes_on.true) c.requires.some
     (omega (arith, fits, long)) c.self.invariant
@@ -27,7 +27,7 @@ invariant_of-self-2 g c =
     subst (λ (s : SentKeys _). length s.keys + c.args.count ≤ s.horizon) (sym c.self.view_is)
     c.requires.room in
     let written : c.len.result ≡ length inside.values.items = omega (arith, c.len.ensures) in
-    held_turned g.V.Signal.LANES g.V.Signal.rails inside.values.items
+    held_turned g.V.Signal.signal inside.values.items
     c.fill_within.new.list.items inside.last c.args.value inside.len
     (vec_capacity inside.values) (vec_capacity c.fill_within.new.list) inside.changes.items
     c.push_reserved.new.self.items (vec_capacity inside.changes)
@@ -41,20 +41,20 @@ invariant_of-self-2 g c =
 pub returns-then-goes_on-clause-keys : goal.returns-then-goes_on-clause-keys
 returns-then-goes_on-clause-keys g c = λ lane there.
     let inside = c.self.inside in
-    sent_on g.V.Signal.LANES g.V.Signal.rails inside.values.items inside.last c.args.value
+    sent_on g.V.Signal.signal inside.values.items inside.last c.args.value
     inside.len c.args.count lane c.self.invariant.before
     (c.goes_on.ensures.same c.if-goes_on.true lane there)
-    ∙ ap (λ (s : SentKeys _). in_lane g.V.Signal.rails lane s.keys
-    ++ replicate c.args.count (g.V.Signal.rails c.args.value lane)) c.self.view_is
+    ∙ ap (λ (s : SentKeys _). in_lane g.V.Signal.signal.rails lane s.keys
+    ++ replicate c.args.count (g.V.Signal.signal.rails c.args.value lane)) c.self.view_is
 
 pub returns-clause-keys : goal.returns-clause-keys
 returns-clause-keys g c = λ lane there.
     let inside = c.self.inside in
     let written : c.len.result ≡ length inside.values.items = omega (arith, c.len.ensures) in
-    sent_turned g.V.Signal.LANES g.V.Signal.rails inside.values.items
+    sent_turned g.V.Signal.signal inside.values.items
     c.fill_within.new.list.items inside.last c.args.value inside.len c.args.count lane
     c.self.invariant.before
     (c.fill_within.ensures.items
     ∙ ap (λ (n : ℕ). inside.values.items ++ replicate (inside.len - n) inside.last) written)
-    ∙ ap (λ (s : SentKeys _). in_lane g.V.Signal.rails lane s.keys
-    ++ replicate c.args.count (g.V.Signal.rails c.args.value lane)) c.self.view_is
+    ∙ ap (λ (s : SentKeys _). in_lane g.V.Signal.signal.rails lane s.keys
+    ++ replicate c.args.count (g.V.Signal.signal.rails c.args.value lane)) c.self.view_is

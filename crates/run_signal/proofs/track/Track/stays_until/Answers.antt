@@ -12,20 +12,20 @@ returns-then-t-len-clause-stays g c = λ lane there.
     let long = all_long inside.values.items inside.last inside.len c.self.invariant.before in
     let early : c.args.t < length (all_values inside.values.items inside.last inside.len) =
     subst (λ (s : SentKeys _). c.args.t < length s.keys) (sym c.self.view_is) c.requires in
-    subst (λ (s : SentKeys _). StaysUntil (rails_at (in_lane g.V.Signal.rails lane s.keys))
+    subst (λ (s : SentKeys _). StaysUntil (rails_at (in_lane g.V.Signal.signal.rails lane s.keys))
     c.args.t (length s.keys) inside.len) c.self.view_is
-    (stays_last g.V.Signal.LANES g.V.Signal.rails inside.values.items inside.last inside.len
+    (stays_last g.V.Signal.signal inside.values.items inside.last inside.len
     c.args.t lane c.self.invariant.before (omega (arith, c.if-t-len.true, c.len.ensures))
     (omega (arith, early, long)))
 
 pub returns-then-soon-t-clause-stays : goal.returns-then-soon-t-clause-stays
 returns-then-soon-t-clause-stays g c = λ lane there.
     let inside = c.self.inside in
-    subst (λ (s : SentKeys _). StaysUntil (rails_at (in_lane g.V.Signal.rails lane s.keys))
+    subst (λ (s : SentKeys _). StaysUntil (rails_at (in_lane g.V.Signal.signal.rails lane s.keys))
     c.args.t (length s.keys) c.same_until-soon.result) c.self.view_is
-    (stays_before g.V.Signal.LANES g.V.Signal.rails inside.values.items inside.last inside.len
+    (stays_before g.V.Signal.signal inside.values.items inside.last inside.len
     c.args.t c.same_until-soon.result lane c.self.invariant.before
-    (subst (λ l. StaysUntil (rails_at (in_lane g.V.Signal.rails lane l)) c.args.t (length l)
+    (subst (λ l. StaysUntil (rails_at (in_lane g.V.Signal.signal.rails lane l)) c.args.t (length l)
     c.same_until-soon.result) c.deref.ensures.value
     (c.same_until-soon.ensures.stays lane there)))
 
@@ -40,7 +40,7 @@ returns-clause-stays g c = λ lane there.
     subst (λ (n : ℕ). IsNextAfter inside.changes.items c.args.t n end) (sym long)
     (subst (λ (l : List ℕ). IsNextAfter l c.args.t inside.len end) c.deref-2.ensures.value
     c.next_after.ensures) in
-    subst (λ (s : SentKeys _). StaysUntil (rails_at (in_lane g.V.Signal.rails lane s.keys))
+    subst (λ (s : SentKeys _). StaysUntil (rails_at (in_lane g.V.Signal.signal.rails lane s.keys))
     c.args.t (length s.keys) end) c.self.view_is
-    (stays g.V.Signal.LANES g.V.Signal.rails keys inside.changes.items c.args.t end
+    (stays g.V.Signal.signal keys inside.changes.items c.args.t end
     c.self.invariant.track.told next lane there)

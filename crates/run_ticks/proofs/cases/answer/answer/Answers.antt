@@ -1,4 +1,4 @@
-use Rattle.std.proofs.Common.{◌≡◌, ◌∙◌, ℕ, suc, subst, false, length}
+use Rattle.std.proofs.Common.{◌≡◌, ◌∙◌, suc, subst, false, length}
 use Rattle.model_history.specs.Rails.{both}
 use Rattle.run_step.specs.TickLaws.{seen_pair, loss_pair, raw_pair, timer_stands, timer_pair}
 use Rattle.run_step.specs.TickLaws.{seal_stands, seal_pair}
@@ -11,13 +11,15 @@ use Rattle.run_ticks.proofs.cases.answer.answer.Goals as goal
 pub returns-in-Seen-clause-answers : goal.returns-in-Seen-clause-answers
 returns-in-Seen-clause-answers g c = λ lane w keys u inside world sent agree before.
     seen_pair w keys u c.args.t c.args.gate.now _ c.in-Seen.place c.in-Seen.is
-    (subst (λ b. g.V.Signal.rails c.known-in-Seen.result lane ≡ both b) (c.shown_in.ensures ∙ world.seen c.in-Seen.place)
+    (subst (λ b. g.V.Signal.signal.rails c.known-in-Seen.result lane ≡ both b) (c.shown_in.ensures
+    ∙ world.seen c.in-Seen.place)
     (c.known-in-Seen.ensures lane inside))
 
 pub returns-in-Loss-clause-answers : goal.returns-in-Loss-clause-answers
 returns-in-Loss-clause-answers g c = λ lane w keys u inside world sent agree before.
     loss_pair w keys u c.args.t c.args.gate.now _ c.in-Loss.channel c.in-Loss.is
-    (subst (λ b. g.V.Signal.rails c.known-in-Loss.result lane ≡ both b) (c.lost_in.ensures ∙ world.lost c.in-Loss.channel)
+    (subst (λ b. g.V.Signal.signal.rails c.known-in-Loss.result lane ≡ both b) (c.lost_in.ensures
+    ∙ world.lost c.in-Loss.channel)
     (c.known-in-Loss.ensures lane inside))
 
 pub returns-in-Raw-clause-answers : goal.returns-in-Raw-clause-answers
@@ -27,44 +29,44 @@ returns-in-Raw-clause-answers g c = λ lane w keys u inside world sent agree bef
 
 pub returns-in-Timer-clause-stands : goal.returns-in-Timer-clause-stands
 returns-in-Timer-clause-stands g c = λ lane w u inside agree before.
-    timer_stands g.V.Timed.stands_for g.V.Signal.ends g.V.Signal.rails lane w (λ _ _. both false) u
+    timer_stands g.V.Signal.signal g.V.Timed.stands_for lane w (λ _ _. both false) u
     c.args.t c.args.gate.now c.args.cell.now c.timer_answer.new.cell c.in-Timer.x
     c.in-Timer.field-1 c.in-Timer.field-2 c.in-Timer.is
-    (g.V.Signal.rails c.argument-in-Timer.result lane)
+    (g.V.Signal.signal.rails c.argument-in-Timer.result lane)
     (agree c.in-Timer.x.0 c.argument-in-Timer.result c.argument-in-Timer.ensures) before
     (λ p d inputs h. c.timer_answer.ensures.stands lane p d inputs inside h)
 
 pub returns-in-Timer-clause-answers : goal.returns-in-Timer-clause-answers
 returns-in-Timer-clause-answers g c = λ lane w keys u inside world sent agree before.
-    timer_pair g.V.Timed.stands_for g.V.Signal.ends g.V.Signal.rails lane w keys u
+    timer_pair g.V.Signal.signal g.V.Timed.stands_for lane w keys u
     c.args.t c.args.gate.now c.args.cell.now c.timer_answer.new.cell c.in-Timer.x
     c.in-Timer.field-1 c.in-Timer.field-2 c.in-Timer.is
-    (g.V.Signal.rails c.argument-in-Timer.result lane)
+    (g.V.Signal.signal.rails c.argument-in-Timer.result lane)
     (agree c.in-Timer.x.0 c.argument-in-Timer.result c.argument-in-Timer.ensures) before
-    c.recorded_ticks_suffice.ensures (g.V.Signal.rails c.timer_answer.result lane)
+    c.recorded_ticks_suffice.ensures (g.V.Signal.signal.rails c.timer_answer.result lane)
     (λ p d inputs h. c.timer_answer.ensures.timed lane p d inputs inside h)
 
 pub returns-in-Seal-clause-stands : goal.returns-in-Seal-clause-stands
 returns-in-Seal-clause-stands g c = λ lane w u inside agree before.
-    seal_stands g.V.Timed.stands_for g.V.Signal.ends g.V.Signal.rails lane w (λ _ _. both false) u
+    seal_stands g.V.Signal.signal g.V.Timed.stands_for lane w (λ _ _. both false) u
     c.args.t c.args.gate.now c.args.cell.now c.seal_answer.new.cell c.in-Seal.x c.in-Seal.y
     c.in-Seal.is
-    (g.V.Signal.rails c.argument-in-Seal.result lane)
-    (g.V.Signal.rails c.argument-in-Seal-2.result lane)
+    (g.V.Signal.signal.rails c.argument-in-Seal.result lane)
+    (g.V.Signal.signal.rails c.argument-in-Seal-2.result lane)
     (agree c.in-Seal.x.0 c.argument-in-Seal.result c.argument-in-Seal.ensures)
     (agree c.in-Seal.y.0 c.argument-in-Seal-2.result c.argument-in-Seal-2.ensures) before
     (λ x y h. c.seal_answer.ensures.stands lane x y inside h)
 
 pub returns-in-Seal-clause-answers : goal.returns-in-Seal-clause-answers
 returns-in-Seal-clause-answers g c = λ lane w keys u inside world sent agree before.
-    seal_pair g.V.Timed.stands_for g.V.Signal.ends g.V.Signal.rails lane w keys u
+    seal_pair g.V.Signal.signal g.V.Timed.stands_for lane w keys u
     c.args.t c.args.gate.now c.args.cell.now c.seal_answer.new.cell c.in-Seal.x c.in-Seal.y
     c.in-Seal.is
-    (g.V.Signal.rails c.argument-in-Seal.result lane)
-    (g.V.Signal.rails c.argument-in-Seal-2.result lane)
+    (g.V.Signal.signal.rails c.argument-in-Seal.result lane)
+    (g.V.Signal.signal.rails c.argument-in-Seal-2.result lane)
     (agree c.in-Seal.x.0 c.argument-in-Seal.result c.argument-in-Seal.ensures)
     (agree c.in-Seal.y.0 c.argument-in-Seal-2.result c.argument-in-Seal-2.ensures) before
-    c.recorded_ticks_suffice.ensures (g.V.Signal.rails c.seal_answer.result lane)
+    c.recorded_ticks_suffice.ensures (g.V.Signal.signal.rails c.seal_answer.result lane)
     (λ x y h. c.seal_answer.ensures.sealed lane x y inside h)
 
 pub returns-in-Const-clause-shape : goal.returns-in-Const-clause-shape
@@ -72,7 +74,7 @@ returns-in-Const-clause-shape g c = has_by c.args.gate.now (gate.Const c.in-Cons
 
 pub returns-in-Const-clause-stands : goal.returns-in-Const-clause-stands
 returns-in-Const-clause-stands g c = λ lane w u inside agree before.
-    stands_by g.V.Timed.stands_for g.V.Signal.ends g.V.Signal.rails lane w u (suc c.args.t)
+    stands_by g.V.Signal.signal g.V.Timed.stands_for lane w u (suc c.args.t)
     c.args.gate.now (gate.Const c.in-Const.value) c.args.cell.now c.in-Const.is tt
 
 pub returns-in-Seen-clause-shape : goal.returns-in-Seen-clause-shape
@@ -80,7 +82,7 @@ returns-in-Seen-clause-shape g c = has_by c.args.gate.now (gate.Seen c.in-Seen.p
 
 pub returns-in-Seen-clause-stands : goal.returns-in-Seen-clause-stands
 returns-in-Seen-clause-stands g c = λ lane w u inside agree before.
-    stands_by g.V.Timed.stands_for g.V.Signal.ends g.V.Signal.rails lane w u (suc c.args.t)
+    stands_by g.V.Signal.signal g.V.Timed.stands_for lane w u (suc c.args.t)
     c.args.gate.now (gate.Seen c.in-Seen.place) c.args.cell.now c.in-Seen.is tt
 
 pub returns-in-Loss-clause-shape : goal.returns-in-Loss-clause-shape
@@ -88,7 +90,7 @@ returns-in-Loss-clause-shape g c = has_by c.args.gate.now (gate.Loss c.in-Loss.c
 
 pub returns-in-Loss-clause-stands : goal.returns-in-Loss-clause-stands
 returns-in-Loss-clause-stands g c = λ lane w u inside agree before.
-    stands_by g.V.Timed.stands_for g.V.Signal.ends g.V.Signal.rails lane w u (suc c.args.t)
+    stands_by g.V.Signal.signal g.V.Timed.stands_for lane w u (suc c.args.t)
     c.args.gate.now (gate.Loss c.in-Loss.channel) c.args.cell.now c.in-Loss.is tt
 
 pub returns-in-Raw-clause-shape : goal.returns-in-Raw-clause-shape
@@ -96,7 +98,7 @@ returns-in-Raw-clause-shape g c = has_by c.args.gate.now (gate.Raw c.in-Raw.chan
 
 pub returns-in-Raw-clause-stands : goal.returns-in-Raw-clause-stands
 returns-in-Raw-clause-stands g c = λ lane w u inside agree before.
-    stands_by g.V.Timed.stands_for g.V.Signal.ends g.V.Signal.rails lane w u (suc c.args.t)
+    stands_by g.V.Signal.signal g.V.Timed.stands_for lane w u (suc c.args.t)
     c.args.gate.now (gate.Raw c.in-Raw.channel) c.args.cell.now c.in-Raw.is tt
 
 pub returns-in-Not-clause-shape : goal.returns-in-Not-clause-shape
@@ -104,7 +106,7 @@ returns-in-Not-clause-shape g c = has_by c.args.gate.now (gate.Not c.in-Not.x) c
 
 pub returns-in-Not-clause-stands : goal.returns-in-Not-clause-stands
 returns-in-Not-clause-stands g c = λ lane w u inside agree before.
-    stands_by g.V.Timed.stands_for g.V.Signal.ends g.V.Signal.rails lane w u (suc c.args.t)
+    stands_by g.V.Signal.signal g.V.Timed.stands_for lane w u (suc c.args.t)
     c.args.gate.now (gate.Not c.in-Not.x) c.args.cell.now c.in-Not.is tt
 
 pub returns-in-And-clause-shape : goal.returns-in-And-clause-shape
@@ -112,7 +114,7 @@ returns-in-And-clause-shape g c = has_by c.args.gate.now (gate.And c.in-And.x c.
 
 pub returns-in-And-clause-stands : goal.returns-in-And-clause-stands
 returns-in-And-clause-stands g c = λ lane w u inside agree before.
-    stands_by g.V.Timed.stands_for g.V.Signal.ends g.V.Signal.rails lane w u (suc c.args.t)
+    stands_by g.V.Signal.signal g.V.Timed.stands_for lane w u (suc c.args.t)
     c.args.gate.now (gate.And c.in-And.x c.in-And.y) c.args.cell.now c.in-And.is tt
 
 pub returns-in-Or-clause-shape : goal.returns-in-Or-clause-shape
@@ -120,7 +122,7 @@ returns-in-Or-clause-shape g c = has_by c.args.gate.now (gate.Or c.in-Or.x c.in-
 
 pub returns-in-Or-clause-stands : goal.returns-in-Or-clause-stands
 returns-in-Or-clause-stands g c = λ lane w u inside agree before.
-    stands_by g.V.Timed.stands_for g.V.Signal.ends g.V.Signal.rails lane w u (suc c.args.t)
+    stands_by g.V.Signal.signal g.V.Timed.stands_for lane w u (suc c.args.t)
     c.args.gate.now (gate.Or c.in-Or.x c.in-Or.y) c.args.cell.now c.in-Or.is tt
 
 pub returns-in-Const-clause-answers : goal.returns-in-Const-clause-answers
@@ -139,7 +141,7 @@ argument-requires g c =
 pub returns-in-Not-clause-answers : goal.returns-in-Not-clause-answers
 returns-in-Not-clause-answers g c = λ lane w keys u inside world sent agree before.
     not_pair w keys u c.args.t c.args.gate.now _ c.in-Not.x c.in-Not.is
-    (g.V.Signal.rails c.argument.result lane)
+    (g.V.Signal.signal.rails c.argument.result lane)
     (agree c.in-Not.x.0 c.argument.result c.argument.ensures) (c.not.ensures lane inside)
 
 pub argument-requires-in-And : goal.argument-requires-in-And
@@ -153,8 +155,8 @@ argument-requires-in-And-2 g c =
 pub returns-in-And-clause-answers : goal.returns-in-And-clause-answers
 returns-in-And-clause-answers g c = λ lane w keys u inside world sent agree before.
     and_pair w keys u c.args.t c.args.gate.now _ c.in-And.x c.in-And.y c.in-And.is
-    (g.V.Signal.rails c.argument-in-And.result lane)
-    (g.V.Signal.rails c.argument-in-And-2.result lane)
+    (g.V.Signal.signal.rails c.argument-in-And.result lane)
+    (g.V.Signal.signal.rails c.argument-in-And-2.result lane)
     (agree c.in-And.x.0 c.argument-in-And.result c.argument-in-And.ensures)
     (agree c.in-And.y.0 c.argument-in-And-2.result c.argument-in-And-2.ensures)
     (c.and.ensures lane inside)
@@ -170,8 +172,8 @@ argument-requires-in-Or-2 g c =
 pub returns-in-Or-clause-answers : goal.returns-in-Or-clause-answers
 returns-in-Or-clause-answers g c = λ lane w keys u inside world sent agree before.
     or_pair w keys u c.args.t c.args.gate.now _ c.in-Or.x c.in-Or.y c.in-Or.is
-    (g.V.Signal.rails c.argument-in-Or.result lane)
-    (g.V.Signal.rails c.argument-in-Or-2.result lane)
+    (g.V.Signal.signal.rails c.argument-in-Or.result lane)
+    (g.V.Signal.signal.rails c.argument-in-Or-2.result lane)
     (agree c.in-Or.x.0 c.argument-in-Or.result c.argument-in-Or.ensures)
     (agree c.in-Or.y.0 c.argument-in-Or-2.result c.argument-in-Or-2.ensures)
     (c.or.ensures lane inside)

@@ -78,10 +78,10 @@ returns g c = λ lane w keys inside of have.
     c.index-sent-delay.is in
     let delay = of.delay c.args.channel d at in
     c.received.ensures lane inside
-    ∙ received-is c.history_laws.ensures (in_lane g.V.Signal.rails lane s.keys) (keys d.from) t
-    (length s.keys) (g.V.Signal.ends d.span lane) (g.V.Signal.ends d.span lane)
+    ∙ received-is c.history_laws.ensures (in_lane g.V.Signal.signal.rails lane s.keys) (keys d.from) t
+    (length s.keys) (g.V.Signal.signal.ends d.span lane) (g.V.Signal.signal.ends d.span lane)
     (have d.from s f) (c.requires.sent.each d.from s f).0 refl
     (c.requires.delays.later c.args.channel d at lane inside)
-    ∙ ap (λ (k : ℕ). rails_delayed (keys k) (g.V.Signal.ends d.span lane) t)
+    ∙ ap (λ (k : ℕ). rails_delayed (keys k) (g.V.Signal.signal.ends d.span lane) t)
     (of.from c.args.channel d at)
     ∙ ap (λ e. rails_delayed (keys (w.from c.args.channel)) e t) delay

@@ -36,7 +36,7 @@ returns-in-None g c = λ level trees lane inside put.
     let at : slice_get rows c.args.gate ≡ Some None =
     slice_get_read rows c.args.gates c.args.gate c.index.result.now
     (sym c.requires.rows.rows) c.requires.gate c.index.ensures ∙ ap Some c.in-None.is in
-    subst (λ (o : Option Bool). IsMask g.V.Signal.rails lane o
+    subst (λ (o : Option Bool). IsMask g.V.Signal.signal.rails lane o
     (record { off = c.known.result; on = c.known-in-None.result }))
     (sym (put.none c.args.gate lane c.args.t inside c.requires.tick at))
     (c.known.ensures lane inside, c.known-in-None.ensures lane inside)

@@ -28,9 +28,9 @@ returns-clause-pairs g c = λ lane level keys inside put are.
     let line = c.args.compiled.now.line.now in
     let n = length net.gates in
     let waves = c.new.result in
-    let rails = g.V.Signal.rails in
+    let rails = g.V.Signal.signal.rails in
     let w : PairWorld =
-    pair_world_of line c.args.script.now (span_box g.V.Signal.ends line c.args.spans.now lane) in
+    pair_world_of line c.args.script.now (span_box g.V.Signal.signal.ends line c.args.spans.now lane) in
     let told = c.in_ok-told.ensures.told lane level keys inside put are in
     let width : waves.width ≡ n = returns-clause-width g c in
     let values : waves.values ≡ c.in_ok-told.told.values.items = ap (λ w. w.values) c.new.ensures in

@@ -106,17 +106,19 @@ loop-t-init g c =
       lanes = λ lane level keys inside put are.
           let w : PairWorld =
           pair_world_of line c.args.script.now
-          (span_box g.V.Signal.ends line c.args.spans.now lane) in
+          (span_box g.V.Signal.signal.ends line c.args.spans.now lane) in
           let u : GateSignals = under_pairs (level lane) w keys net.gates in
           let v : GateSignals = own_pairs (level lane) w keys net.gates in
           record {
-            keys_sent = none_sent g.V.Signal.rails lane count line.horizon keys
+            keys_sent = none_sent g.V.Signal.signal.rails lane count line.horizon keys
                 c.in_ok-sent.sent.items c.in_ok-sent.ensures;
             cells_stand = c.in_ok-cells.ensures.stands lane w u inside (λ x. refl);
-            told = subst (ValuesTold g.V.Signal.rails lane u n) (sym c.in_ok-values.ensures.items)
-                (values_none g.V.Signal.rails lane u n);
-            own_told = subst (ValuesTold g.V.Signal.rails lane v n) (sym c.in_ok-owns.ensures.items)
-                (values_none g.V.Signal.rails lane v n);
+            told = subst (ValuesTold g.V.Signal.signal.rails lane u n)
+                (sym c.in_ok-values.ensures.items)
+                (values_none g.V.Signal.signal.rails lane u n);
+            own_told = subst (ValuesTold g.V.Signal.signal.rails lane v n)
+                (sym c.in_ok-owns.ensures.items)
+                (values_none g.V.Signal.signal.rails lane v n);
           };
     }
 
@@ -155,9 +157,9 @@ walk-requires-clause-sent g c =
 pub walk-requires-clause-delays : goal.walk-requires-clause-delays
 walk-requires-clause-delays g c =
     let line = c.args.compiled.now.line.now in
-    subst (CanReceive g.V.Signal.LANES g.V.Signal.ends line) (sym c.as_slice-in-loop-t.ensures.value)
-    (can_receive g.V.Signal.ends line c.args.spans.now c.in_ok-delays.delays.items
-    c.in_ok-delays.ensures g.V.Signal.LANES c.loop-t.t c.loop-t-test.true c.requires.delayed)
+    subst (CanReceive g.V.Signal.signal line) (sym c.as_slice-in-loop-t.ensures.value)
+    (can_receive g.V.Signal.signal line c.args.spans.now c.in_ok-delays.delays.items
+    c.in_ok-delays.ensures c.loop-t.t c.loop-t-test.true c.requires.delayed)
 
 pub send_all-requires-clause-gates : goal.send_all-requires-clause-gates
 send_all-requires-clause-gates g c =
@@ -185,8 +187,8 @@ loop-t-preserved g c =
     let line = c.args.compiled.now.line.now in
     let script = c.args.script.now in
     let spans = c.args.spans.now in
-    let ends = g.V.Signal.ends in
-    let rails = g.V.Signal.rails in
+    let ends = g.V.Signal.signal.ends in
+    let rails = g.V.Signal.signal.rails in
     let n = length net.gates in
     let next : suc t ≡ t + 1 = sym (add-one t) in
     let values = c.loop-t.values.items in
@@ -234,7 +236,7 @@ loop-t-preserved g c =
           let sent : KeysSent rails lane keys t c.as_slice-in-loop-t-2.result.now =
           subst (KeysSent rails lane keys t) (sym c.as_slice-in-loop-t-2.ensures.value)
           before.keys_sent in
-          let ready : IsReady g.V.Timed.stands_for ends rails lane (level lane) w keys u v t
+          let ready : IsReady g.V.Signal.signal g.V.Timed.stands_for lane (level lane) w keys u v t
           net.gates c.as_slice-in-loop-t-2.result.now c.loop-t.cells.items =
           record {
             told = gates_told (level lane) w keys (put.timers lane inside)
@@ -249,7 +251,8 @@ loop-t-preserved g c =
           ∙ ap (spans_at t) c.deref.ensures.value))
           (subst (λ l. IsWorldAt ends lane (spans_at t script.spans.items) l w t)
           (sym c.as_slice-in-loop-t.ensures.value)
-          (world_at ends line spans c.in_ok-delays.delays.items c.in_ok-delays.ensures lane t
+          (world_at g.V.Signal.signal line spans c.in_ok-delays.delays.items c.in_ok-delays.ensures
+          lane t
           script)) in
           let agree = c.walk.ensures.answers lane level w keys u v inside put.put world ready in
           let agree' : ValuesAgree rails lane u t c.as_slice-in-loop-t-3.result.now =
@@ -260,7 +263,7 @@ loop-t-preserved g c =
           ap (λ (x : Tree). pair_under (level lane) w keys x t) (c.args.compiled.now.of_line.keys k
           kn')
           ∙ sym (are k t kn' c.loop-t-test.true) in
-          subst (λ (m : ℕ). LaneStands g.V.Timed.stands_for ends rails lane w keys u v m
+          subst (λ (m : ℕ). LaneStands g.V.Signal.signal g.V.Timed.stands_for lane w keys u v m
           net.gates c.send_all.new.tracks.items c.walk.new.cells.items
           c.extend_within-in-loop-t.new.list.items c.extend_within.new.list.items) next
           (record {

@@ -11,7 +11,7 @@ use Rattle.run_ticks.proofs.cases.ticks.run_ticks.Given as goal
 abbrev pub invariant-loop-t : goal.invariant-loop-t
 invariant-loop-t g l =
     let gates = l.compiled.net.now.gates in
-    let w = λ (lane : ℕ). pair_world_of l.compiled.line.now l.script (span_box g.V.Signal.ends
+    let w = λ (lane : ℕ). pair_world_of l.compiled.line.now l.script (span_box g.V.Signal.signal.ends
     l.compiled.line.now l.spans lane) in
     record {
       count : length l.values.items ≡ l.t * length gates;
@@ -24,11 +24,11 @@ invariant-loop-t g l =
       cells : HaveCells gates l.cells.items;
       sent : AreSent (terminal_count l.compiled.line.now) l.compiled.line.now.horizon l.t
           l.sent.items;
-      lanes : (lane : ℕ) (level : Levels) (keys : PairSignals) → lane < g.V.Signal.LANES
-          → PutUnder g.V.Signal.rails g.V.Signal.LANES level l.compiled.line.now l.compiled.net.now
+      lanes : (lane : ℕ) (level : Levels) (keys : PairSignals) → lane < g.V.Signal.signal.lanes
+          → PutUnder g.V.Signal.signal level l.compiled.line.now l.compiled.net.now
           l.masks
           → AreKeysUnder l.compiled.line.now (level lane) (w lane) keys
-          → LaneStands g.V.Timed.stands_for g.V.Signal.ends g.V.Signal.rails lane (w lane) keys
+          → LaneStands g.V.Signal.signal g.V.Timed.stands_for lane (w lane) keys
           (under_pairs (level lane) (w lane) keys gates) (own_pairs (level lane) (w lane) keys gates)
           l.t gates l.sent.items l.cells.items l.values.items l.owns.items;
     }

@@ -21,10 +21,11 @@ loop-i-init g c = record {
   cells = c.requires.cells;
   walked = λ lane level w keys u v inside put world ready. (
     (
-      agree_none g.V.Signal.rails lane u c.args.t c.clear.new.self.items c.clear.ensures.items,
-      agree_none g.V.Signal.rails lane v c.args.t c.clear-2.new.self.items c.clear-2.ensures.items,
+      agree_none g.V.Signal.signal.rails lane u c.args.t c.clear.new.self.items c.clear.ensures.items,
+      agree_none g.V.Signal.signal.rails lane v c.args.t c.clear-2.new.self.items
+          c.clear-2.ensures.items,
     ),
-    walked_none g.V.Timed.stands_for g.V.Signal.ends g.V.Signal.rails lane w u c.args.t
+    walked_none g.V.Signal.signal g.V.Timed.stands_for lane w u c.args.t
         c.args.net.now.gates c.args.cells.now.items ready.stand,
   );
 }
@@ -118,7 +119,7 @@ loop-i-preserved g c =
     let cells = c.loop-i.cells.items in
     let own = c.answer-own.result in
     let x = c.put-value.result in
-    let rails = g.V.Signal.rails in
+    let rails = g.V.Signal.signal.rails in
     let pushed : c.push_reserved-in-loop-i.new.self.items ≡ column ++ x ∷ [] =
     c.push_reserved-in-loop-i.ensures.items in
     let own_pushed : c.push_reserved.new.self.items ≡ owns ++ own ∷ [] =
@@ -166,7 +167,7 @@ loop-i-preserved g c =
                   (agree_more rails lane v t i own owns c.loop-i.invariant.own_count own_is
                   before.0.1),
             ),
-            cells_more g.V.Timed.stands_for g.V.Signal.ends rails lane w u t gates i (i + 1) here
+            cells_more g.V.Signal.signal g.V.Timed.stands_for lane w u t gates i (i + 1) here
                 c.index_mut.result.now c.answer-own.new.cell cells refl gate_is old before.1
                 (λ h. c.answer-own.ensures.stands lane w u inside agree h),
           );

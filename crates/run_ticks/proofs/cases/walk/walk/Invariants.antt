@@ -10,8 +10,8 @@ use Rattle.run_ticks.proofs.cases.walk.walk.Given as goal
 
 abbrev pub invariant-loop-i : goal.invariant-loop-i
 invariant-loop-i g l =
-    let ends = g.V.Signal.ends in
-    let rails = g.V.Signal.rails in
+    let ends = g.V.Signal.signal.ends in
+    let rails = g.V.Signal.signal.rails in
     record {
       room : length l.net.gates ≤ vec_capacity l.column;
       own_room : length l.net.gates ≤ vec_capacity l.owns;
@@ -19,12 +19,13 @@ invariant-loop-i g l =
       own_count : length l.owns.items ≡ l.i;
       cells : HaveCells l.net.gates l.cells.items;
       walked : (lane : ℕ) (level : Levels) (w : PairWorld) (keys : PairSignals)
-          (u v : GateSignals) → lane < g.V.Signal.LANES
-          → PutLevels rails g.V.Signal.LANES level (formula_of l.net.gates) l.line.horizon l.masks
+          (u v : GateSignals) → lane < g.V.Signal.signal.lanes
+          → PutLevels g.V.Signal.signal level (formula_of l.net.gates) l.line.horizon l.masks
           → IsWorldAt ends lane l.present l.delays w l.t
-          → IsReady g.V.Timed.stands_for ends rails lane (level lane) w keys u v l.t l.net.gates
+          → IsReady g.V.Signal.signal g.V.Timed.stands_for lane (level lane) w keys u v l.t l.net.gates
           l.sent l.initial.cells.items
           → (ValuesAgree rails lane u l.t l.column.items
           × ValuesAgree rails lane v l.t l.owns.items)
-          × CellsWalked g.V.Timed.stands_for ends rails lane w u l.t l.i l.net.gates l.cells.items;
+          × CellsWalked g.V.Signal.signal g.V.Timed.stands_for lane w u l.t l.i l.net.gates
+          l.cells.items;
     }

@@ -52,25 +52,25 @@ returns-clause-pairs g c = λ lane inside.
     ap length values ∙ c.in_ok-values.ensures.count in
     let are : AreWaves waves =
     made_waves line net waves c.args.compiled.now.of_line.laws line.horizon_in_range.1 of count in
-    let box : Box = lane_box g.V.Signal.ends line c.args.spans.now c.args.steps.now lane in
+    let box : Box = lane_box g.V.Signal.signal.ends line c.args.spans.now c.args.steps.now lane in
     run_pairs c.line_laws.ensures c.gates_stand_for_their_trees.ensures line script box
     (c.requires.delayed lane inside) net c.args.compiled.now.of_line
-    g.V.Signal.rails lane waves of are
-    (subst (ValuesTold g.V.Signal.rails lane (line_pairs line script box net) (length net.gates))
+    g.V.Signal.signal.rails lane waves of are
+    (subst (ValuesTold g.V.Signal.signal.rails lane (line_pairs line script box net) (length net.gates))
     (sym values) (c.in_ok-values.ensures.told lane inside))
 
 pub returns-clause-history : goal.returns-clause-history
 returns-clause-history g c = λ lane inside.
     run_history c.line_laws.ensures c.gates_stand_for_their_trees.ensures
     c.args.compiled.now.line.now c.args.script.now _ (c.requires.delayed lane inside)
-    c.args.compiled.now.net.now c.args.compiled.now.of_line g.V.Signal.rails lane c.new.result
+    c.args.compiled.now.net.now c.args.compiled.now.of_line g.V.Signal.signal.rails lane c.new.result
     (returns-clause-waves g c) (returns-clause-pairs g c lane inside)
 
 pub returns-clause-covers : goal.returns-clause-covers
 returns-clause-covers g c = λ lane inside.
     run_covers c.line_laws.ensures c.gates_stand_for_their_trees.ensures
     c.args.compiled.now.line.now c.args.script.now _ (c.requires.delayed lane inside)
-    c.args.compiled.now.net.now c.args.compiled.now.of_line g.V.Signal.rails lane c.new.result
+    c.args.compiled.now.net.now c.args.compiled.now.of_line g.V.Signal.signal.rails lane c.new.result
     (returns-clause-waves g c) (returns-clause-pairs g c lane inside)
 
 pub returns-clause-exact : goal.returns-clause-exact
@@ -79,5 +79,5 @@ returns-clause-exact g c = λ lane choice inside point.
     (c.requires.delayed lane inside) choice point _
     (own_history c.line_laws.ensures c.gates_stand_for_their_trees.ensures
     c.args.compiled.now.line.now c.args.script.now _ (c.requires.delayed lane inside)
-    c.args.compiled.now.net.now c.args.compiled.now.of_line g.V.Signal.rails lane c.new.result
+    c.args.compiled.now.net.now c.args.compiled.now.of_line g.V.Signal.signal.rails lane c.new.result
     (returns-clause-waves g c) (returns-clause-pairs g c lane inside))

@@ -5,10 +5,9 @@ use Rattle.std.specs.Prelude.{vec_capacity}
 use Rattle.model_line.specs.Parameters.{terminal_count}
 use Rattle.model_logic.specs.PairMean.{PairWorld, PairSignals}
 use Rattle.model_logic.specs.Choice.{Box, pair_world_of}
-use Rattle.model_logic.specs.{Logic.key_tree, Solution.the_keys}
 use Rattle.net_gates.specs.NetOf.{key_of, AreGatesOf}
-use Rattle.run_step.specs.{GatePairs.GateSignals, GatePairs.line_pairs, LaneBox.lane_box}
-use Rattle.run_step.specs.{LaneBox.lane_world, Ticks.IsReady, Ticks.AreTold, Ticks.AreSent}
+use Rattle.run_step.specs.{GatePairs.GateSignals, LaneBox.lane_box, Lanes.LanePairs}
+use Rattle.run_step.specs.{Lanes.line_lane, Ticks.IsReady, Ticks.AreTold, Ticks.AreSent}
 use Rattle.run_step.specs.{Ticks.KeysSent, Ticks.ValuesAgree, Ticks.ValuesTold}
 use Rattle.run_step.specs.Ticks.{LaneStands}
 use Rattle.run_step.specs.{Inputs.CanReceive, Inputs.IsWorldAt}
@@ -22,12 +21,12 @@ use Rattle.run_step.specs.{GatePairLaws.gate_pairs-kind, RunLaws.key_pair}
 use Rattle.run_ticks.proofs.net.ticks.run_ticks.Goals as goal
 
 pub fresh_tracks-requires : goal.fresh_tracks-requires
-fresh_tracks-requires g c = c.args.compiled.now.line.now.horizon_in_range.1
+fresh_tracks-requires g c = c.args.run.now.compiled.now.line.now.horizon_in_range.1
 
 pub overflow_mul-compiled : goal.overflow_mul-compiled
 overflow_mul-compiled g c =
-    let most : c.args.compiled.now.line.now.horizon * c.len-width.result ≤ 4000 * 512 =
-    mul-le-mul c.args.compiled.now.line.now.horizon_in_range.1 c.len-width.ensures.few in
+    let most : c.args.run.now.compiled.now.line.now.horizon * c.len-width.result ≤ 4000 * 512 =
+    mul-le-mul c.args.run.now.compiled.now.line.now.horizon_in_range.1 c.len-width.ensures.few in
     record { fits = omega (arith, most) }
 
 pub overflow_cast-key_gates : goal.overflow_cast-key_gates
@@ -36,20 +35,20 @@ overflow_cast-key_gates g c =
       fits = omega (
         arith,
         ap length c.key_gates.ensures,
-        c.args.compiled.now.of_line.terminals,
-        c.args.compiled.now.line.now.two_or_three.1,
+        c.args.run.now.compiled.now.of_line.terminals,
+        c.args.run.now.compiled.now.line.now.two_or_three.1,
       );
     }
 
 pub loop-t-init : goal.loop-t-init
 unfolding pair_world_of lane_box
 loop-t-init g c =
-    let line = c.args.compiled.now.line.now in
-    let net = c.args.compiled.now.net.now in
+    let line = c.args.run.now.compiled.now.line.now in
+    let net = c.args.run.now.compiled.now.net.now in
     let n = length net.gates in
     let count = length c.key_gates.result.now in
     let all : count ≡ terminal_count line =
-    ap length c.key_gates.ensures ∙ c.args.compiled.now.of_line.terminals in
+    ap length c.key_gates.ensures ∙ c.args.run.now.compiled.now.of_line.terminals in
     let width : c.len-width.result ≡ n = c.len-width.ensures.len in
     let column : vec_capacity c.in_ok-column.column ≡ c.len-width.result =
     c.in_ok-column.ensures.exact in
@@ -62,7 +61,7 @@ loop-t-init g c =
       column_room = omega (arith, column, width);
       values_room = omega (arith, whole);
       delays = c.in_ok-inputs.ensures.delays;
-      stand = stand_none g.V.Signal.LANES g.V.Signal.ends c.args.spans.now c.args.steps.now
+      stand = stand_none g.V.Signal.signal c.args.run.now
           c.in_ok-inputs.inputs.delays.items c.in_ok-inputs.ensures.fresh;
       shown = subst (AreShown c.args.script.now.spans.items c.in_ok-inputs.inputs.shown 0)
           (sym c.in_ok-inputs.ensures.over)
@@ -72,29 +71,24 @@ loop-t-init g c =
       sent = subst (λ (m : ℕ). AreSent m line.horizon 0 c.in_ok-sent.sent.items) all
           (fresh_sent count line.horizon c.in_ok-sent.sent.items c.in_ok-sent.ensures);
       lanes = λ lane inside.
-          let w : PairWorld = lane_world g.V.Signal.ends line c.args.script.now c.args.spans.now
-          c.args.steps.now lane in
-          let keys : PairSignals = the_keys w (key_tree line) in
-          let u : GateSignals = line_pairs line c.args.script.now
-          (lane_box g.V.Signal.ends line c.args.spans.now c.args.steps.now lane) net in
+          let p : LanePairs = line_lane g.V.Signal.signal.ends c.args.run.now c.args.script.now lane in
+          let u : GateSignals = p.pairs in
           record {
-            keys_sent = none_sent g.V.Signal.rails lane count line.horizon keys
+            keys_sent = none_sent g.V.Signal.signal.rails lane count line.horizon p.keys
                 c.in_ok-sent.sent.items c.in_ok-sent.ensures;
-            cells_stand = c.in_ok-cells.ensures.stands lane w u inside (λ x. refl);
-            told = subst (ValuesTold g.V.Signal.rails lane u n) (sym c.in_ok-values.ensures.items)
-                (values_none g.V.Signal.rails lane u n);
+            cells_stand = c.in_ok-cells.ensures.stands lane p.world u inside (λ x. refl);
+            told = subst (ValuesTold g.V.Signal.signal.rails lane u n)
+                (sym c.in_ok-values.ensures.items)
+                (values_none g.V.Signal.signal.rails lane u n);
           };
     }
 
-pub turn-requires-clause-spans : goal.turn-requires-clause-spans
-turn-requires-clause-spans g c = c.requires.one_each
-
-pub turn-requires-clause-ascending : goal.turn-requires-clause-ascending
-turn-requires-clause-ascending g c = c.requires.ascending
+pub turn-requires-clause-can : goal.turn-requires-clause-can
+turn-requires-clause-can g c = c.requires
 
 pub turn-requires-clause-early : goal.turn-requires-clause-early
 turn-requires-clause-early g c =
-    omega (arith, c.loop-t-test.true, c.args.compiled.now.line.now.horizon_in_range.1)
+    omega (arith, c.loop-t-test.true, c.args.run.now.compiled.now.line.now.horizon_in_range.1)
 
 pub turn-requires-clause-delays : goal.turn-requires-clause-delays
 turn-requires-clause-delays g c = c.loop-t.invariant.delays
@@ -106,19 +100,19 @@ pub walk-requires-clause-room : goal.walk-requires-clause-room
 walk-requires-clause-room g c = c.loop-t.invariant.column_room
 
 pub walk-requires-clause-names : goal.walk-requires-clause-names
-walk-requires-clause-names g c = c.args.compiled.now.of_line.named
+walk-requires-clause-names g c = c.args.run.now.compiled.now.of_line.named
 
 pub walk-requires-clause-cells : goal.walk-requires-clause-cells
 walk-requires-clause-cells g c = c.loop-t.invariant.cells
 
 pub walk-requires-clause-moment : goal.walk-requires-clause-moment
 walk-requires-clause-moment g c =
-    let line = c.args.compiled.now.line.now in
+    let line = c.args.run.now.compiled.now.line.now in
     record {
       tick = c.loop-t-test.true;
-      delays = subst (CanReceive g.V.Signal.LANES g.V.Signal.ends line)
+      delays = subst (CanReceive g.V.Signal.signal line)
           (sym c.as_slice.ensures.value)
-          (can_receive g.V.Signal.LANES g.V.Signal.ends line c.args.spans.now c.args.steps.now
+          (can_receive g.V.Signal.signal c.args.run.now
           c.turn.new.inputs.delays.items c.loop-t.t c.turn.ensures.delays c.turn.ensures.stand
           c.turn.ensures.set c.loop-t-test.true c.requires.delayed);
       sent = subst (λ l. AreSent (terminal_count line) line.horizon c.loop-t.t l)
@@ -127,33 +121,34 @@ walk-requires-clause-moment g c =
 
 pub send_all-requires-clause-gates : goal.send_all-requires-clause-gates
 send_all-requires-clause-gates g c =
-    let net = c.args.compiled.now.net.now in
+    let net = c.args.run.now.compiled.now.net.now in
     let wide : length c.as_slice-in-loop-t-2.result.now ≡ length net.gates =
     ap length c.as_slice-in-loop-t-2.ensures.value ∙ c.walk.ensures.count in
     subst (λ ids. AreGatesOf ids (length c.as_slice-in-loop-t-2.result.now))
     (sym c.key_gates-in-loop-t.ensures)
-    (subst (λ (n : ℕ). AreGatesOf net.keys n) (sym wide) c.args.compiled.now.of_line.laws.keys)
+    (subst (λ (n : ℕ). AreGatesOf net.keys n) (sym wide) c.args.run.now.compiled.now.of_line.laws.keys)
 
 pub send_all-requires-clause-room : goal.send_all-requires-clause-room
 send_all-requires-clause-room g c = omega (arith, c.loop-t-test.true)
 
 pub send_all-requires-clause-sent : goal.send_all-requires-clause-sent
 send_all-requires-clause-sent g c =
-    subst (λ (m : ℕ). AreSent m c.args.compiled.now.line.now.horizon c.loop-t.t c.loop-t.sent.items)
-    (sym (ap length c.key_gates-in-loop-t.ensures ∙ c.args.compiled.now.of_line.terminals))
+    subst (λ (m : ℕ). AreSent m c.args.run.now.compiled.now.line.now.horizon c.loop-t.t
+    c.loop-t.sent.items)
+    (sym (ap length c.key_gates-in-loop-t.ensures ∙ c.args.run.now.compiled.now.of_line.terminals))
     c.loop-t.invariant.sent
 
 pub loop-t-preserved : goal.loop-t-preserved
 loop-t-preserved g c =
     let t = c.loop-t.t in
-    let net = c.args.compiled.now.net.now in
-    let line = c.args.compiled.now.line.now in
+    let net = c.args.run.now.compiled.now.net.now in
+    let line = c.args.run.now.compiled.now.line.now in
     let script = c.args.script.now in
-    let spans = c.args.spans.now in
-    let steps = c.args.steps.now in
+    let spans = c.args.run.now.spans.now in
+    let steps = c.args.run.now.steps.now in
     let inputs = c.turn.new.inputs in
-    let ends = g.V.Signal.ends in
-    let rails = g.V.Signal.rails in
+    let ends = g.V.Signal.signal.ends in
+    let rails = g.V.Signal.signal.rails in
     let n = length net.gates in
     let next : suc t ≡ t + 1 = omega arith in
     let values = c.loop-t.values.items in
@@ -171,27 +166,28 @@ loop-t-preserved g c =
       column_room = c.walk.ensures.room;
       values_room = omega (arith, room, more);
       delays = c.turn.ensures.delays;
-      stand = stand_later g.V.Signal.LANES ends spans steps inputs.delays.items t (t + 1) (omega arith)
+      stand = stand_later g.V.Signal.signal c.args.run.now inputs.delays.items t (t + 1) (omega arith)
           c.turn.ensures.stand;
       shown = shown_later script.spans.items inputs.shown t (t + 1) inputs.until (omega arith)
           (c.turn.ensures.shown script.spans.items c.loop-t.invariant.shown);
       cells = c.walk.ensures.cells;
       sent =
           subst (λ (m : ℕ). AreSent m line.horizon (t + 1) c.send_all.new.tracks.items)
-          (ap length c.key_gates-in-loop-t.ensures ∙ c.args.compiled.now.of_line.terminals)
+          (ap length c.key_gates-in-loop-t.ensures ∙ c.args.run.now.compiled.now.of_line.terminals)
           c.send_all.ensures.count;
       lanes = λ lane inside.
-          let w : PairWorld = lane_world ends line script spans steps lane in
+          let p : LanePairs = line_lane ends c.args.run.now script lane in
           let box : Box = lane_box ends line spans steps lane in
-          let keys : PairSignals = the_keys w (key_tree line) in
-          let u : GateSignals = line_pairs line script box net in
+          let w : PairWorld = p.world in
+          let keys : PairSignals = p.keys in
+          let u : GateSignals = p.pairs in
           let before = c.loop-t.invariant.lanes lane inside in
           let told : AreTold w keys u t net.gates =
           λ i gate at. gate_pairs-kind c.gates_stand_for_their_trees.ensures.kinds w keys net.gates
-          i gate t c.args.compiled.now.of_line.laws.gates at in
+          i gate t c.args.run.now.compiled.now.of_line.laws.gates at in
           let sent : KeysSent rails lane keys t c.as_slice-in-loop-t.result.now =
           subst (KeysSent rails lane keys t) (sym c.as_slice-in-loop-t.ensures.value) before.keys_sent in
-          let ready : IsReady g.V.Timed.stands_for ends rails lane w keys u t net.gates
+          let ready : IsReady g.V.Signal.signal g.V.Timed.stands_for lane w keys u t net.gates
           c.as_slice-in-loop-t.result.now c.loop-t.cells.items =
           record { told = told; sent = sent; stand = before.cells_stand } in
           let world : IsWorldAt ends lane c.present.result.now c.as_slice.result.now w t =
@@ -199,7 +195,7 @@ loop-t-preserved g c =
           (sym c.present.ensures)
           (subst (λ l. IsWorldAt ends lane inputs.shown.present l w t)
           (sym c.as_slice.ensures.value)
-          (world_at g.V.Signal.LANES ends line spans steps inputs.delays.items t
+          (world_at g.V.Signal.signal c.args.run.now inputs.delays.items t
           c.turn.ensures.delays c.turn.ensures.stand c.turn.ensures.set lane script inputs.shown
           inputs.until (c.turn.ensures.shown script.spans.items c.loop-t.invariant.shown)
           c.turn.ensures.later)) in
@@ -209,9 +205,10 @@ loop-t-preserved g c =
           subst (ValuesAgree rails lane u t) (sym c.as_slice-in-loop-t-2.ensures.value) agree in
           let are_keys : (k : ℕ) → k < length net.keys → u (key_of net k) t ≡ keys k t =
           λ k kn. key_pair c.line_laws.ensures c.gates_stand_for_their_trees.ensures line script
-          box (c.requires.delayed lane inside) net c.args.compiled.now.of_line k t
-          (subst (λ (m : ℕ). k < m) c.args.compiled.now.of_line.terminals kn) c.loop-t-test.true in
-          subst (λ (m : ℕ). LaneStands g.V.Timed.stands_for ends rails lane w keys u m
+          box (c.requires.delayed lane inside) net c.args.run.now.compiled.now.of_line k t
+          (subst (λ (m : ℕ). k < m) c.args.run.now.compiled.now.of_line.terminals kn)
+          c.loop-t-test.true in
+          subst (λ (m : ℕ). LaneStands g.V.Signal.signal g.V.Timed.stands_for lane w keys u m
           net.gates c.send_all.new.tracks.items c.walk.new.cells.items
           c.extend_within.new.list.items) next
           (record {
@@ -229,23 +226,23 @@ loop-t-preserved g c =
 
 pub extend_within-requires : goal.extend_within-requires
 extend_within-requires g c =
-    let n = length c.args.compiled.now.net.now.gates in
+    let n = length c.args.run.now.compiled.now.net.now.gates in
     let long : length c.loop-t.values.items ≡ c.loop-t.t * n = c.loop-t.invariant.count in
     let wide : length c.walk.new.column.items ≡ n = c.walk.ensures.count in
     let same : length c.as_slice-in-loop-t-3.result.now ≡ length c.walk.new.column.items =
     ap length c.as_slice-in-loop-t-3.ensures.value in
-    let room : c.args.compiled.now.line.now.horizon * n ≤ vec_capacity c.loop-t.values =
+    let room : c.args.run.now.compiled.now.line.now.horizon * n ≤ vec_capacity c.loop-t.values =
     c.loop-t.invariant.values_room in
-    let fits : c.loop-t.t * n + n ≤ c.args.compiled.now.line.now.horizon * n =
-    tick_fits c.loop-t.t c.args.compiled.now.line.now.horizon n c.loop-t-test.true in
+    let fits : c.loop-t.t * n + n ≤ c.args.run.now.compiled.now.line.now.horizon * n =
+    tick_fits c.loop-t.t c.args.run.now.compiled.now.line.now.horizon n c.loop-t-test.true in
     omega (arith, long, wide, same, room, fits)
 
 pub returns-clause-count : goal.returns-clause-count
 returns-clause-count g c =
-    let over : c.args.compiled.now.line.now.horizon ≤ c.loop-t.t = c.loop-t-test.false in
-    let under : c.loop-t.t ≤ c.args.compiled.now.line.now.horizon = c.loop-t.auto.t-end in
-    let last : c.loop-t.t ≡ c.args.compiled.now.line.now.horizon = omega arith in
-    c.loop-t.invariant.count ∙ ap (λ (m : ℕ). m * length c.args.compiled.now.net.now.gates) last
+    let over : c.args.run.now.compiled.now.line.now.horizon ≤ c.loop-t.t = c.loop-t-test.false in
+    let under : c.loop-t.t ≤ c.args.run.now.compiled.now.line.now.horizon = c.loop-t.auto.t-end in
+    let last : c.loop-t.t ≡ c.args.run.now.compiled.now.line.now.horizon = omega arith in
+    c.loop-t.invariant.count ∙ ap (λ (m : ℕ). m * length c.args.run.now.compiled.now.net.now.gates) last
 
 pub returns-clause-told : goal.returns-clause-told
 returns-clause-told g c = λ lane inside. (c.loop-t.invariant.lanes lane inside).told

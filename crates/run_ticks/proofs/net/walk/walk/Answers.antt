@@ -15,8 +15,9 @@ loop-i-init g c = record {
   count = ap length c.clear.ensures.items;
   cells = c.requires.cells;
   walked = λ lane w keys u inside world ready. (
-    agree_none g.V.Signal.rails lane u c.args.moment.now.t c.clear.new.self.items c.clear.ensures.items,
-    walked_none g.V.Timed.stands_for g.V.Signal.ends g.V.Signal.rails lane w u c.args.moment.now.t
+    agree_none g.V.Signal.signal.rails lane u c.args.moment.now.t c.clear.new.self.items
+        c.clear.ensures.items,
+    walked_none g.V.Signal.signal g.V.Timed.stands_for lane w u c.args.moment.now.t
         c.args.net.now.gates c.args.cells.now.items ready.stand,
   );
 }
@@ -77,7 +78,7 @@ loop-i-preserved g c =
     let gates = c.args.net.now.gates in
     let cells = c.loop-i.cells.items in
     let x = c.answer-value.result in
-    let rails = g.V.Signal.rails in
+    let rails = g.V.Signal.signal.rails in
     let pushed : c.push_reserved.new.self.items ≡ column ++ x ∷ [] = c.push_reserved.ensures.items in
     let old_room : length gates ≤ vec_capacity c.loop-i.column = c.loop-i.invariant.room in
     let same_room : vec_capacity c.push_reserved.new.self ≡ vec_capacity c.loop-i.column =
@@ -98,7 +99,7 @@ loop-i-preserved g c =
           let before = c.loop-i.invariant.walked lane w keys u inside world ready in
           let agree : ValuesAgree rails lane u t c.as_slice.result.now =
           subst (ValuesAgree rails lane u t) (sym c.as_slice.ensures.value) before.0 in
-          let more = walked_more g.V.Timed.stands_for g.V.Signal.ends rails lane w keys u t gates
+          let more = walked_more g.V.Signal.signal g.V.Timed.stands_for lane w keys u t gates
           i (i + 1) here c.index_mut.result.now c.answer-value.new.cell x column
           cells refl gate_is old c.loop-i.invariant.count ready.told before
           (λ h. c.answer-value.ensures.stands lane w u inside agree h)

@@ -2,9 +2,9 @@
 
 ghost use Rattle.std.specs.Prelude.{◌≡◌, ◌≤◌, None, length, IfOk, OnErr};
 ghost use Rattle.base_text.specs.store.Counts.{Rose};
-ghost use Rattle.study.specs.NewFile.{FileCounts};
+ghost use Rattle.base_text.specs.store.StdSink.{SinkCounts};
 
-use base_text::store::{Sink, SinkFailed};
+use crate::store::sink::{Sink, SinkFailed};
 use std::io::Write;
 use std::marker::Model;
 use std::rt::Files;
@@ -25,7 +25,7 @@ pub struct NewFile<'a, R: Files> {
 }
 
 impl<'a, R: Files> Model for NewFile<'a, R> {
-    ghost Value = { FileCounts };
+    ghost Value = { SinkCounts };
 
     ghost view = { λ s. record { faults = s.faults; pushes = s.pushes } };
 }

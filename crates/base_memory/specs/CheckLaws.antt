@@ -3,17 +3,27 @@ use Rattle.std.specs.Prelude.{◌≡◌, Bool, true, false, cond, Option, None, 
 use Rattle.std.specs.Prelude.{refl}
 use Rattle.std.proofs.Common.{ap, ok_or, subst}
 use Rattle.std.proofs.lemmas.Map.Entries.{option_filter}
-use Rattle.base_records.specs.Gives.{◌>>=◌, Fails, Unless, passes_or}
+use Rattle.base_memory.specs.Gives.{◌>>=◌, Fails, passes_or}
+use Rattle.base_memory.specs.declared.stopped.Stopped.{Stopped}
+use Rattle.base_memory.specs.declared.stopped.Stopped.TheVariants as stopped
 
-unless_weaker : (b : Bool) (P Q : Type 0) → (P → Q) → Unless b P → Unless b Q
-unless_weaker true P Q f h = tt
-unless_weaker false P Q f h = f h
+-- the fault that is said may be answered
+pub fails_is : {Y F : Type 0} (why : Stopped F) (fault : F) (said : Result Y F)
+    → why ≡ stopped.Fault fault → said ≡ Err fault → Fails why said
+fails_is (stopped.Fault other) fault said is e = let same : other ≡ fault = cc in rw same e
+fails_is stopped.Memory fault said is e = tt
 
 -- what follows a check that fails, fails so too
-pub fails_first : {A B F : Type 0} (m : F → Bool) (e : F) (r : Result A F) (f : A → Result B F)
-    → Fails m e r → Fails m e (r >>= f)
-fails_first m e r f fails =
-    unless_weaker (m e) (r ≡ Err e) ((r >>= f) ≡ Err e) (λ h. ap (λ x. x >>= f) h) fails
+pub fails_first : {A B F : Type 0} (why : Stopped F) (r : Result A F) (next : A → Result B F)
+    → Fails why r → Fails why (r >>= next)
+fails_first (stopped.Fault fault) r next fails = ap (λ x. x >>= next) fails
+fails_first stopped.Memory r next fails = tt
+
+-- and so does all, where that is what follows
+pub fails_ends : {A B F : Type 0} (why : Stopped F) (r : Result A F) (next : A → Result B F)
+    (total : Result B F) → Fails why r → (r >>= next) ≡ total → Fails why total
+fails_ends why r next total fails all =
+    subst (λ t. Fails why t) all (fails_first why r next fails)
 
 -- a check that passed, and then the rest
 pub record Passed {A B F : Type 0} (r : Result A F) (f : A → Result B F) (y : B) : Type 0 where
