@@ -12,7 +12,7 @@ use Rattle.model_timing.specs.{Choice.timing_choice, NamedValues.NamedValues}
 use Rattle.net_gates.specs.{Formulas.formula_of, NetOf.IsNetOf, NetOf.NetOf}
 use Rattle.run_step.specs.{GatePairs.GateSignals, Runs.IsTheHistory}
 use Rattle.judge_verdict.specs.verdict.Rules.{rule_named}
-use Rattle.draw_run.specs.dump.GateValues.{gate_levels}
+use Rattle.draw_gates.specs.dump.GateValues.{gate_levels}
 use Rattle.draw_run.specs.{declared.diagram.diagram.Diagram.Diagram, diagram.Diagrams.IsDiagramOf}
 use Rattle.draw_shapes.specs.declared.rows.Rows.TheVariants as rows
 use Rattle.draw_run.specs.diagram.Traces.{known_history, pairs_shown}

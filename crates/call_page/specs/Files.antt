@@ -3,7 +3,8 @@ use Rattle.std.specs.Prelude.{◌≡◌, ◌+◌, ℕ, List, [], ◌∷◌, Ok, 
 use Rattle.model_line.specs.{declared.line.Line.Line, declared.script.Script.Script}
 use Rattle.file_line.specs.{LineFiles.line_of, Lines.line_values}
 use Rattle.file_tables.specs.script.Values.{values_of}
-use Rattle.file_study.specs.sweeps.Parts.{SaysScripts, part, parts_of}
+use Rattle.file_study.specs.sweeps.Parts.{part, parts_of}
+use Rattle.file_tables.specs.script.ReadBack.{SaysScripts}
 use Rattle.judge_verdict.specs.verdict.OneEach.{OneEach}
 use Rattle.draw_page.specs.declared.page.{Digest.Digest, FileText.FileText}
 use Rattle.call_tables.specs.{declared.row.Row.Row, Written.trees_text}

@@ -12,13 +12,13 @@ use Rattle.model_line.specs.declared.script.Kind.{Kind}
 use Rattle.model_line.specs.declared.script.Kind.TheVariants.{Internal, External}
 use Rattle.model_line.specs.{Fits.deadline_fits, PlainNames.is_plain_name}
 use Rattle.file_line.specs.Keys.{document_of}
-use Rattle.file_records.specs.map.Keys.{all_known, array_at, count_of, counted, number_at, number_in, opened}
-use Rattle.file_records.specs.map.Keys.{text_at, value_at}
+use Rattle.file_document.specs.Keys.{all_known, array_at, count_of, counted, number_at, number_in, opened}
+use Rattle.file_document.specs.Keys.{text_at, value_at}
 use Rattle.file_records.specs.map.Maps.{MapValues, deadline_at, kind_at, map_in, map_of, plain_name}
 use Rattle.file_records.specs.map.Maps.{recorders_of, script_at, start_at, top_keys}
-use Rattle.file_records.specs.map.Paths.{numbered, under}
+use Rattle.file_document.specs.Paths.{numbered, under}
 use Rattle.file_records.specs.map.Recorders.{RecorderValues, recorder_at, recorders_in}
-use Rattle.file_records.specs.declared.map.fault.MapFault.TheVariants as fault
+use Rattle.file_document.specs.declared.fault.DocumentFault.TheVariants as fault
 
 -- a recorder for each item
 many_of : (line : Line) (start : ℕ) (path : List ℕ) (i : ℕ) (ds : Items) (done rs : List RecorderValues)

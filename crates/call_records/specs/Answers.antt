@@ -4,7 +4,7 @@ use Rattle.model_line.specs.declared.line.Line.{Line}
 use Rattle.file_comtrade.specs.declared.record.RecordFault.{RecordFault}
 use Rattle.file_records.specs.map.Maps.{MapValues}
 use Rattle.file_records.specs.tracks.Tracks.{AreTracks, FailsAt, PlacedValues, TrackValues, placed_from}
-use Rattle.file_study.specs.sweeps.Parts.{SaysScripts}
+use Rattle.file_tables.specs.script.ReadBack.{SaysScripts}
 use Rattle.file_records.specs.tracks.Rows.{sources_text}
 use Rattle.file_records.specs.{recorded.Changes.record_text, recorded.Spans.script_told, recorded.Spans.spans_told}
 use Rattle.call_records.specs.{Course.RecorderFiles, Course.bytes_in, Halts.End}

@@ -3,7 +3,8 @@ use Rattle.std.specs.Prelude.{◌++◌, ◌∷◌, ℕ, List, [], Option, None, 
 use Rattle.model_line.specs.declared.line.Line.{Line}
 use Rattle.file_line.specs.{LineFiles.line_of, Lines.LineValues, declared.fault.LineFault.LineFault}
 use Rattle.file_records.specs.{map.DataNames.data_name, map.Maps.MapValues, map.Maps.map_of, map.Recorders.RecorderValues}
-use Rattle.file_records.specs.declared.map.{fault.MapFault.MapFault, source.Signal.Signal}
+use Rattle.file_document.specs.declared.fault.DocumentFault.{DocumentFault}
+use Rattle.file_records.specs.declared.map.source.Signal.{Signal}
 use Rattle.file_records.specs.{tracks.Told.first_untold, tracks.Tracks.BytesValues}
 use Rattle.call_records.specs.{Beside.beside, Request.Request}
 use Rattle.call_ask.specs.declared.records.RecordsWork.{RecordsWork as Work}
@@ -78,7 +79,7 @@ with_map asked map_name line map =
     unless_untold (untold_by asked line map) line
     (recorders_course map_name map.recorders [] (over asked line map))
 
-abbrev pub after_map : Work → List ℕ → Line → Result MapValues MapFault → Course
+abbrev pub after_map : Work → List ℕ → Line → Result MapValues DocumentFault → Course
 after_map asked map_name line (Ok map) = with_map asked map_name line map
 after_map asked map_name line (Err why) = refused (map_refusal why)
 

@@ -12,8 +12,8 @@ use Rattle.file_comtrade.specs.declared.fault.DataFault.TheVariants as data_faul
 use Rattle.file_comtrade.specs.declared.record.RecordFault.{RecordFault}
 use Rattle.file_comtrade.specs.declared.record.RecordFault.TheVariants as record_fault
 use Rattle.file_comtrade.specs.declared.ticks.TickFault.{TickFault}
-use Rattle.file_records.specs.declared.map.fault.MapFault.{MapFault}
-use Rattle.file_records.specs.declared.map.fault.MapFault.TheVariants as map_fault
+use Rattle.file_document.specs.declared.fault.DocumentFault.{DocumentFault}
+use Rattle.file_document.specs.declared.fault.DocumentFault.TheVariants as map_fault
 use Rattle.file_records.specs.declared.map.source.Signal.{Signal}
 use Rattle.file_records.specs.declared.map.source.Signal.TheVariants as signal
 use Rattle.file_records.specs.map.Sources.{ChannelSaid, id, number}
@@ -52,17 +52,15 @@ line_refusal why = refusal_line (codes "line") (line_words why)
 
 -- ---- the map
 
-abbrev pub map_words : MapFault → List (List ℕ)
-map_words map_fault.NotToml = codes "no TOML document" ∷ []
-map_words (map_fault.Unknown path) = path ∷ codes ": this key does not belong there" ∷ []
-map_words (map_fault.Missing path) = path ∷ codes ": this key is missing" ∷ []
-map_words (map_fault.WrongKind path) = path ∷ codes ": a value of another type is needed" ∷ []
-map_words (map_fault.Range path) = path ∷ codes ": outside the limits" ∷ []
-map_words (map_fault.BadName path) = path ∷ codes ": no such name" ∷ []
-map_words (map_fault.BadInstant path) = path ∷ codes ": no instant, as 2026-03-05T12:00:00.1" ∷ []
-map_words (map_fault.OneFile path) = path ∷ codes ": a record in one file (.cff) is not read" ∷ []
+-- the place of a fault, where it has one, and what is wrong there
+abbrev pub placed : Option (List ℕ) → List ℕ → List (List ℕ)
+placed None words = words ∷ []
+placed (Some place) words = place ∷ codes ": " ∷ words ∷ []
 
-abbrev pub map_refusal : MapFault → List ℕ
+abbrev pub map_words : DocumentFault → List (List ℕ)
+map_words why = placed (place_of why) (words_of why)
+
+abbrev pub map_refusal : DocumentFault → List ℕ
 map_refusal why = refusal_line (codes "map") (map_words why)
 
 -- a record needs the key and the trip of each terminal

@@ -13,7 +13,8 @@ ghost use Rattle.call_records.specs.Faults.{channel_words, line_words_at, missin
 use crate::halt::Halt;
 use file_comtrade::{ConfigFault, DataFault, RecordFault, TickFault};
 use file_line::LineFault;
-use file_records::map::{ChannelName, MapFault, Signal};
+use file_document::DocumentFault;
+use file_records::map::{ChannelName, Signal};
 use itoa::Buffer;
 use model_line::{Line, Memory, name_of_terminal};
 use std::alloc::Global;
@@ -108,30 +109,13 @@ fn map_refused(alloc: Global, path: &[u8], words: &[u8]) -> Halt
 }
 
 /// The map is refused.
-pub fn map_halt(alloc: Global, fault: &MapFault) -> Halt
+pub fn map_halt(alloc: Global, fault: &DocumentFault) -> Halt
     ensures { Tells (map_refusal fault.now) result }
 {
-    match fault {
-        MapFault::NotToml => refused(alloc, b"map", &[b"no TOML document"]),
-        MapFault::Unknown(path) => {
-            map_refused(alloc, path.bytes(), b": this key does not belong there")
-        }
-        MapFault::Missing(path) => map_refused(alloc, path.bytes(), b": this key is missing"),
-        MapFault::WrongKind(path) => {
-            map_refused(alloc, path.bytes(), b": a value of another type is needed")
-        }
-        MapFault::Range(path) => map_refused(alloc, path.bytes(), b": outside the limits"),
-        MapFault::BadName(path) => map_refused(alloc, path.bytes(), b": no such name"),
-        MapFault::BadInstant(path) => map_refused(
-            alloc,
-            path.bytes(),
-            b": no instant, as 2026-03-05T12:00:00.1",
-        ),
-        MapFault::OneFile(path) => map_refused(
-            alloc,
-            path.bytes(),
-            b": a record in one file (.cff) is not read",
-        ),
+    let words = fault.words().as_bytes();
+    match fault.place() {
+        Some(place) => refused(alloc, b"map", &[place.bytes(), b": ", words]),
+        None => refused(alloc, b"map", &[words]),
     }
 }
 

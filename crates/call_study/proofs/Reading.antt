@@ -4,7 +4,7 @@ use Rattle.std.proofs.Common.{Result, Ok, Err, refl, subst, sym, slice_get, arit
 use Rattle.std.specs.List.{All}
 use Rattle.model_line.specs.declared.line.Line.{Line}
 use Rattle.file_study.specs.study.Studies.{StudyValues, study_of}
-use Rattle.file_study.specs.declared.study.fault.StudyFault.{StudyFault}
+use Rattle.file_document.specs.declared.fault.DocumentFault.{DocumentFault}
 use Rattle.base_memory.specs.Gives.{Fails}
 use Rattle.base_memory.specs.declared.stopped.Stopped.{Stopped}
 use Rattle.base_memory.specs.declared.stopped.Stopped.TheVariants as stopped
@@ -80,7 +80,7 @@ gives_wider allowed more (Err (halt.Stopped stop.Sink)) wider given = absurd giv
 gives_wider allowed more (Err (halt.Stopped stop.Memory)) wider given = tt
 gives_wider allowed more (Err (halt.Denied why)) wider given = wider _ _ given
 
-values_refused : (said : Result StudyValues StudyFault) (why : Halt) (halted : Halt → Type 0)
+values_refused : (said : Result StudyValues DocumentFault) (why : Halt) (halted : Halt → Type 0)
     (holds : Studied → Type 0) → of_values said (λ first. first ≡ why) (λ of. ⊥) → halted why
     → of_values said halted holds
 values_refused (Ok values) why halted holds first r =

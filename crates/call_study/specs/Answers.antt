@@ -4,7 +4,8 @@ use Rattle.std.specs.Prelude.{◌≡◌, ℕ, List, [], Option, Result, Ok, Err,
 use Rattle.file_records.specs.{recorded.Config.config_text, recorded.Map.map_text}
 use Rattle.file_line.specs.{LineFiles.line_of, Lines.line_values}
 use Rattle.file_tables.specs.script.Values.{values_of}
-use Rattle.file_study.specs.sweeps.Parts.{SaysScripts, part}
+use Rattle.file_study.specs.sweeps.Parts.{part}
+use Rattle.file_tables.specs.script.ReadBack.{SaysScripts}
 use Rattle.call_answer.specs.Answers as commands
 use Rattle.call_answer.specs.Answers.{prints}
 use Rattle.call_work.specs.explain.Explain.{explain_answer}

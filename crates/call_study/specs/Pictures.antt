@@ -14,7 +14,7 @@ use Rattle.run_step.specs.{GatePairs.GateSignals, Runs.IsTheHistory}
 use Rattle.model_timing.specs.{Choice.timing_choice}
 use Rattle.model_timing.specs.NamedValues.{NamedValues}
 use Rattle.net_gates.specs.{Formulas.formula_of, NetOf.IsNetOf, NetOf.NetOf}
-use Rattle.draw_run.specs.{dump.Dump.dump_text, dump.GateValues.gate_levels}
+use Rattle.draw_gates.specs.{dump.Dump.dump_text, dump.GateValues.gate_levels}
 use Rattle.draw_run.specs.{declared.diagram.diagram.Diagram.Diagram, diagram.Diagrams.IsDiagramOf}
 use Rattle.draw_shapes.specs.declared.rows.Rows.{Rows}
 use Rattle.draw_run.specs.diagram.Traces.{known_history, pairs_shown}

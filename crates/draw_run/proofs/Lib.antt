@@ -1,4 +1,2 @@
 pub mod diagram_lemmas
-pub mod dump_lemmas
 pub mod layout_lemmas
-pub mod roles_lemmas

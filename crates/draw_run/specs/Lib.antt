@@ -1,4 +1,2 @@
 pub mod diagram
-pub mod dump
 pub mod layout
-pub mod roles

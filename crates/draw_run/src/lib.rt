@@ -1,11 +1,5 @@
-//! Pictures of a run.
-//!
-//! - `roles`: what each gate of a net is to a protection engineer.
-//! - `dump`: every gate, for a waveform viewer.
-//! - `diagram`: timing diagrams as values; `layout`, as drawings.
+//! Timing diagrams of a run: `diagram`, what one shows, as values; `layout`, one as a drawing.
 #![tactic(auto)]
 
 pub mod diagram;
-pub mod dump;
 pub mod layout;
-pub mod roles;

@@ -1,4 +1,4 @@
--- The faults of line files: their printed names and their numbers.
+-- The faults of line files: their printed names.
 use Rattle.std.specs.Prelude.{ℕ, List, codes}
 use Rattle.file_line.specs.declared.fault.LineFault.{LineFault}
 use Rattle.file_line.specs.declared.fault.LineFault.TheVariants as fault
@@ -12,13 +12,3 @@ fault_name (fault.Range path) = codes "Range"
 fault_name (fault.BadName path) = codes "BadName"
 fault_name (fault.Twice path) = codes "Twice"
 fault_name (fault.Channels from to) = codes "Channels"
-
-abbrev pub fault_number : LineFault → ℕ
-fault_number fault.NotToml = 1
-fault_number (fault.Unknown path) = 2
-fault_number (fault.Missing path) = 3
-fault_number (fault.WrongKind path) = 4
-fault_number (fault.Range path) = 5
-fault_number (fault.BadName path) = 6
-fault_number (fault.Twice path) = 7
-fault_number (fault.Channels from to) = 8

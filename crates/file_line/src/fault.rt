@@ -1,7 +1,7 @@
 //! Why a line file is refused.
 
 ghost use Rattle.std.specs.Prelude.{◌≡◌};
-ghost use Rattle.file_line.specs.Faults.{fault_name, fault_number};
+ghost use Rattle.file_line.specs.Faults.{fault_name};
 
 use crate::path::Path;
 use base_memory::Stopped;
@@ -43,22 +43,6 @@ impl LineFault {
             LineFault::BadName(_) => "BadName",
             LineFault::Twice(_) => "Twice",
             LineFault::Channels(_, _) => "Channels",
-        }
-    }
-
-    /// The fault's number, from 1 on in the order above.
-    pub fn number(&self) -> u8
-        ensures { result ≡ fault_number self.now }
-    {
-        match self {
-            LineFault::NotToml => 1,
-            LineFault::Unknown(_) => 2,
-            LineFault::Missing(_) => 3,
-            LineFault::WrongKind(_) => 4,
-            LineFault::Range(_) => 5,
-            LineFault::BadName(_) => 6,
-            LineFault::Twice(_) => 7,
-            LineFault::Channels(_, _) => 8,
         }
     }
 }

@@ -1,6 +1,3 @@
-pub mod PathBytes
-pub mod Paths
-pub mod Keys
 pub mod Instants
 pub mod Sources
 pub mod Signals

@@ -3,14 +3,11 @@
 //!
 //! `specs/map/Maps.antt` says what a map says, or its first fault.
 
-mod fault;
 mod file_names;
 mod head;
 mod instant;
-mod keys;
 mod losses;
 mod map;
-mod path;
 mod read;
 mod recorder;
 mod recorders;
@@ -18,10 +15,8 @@ mod signals;
 mod source;
 mod sources;
 
-pub use fault::MapFault;
 pub use file_names::data_name;
 pub use map::Map;
-pub use path::Path;
 pub use read::read_map;
 pub use recorder::Recorder;
 pub use source::{ChannelName, Signal, Signals, Source};

@@ -3,7 +3,6 @@ pub mod GroupLaws
 pub mod Joining
 pub mod Names
 pub mod PartLaws
-pub mod ReadBack
 pub mod Refusing
 pub mod StudyLaws
 pub mod Sweeping

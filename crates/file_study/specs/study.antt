@@ -1,6 +1,3 @@
-pub mod PathBytes
-pub mod Paths
-pub mod Keys
 pub mod Rounding
 pub mod Moments
 pub mod Settings
@@ -8,4 +5,4 @@ pub mod LineTables
 pub mod Shows
 pub mod Faults
 pub mod Studies
-pub mod FaultWords
+

@@ -4,11 +4,8 @@
 //! `specs/study/Studies.antt` says what a study says. Its line is that of a line file, whose table stands
 //! in `specs/study/LineTables.antt`.
 
-mod fault;
 mod faults;
-mod keys;
 mod line;
-mod path;
 mod print;
 mod read;
 mod settings;
@@ -18,8 +15,6 @@ mod study;
 mod ticks;
 mod units;
 
-pub use fault::StudyFault;
-pub use path::Path;
 pub use print::line_text;
 pub use read::read_study;
 pub use stage::{Shown, Stage, SweptFault};

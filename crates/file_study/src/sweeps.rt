@@ -22,7 +22,7 @@ pub use choice::{Choice, choice_at, horizon_for};
 pub use fault::SweepFault;
 pub use group::{Group, groups_of_scripts};
 pub use needed::horizon_of;
-pub use parts::{part_count, part_of, part_text, printed_scripts_are_read_back};
+pub use parts::{part_count, part_of, part_text};
 pub use place::{Place, place_of_script};
 pub use scripts::{place_name, script};
 pub use study::{StudyScripts, scripts_of_study};

@@ -9,7 +9,6 @@
 
 mod axis_fault;
 mod axis_number;
-mod fault;
 mod fraction;
 pub mod laws;
 mod names;
@@ -24,7 +23,6 @@ mod unit;
 mod word;
 
 pub use axis_fault::{AxisFault, Part};
-pub use fault::TimeFault;
 pub use fraction::Fraction;
 pub use names::params_of;
 pub use parts::names_of;

@@ -3,3 +3,4 @@ pub mod SoFar
 pub mod Steps
 pub mod Taken
 pub mod OneFile
+pub mod ReadBack

@@ -4,6 +4,7 @@ pub mod Row
 pub mod Checks
 pub mod Scripts
 pub mod Printed
+pub mod ReadBack
 pub mod Faults
 pub mod NamingLaws
 pub mod OnceLaws

@@ -9,6 +9,6 @@ mod print;
 mod read;
 
 pub use fault::ScriptFault;
-pub use laws::a_file_says_scripts_of_one_file;
+pub use laws::{a_file_says_scripts_of_one_file, printed_scripts_are_read_back};
 pub use print::print_scripts;
 pub use read::read_scripts;

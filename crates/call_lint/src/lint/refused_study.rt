@@ -6,7 +6,7 @@ use crate::lint::rules::{study_rule, sweep_rule};
 use crate::lint::spots::{push_fault, toml_place};
 use crate::lint::text::{Spot, push_error, push_item};
 use crate::warnings::{Wanted, place_of_key};
-use file_study::study::StudyFault;
+use file_document::DocumentFault;
 use file_study::sweeps::StudySweepFault;
 use model_line::Memory;
 use std::alloc::Global;
@@ -16,7 +16,7 @@ pub fn refused_study(
     alloc: Global,
     bytes: &[u8],
     name: &str,
-    fault: &StudyFault,
+    fault: &DocumentFault,
 ) -> Result<Vec<u8>, Memory> {
     let at = match fault.place() {
         Some(path) => place_of_key(alloc, bytes, path.bytes())?,

@@ -1,7 +1,7 @@
 //! The rules that a refused file breaks, in words.
 
 use file_line::LineFault;
-use file_study::study::StudyFault;
+use file_document::DocumentFault;
 use file_study::sweeps::{StudySweepFault, SweepFault};
 use file_tables::script::ScriptFault;
 
@@ -88,21 +88,22 @@ pub fn script_rule(fault: &ScriptFault) -> &'static str {
 }
 
 /// The rule of a study that is broken.
-pub fn study_rule(fault: &StudyFault) -> &'static str {
+pub fn study_rule(fault: &DocumentFault) -> &'static str {
     match fault {
-        StudyFault::NotToml => "this is no TOML",
-        StudyFault::Unknown(_) => "this key does not belong here",
-        StudyFault::Missing(path) => missing_rule(path.bytes()),
-        StudyFault::WrongKind(_) => "a time is text with a unit, as \"8 .. 16 ms\"",
-        StudyFault::Range(_) => "a time is at most 4000 ticks, and a delay at least one",
-        StudyFault::BadName(_) =>
+        DocumentFault::NotToml => "this is no TOML",
+        DocumentFault::Unknown(_) => "this key does not belong here",
+        DocumentFault::Missing(path) => missing_rule(path.bytes()),
+        DocumentFault::WrongKind(_) => "a time is text with a unit, as \"8 .. 16 ms\"",
+        DocumentFault::Range(_) => "a time is at most 4000 ticks, and a delay at least one",
+        DocumentFault::BadName(_) =>
             "names have 1 to 16 letters, digits, `_` and `-`; elements are z1, z2, rv, uv and cur",
-        StudyFault::Twice(_) => "this stands before already",
-        StudyFault::BadTime(_, _) =>
+        DocumentFault::Twice(_) => "this stands before already",
+        DocumentFault::BadTime(_, _) =>
             "a time is \"8 ms\", \"250 us\", \"1.25 cycles\", \"8 .. 16 ms\" or \"30 ms +- 2 ms\", with a decimal point",
-        StudyFault::Swept(_) => "only the times of a fault are swept",
-        StudyFault::NoInstant(_) => "one time stands here, and no interval",
-        StudyFault::TooMany(_) => "a sweep has at most 1000 values, and a fault 4096 scripts",
+        DocumentFault::Swept(_) => "only the times of a fault are swept",
+        DocumentFault::NoInstant(_) => "one time stands here, and no interval",
+        DocumentFault::TooMany(_) => "a sweep has at most 1000 values, and a fault 4096 scripts",
+        DocumentFault::BadDate(_) | DocumentFault::OneFile(_) => "this stands in maps of recorders alone",
     }
 }
 

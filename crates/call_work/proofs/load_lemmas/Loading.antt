@@ -7,7 +7,7 @@ use Rattle.base_memory.specs.Gives.{Fails, OfFault}
 use Rattle.base_memory.specs.declared.stopped.Stopped.{Stopped}
 use Rattle.base_memory.specs.declared.stopped.Stopped.TheVariants as stopped
 use Rattle.file_study.specs.{study.Studies.study_of, study.Studies.study_values}
-use Rattle.file_study.specs.declared.study.fault.StudyFault.{StudyFault}
+use Rattle.file_document.specs.declared.fault.DocumentFault.{DocumentFault}
 use Rattle.file_study.specs.declared.study.study.Study.{Study}
 use Rattle.file_study.specs.sweeps.Studies.{IsStudyRefused, script_names}
 use Rattle.file_study.specs.declared.sweeps.study_fault.StudySweepFault.{StudySweepFault}
@@ -36,7 +36,7 @@ files_halt line scripts says stop.Memory read = tt
 
 module _ (bytes : List ℕ) (says : Loaded → Type 0) where
   -- a study file is refused
-  pub study_halts : (why : Stopped StudyFault) → Fails why (study_of bytes)
+  pub study_halts : (why : Stopped DocumentFault) → Fails why (study_of bytes)
       → Loads (of_study_file bytes) says (Err (halt_by study_halt why))
   study_halts (stopped.Fault fault) is = rw is refl
   study_halts stopped.Memory is = tt

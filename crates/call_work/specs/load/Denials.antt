@@ -4,8 +4,8 @@ use Rattle.std.specs.List.{concat}
 use Rattle.call_work.specs.declared.explain.unpicked.Unpicked.{Unpicked}
 use Rattle.call_work.specs.declared.explain.unpicked.Unpicked.TheVariants as unpicked
 use Rattle.call_work.specs.map.Denials.{map_denial_pieces, map_denial_status}
-use Rattle.file_study.specs.study.FaultWords.{place_of, words_of}
-use Rattle.file_study.specs.declared.study.fault.StudyFault.{StudyFault}
+use Rattle.file_document.specs.FaultWords.{place_of, words_of}
+use Rattle.file_document.specs.declared.fault.DocumentFault.{DocumentFault}
 use Rattle.file_study.specs.sweeps.SweepWords as sweeps
 use Rattle.file_study.specs.declared.sweeps.study_fault.StudySweepFault.{StudySweepFault}
 use Rattle.call_work.specs.declared.load.denial.Denial.{Denial}
@@ -28,7 +28,7 @@ place_pieces None words = codes "refused study: " ∷ words ∷ codes "\n" ∷ [
 place_pieces (Some place) words =
     codes "refused study: " ∷ place ∷ codes ": " ∷ words ∷ codes "\n" ∷ []
 
-abbrev pub study_pieces : StudyFault → List (List ℕ)
+abbrev pub study_pieces : DocumentFault → List (List ℕ)
 study_pieces why = place_pieces (place_of why) (words_of why)
 
 -- what is wrong with a fault that comes to no scripts

@@ -8,7 +8,7 @@ use Rattle.file_study.specs.study.Studies.{StudyValues, study_of}
 use Rattle.file_study.specs.sweeps.Groups.{group_values, single_group}
 use Rattle.call_files.specs.Study.{IsSaid}
 use Rattle.call_files.specs.declared.stop.Stop.TheVariants as stop
-use Rattle.file_study.specs.declared.study.fault.StudyFault.{StudyFault}
+use Rattle.file_document.specs.declared.fault.DocumentFault.{DocumentFault}
 use Rattle.base_memory.specs.declared.stopped.Stopped.{Stopped}
 use Rattle.base_memory.specs.declared.stopped.Stopped.TheVariants as stopped
 use Rattle.file_study.specs.declared.sweeps.study_fault.StudySweepFault.{StudySweepFault}
@@ -69,7 +69,7 @@ halt_by told (stopped.Fault fault) = told fault
 halt_by told stopped.Memory = halt.Stopped stop.Memory
 
 -- why a study says nothing
-abbrev pub study_halt : StudyFault → Halt
+abbrev pub study_halt : DocumentFault → Halt
 study_halt why = halt.Denied (denial.Study why)
 
 abbrev pub scripts_halt : StudySweepFault → Halt

@@ -4,7 +4,7 @@ use Rattle.std.specs.Prelude.{Result, Ok, Err, map}
 use Rattle.model_line.specs.{declared.line.Line.Line, declared.script.Script.Script}
 use Rattle.file_line.specs.Lines.{line_values}
 use Rattle.file_study.specs.study.Studies.{StudyValues, study_of}
-use Rattle.file_study.specs.declared.study.fault.StudyFault.{StudyFault}
+use Rattle.file_document.specs.declared.fault.DocumentFault.{DocumentFault}
 use Rattle.file_study.specs.sweeps.Groups.{group_values, single_group}
 use Rattle.file_study.specs.declared.sweeps.group.Group.{Group}
 use Rattle.file_study.specs.sweeps.Studies.{AreScriptsOf, IsStudyRefused}
@@ -55,7 +55,7 @@ pub record IsNone (values : StudyValues) (why : StudySweepFault) : Type 0 where
   pub is : line_values line ≡ values.line
   pub refused : IsStudyRefused line values.faults why
 
-abbrev pub of_values : Result StudyValues StudyFault → Given
+abbrev pub of_values : Result StudyValues DocumentFault → Given
 of_values (Ok values) halted holds =
     ((studied : Studied) × IsOf values studied × holds studied)
     ⊎ ((why : StudySweepFault) × IsNone values why × halted (halt.Denied (denial.Scripts why)))

@@ -12,7 +12,7 @@ use crate::explain::Unpicked;
 use crate::map::{MapDenial, put_map_denial};
 use base_text::store::{PutFailed, Sink};
 use call_answer::put_pieces;
-use file_study::study::StudyFault;
+use file_document::DocumentFault;
 use file_study::sweeps::{StudySweepFault, SweepFault};
 use itoa::Buffer;
 use model_line::Name;
@@ -21,7 +21,7 @@ use model_line::Name;
 #[derive(Clone, Copy)]
 pub enum Denial {
     /// The study file is refused.
-    Study(StudyFault),
+    Study(DocumentFault),
     /// A fault of the study comes to no scripts.
     Scripts(StudySweepFault),
     /// There are more scripts than this work takes: most takes 64.
@@ -87,7 +87,7 @@ fn put_unpicked<K: Sink>(sink: &mut K, why: Unpicked) -> Result<(), PutFailed>
 }
 
 // Pushes why a study is refused.
-fn put_study<K: Sink>(sink: &mut K, fault: &StudyFault) -> Result<(), PutFailed>
+fn put_study<K: Sink>(sink: &mut K, fault: &DocumentFault) -> Result<(), PutFailed>
     ensures { Puts (sink_view K.written K.faults sink.old) (sink_view K.written K.faults sink.new)
         (concat (study_pieces fault.now)) result }
 {

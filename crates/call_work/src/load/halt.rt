@@ -13,7 +13,7 @@ use base_memory::{Memory, Stopped};
 use base_text::store::{PutFailed, Sink};
 use call_answer::Done;
 use call_files::{Refusal, Stop, put_message};
-use file_study::study::StudyFault;
+use file_document::DocumentFault;
 use file_study::sweeps::StudySweepFault;
 use file_tables::timing::TimingFault;
 
@@ -110,12 +110,12 @@ impl From<Stopped<TimingFault>> for Halt {
     }
 }
 
-impl From<Stopped<StudyFault>> for Halt {
+impl From<Stopped<DocumentFault>> for Halt {
     ghost use Rattle.call_work.specs.load.Loaded.{halt_by, study_halt};
 
     ghost from_gives = { λ why halt. halt ≡ halt_by study_halt why };
 
-    fn from(why: Stopped<StudyFault>) -> Self {
+    fn from(why: Stopped<DocumentFault>) -> Self {
         match why {
             Stopped::Fault(fault) => Halt::Denied(Denial::Study(fault)),
             Stopped::Memory => Halt::Stopped(Stop::Memory),

@@ -4,8 +4,8 @@ use Rattle.std.specs.Prelude.{◌↔◌, Option, Some, None, IsTrue, IsFalse}
 use Rattle.std.specs.List.{flat_map}
 use Rattle.net_gates.specs.declared.gate.Gate.{Gate}
 use Rattle.run_waves.specs.waves.FirstTick.{first_on}
-use Rattle.draw_run.specs.{declared.roles.role.Role.Role, roles.Lookup.gate_of, roles.Lookup.has_role}
-use Rattle.draw_run.specs.roles.Roles.{explains, roles_at}
+use Rattle.draw_gates.specs.{declared.roles.role.Role.Role, roles.Lookup.gate_of, roles.Lookup.has_role}
+use Rattle.draw_gates.specs.roles.Roles.{explains, roles_at}
 use Rattle.draw_run.specs.diagram.Traces.{logic_row, logic_of, logic_at}
 use Rattle.std.proofs.lemmas.List.Elements.{All-nil, All-cons, All-append}
 use Rattle.std.specs.Prelude.{◌==◌, if◌then◌else◌}

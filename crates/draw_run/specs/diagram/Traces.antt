@@ -12,8 +12,8 @@ use Rattle.model_logic.specs.Histories.{History, PairHistory}
 use Rattle.model_logic.specs.PairMean.{PairSignals}
 use Rattle.net_gates.specs.declared.gate.Gate.{Gate}
 use Rattle.run_step.specs.GatePairs.{GateSignals}
-use Rattle.draw_run.specs.{declared.roles.role.Role.Role, roles.Lookup.gate_of}
-use Rattle.draw_run.specs.roles.Roles.{explains, roles_at}
+use Rattle.draw_gates.specs.{declared.roles.role.Role.Role, roles.Lookup.gate_of}
+use Rattle.draw_gates.specs.roles.Roles.{explains, roles_at}
 use Rattle.draw_run.specs.declared.diagram.trace.Trace.{Trace}
 use Rattle.draw_run.specs.declared.diagram.trace.Trace.TheVariants.{Seen, Lost, Logic, Key, Trip}
 

@@ -7,7 +7,7 @@ ghost use Rattle.draw_run.specs.diagram.DelaySteps.{tick_of_step};
 ghost use Rattle.draw_run.specs.diagram.DelayStepLaws.{MarksAreSteps};
 
 use crate::diagram::trace::Trace;
-use crate::roles::Role;
+use draw_gates::roles::Role;
 use model_line::{Line, Memory};
 use model_timing::Step;
 use run_signal::Tick;

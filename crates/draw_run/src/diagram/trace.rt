@@ -2,13 +2,13 @@
 
 ghost use Rattle.std.specs.Prelude.{◌≡◌, ◌++◌, ◌<◌, OnOk, IfOk, length};
 ghost use Rattle.std.specs.List.{All, flat_map};
-ghost use Rattle.draw_run.specs.roles.Roles.{IsRoleOf};
+ghost use Rattle.draw_gates.specs.roles.Roles.{IsRoleOf};
 ghost use Rattle.draw_run.specs.diagram.Traces.{logic_at, logic_of, logic_row};
 ghost use Rattle.model_line.specs.Parameters.{terminal_count, channel_count};
 ghost use Rattle.draw_run.specs.diagram.Traces.{traces_of, traces_at, seen_at, loss_at, each_of};
 ghost use Rattle.draw_run.specs.diagram.Traces.{IsTraceOf};
 
-use crate::roles::{Role, find_gate, roles_at};
+use draw_gates::roles::{Role, find_gate, roles_at};
 use model_line::{Element, Line, Memory, Place};
 use net_gates::Compiled;
 use run_waves::waves::the_first_tick_is_the_least;

@@ -7,7 +7,7 @@ use Rattle.model_line.specs.{declared.line.Line.Line, declared.line.Terminal.Ter
 use Rattle.model_line.specs.Channels.{channel_number}
 use Rattle.base_memory.specs.Gives.{◌>>=◌}
 use Rattle.file_records.specs.declared.map.source.Signal.{Signal}
-use Rattle.file_records.specs.map.Paths.{numbered}
+use Rattle.file_document.specs.Paths.{numbered}
 use Rattle.file_records.specs.map.Sources.{SourceValues, source_in, sources_in}
 use Rattle.file_records.specs.map.Signals.{SignalsValues, loss_under, losses_from}
 use Rattle.file_records.specs.map.Recorders.{RecorderValues, recorder_at, recorders_in}

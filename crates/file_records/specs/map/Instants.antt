@@ -6,8 +6,8 @@ use Rattle.std.specs.Prelude.{unsigned_abs}
 use Rattle.toml.specs.Data.{Data, integer}
 use Rattle.file_comtrade.specs.Calendar.{moment_of}
 use Rattle.file_comtrade.specs.declared.config.DateOrder.TheVariants.{DayFirst}
-use Rattle.file_records.specs.declared.map.fault.MapFault.{MapFault}
-use Rattle.file_records.specs.declared.map.fault.MapFault.TheVariants as fault
+use Rattle.file_document.specs.declared.fault.DocumentFault.{DocumentFault}
+use Rattle.file_document.specs.declared.fault.DocumentFault.TheVariants as fault
 
 -- `yyyy-mm-ddT`, of a year from 1000 on, stands before the time
 abbrev pub has_date : List ℕ → Bool
@@ -28,8 +28,8 @@ dated text = if has_date text then moment_of DayFirst (date_in text) (drop 11 te
 abbrev pub instant_of : List ℕ → Option ℕ
 instant_of text = if nat_le 11 (length text) then dated text else None
 
-abbrev pub instant_in : List ℕ → Option ℕ → Result ℕ MapFault
-instant_in path None = Err (fault.BadInstant path)
+abbrev pub instant_in : List ℕ → Option ℕ → Result ℕ DocumentFault
+instant_in path None = Err (fault.BadDate path)
 instant_in path (Some instant) = Ok instant
 
 -- the microseconds of a day
@@ -37,23 +37,23 @@ abbrev pub day_us : ℕ
 day_us = 86400000000
 
 -- so much earlier, or, where the shift is negative, later
-abbrev pub moved : List ℕ → ℕ → ℤ → ℕ → Result ℕ MapFault
+abbrev pub moved : List ℕ → ℕ → ℤ → ℕ → Result ℕ DocumentFault
 moved path start (pos n) size =
     if nat_le (size * 1000) start then Ok (start - size * 1000) else Err (fault.Range path)
 moved path start (negsuc n) size = Ok (start + size * 1000)
 
 -- What is added to a recorder's times, in microseconds, at most a day: so tick 0 is so much earlier in
 -- the recorder's clock.
-abbrev pub shifted_by : List ℕ → ℕ → ℤ → Result ℕ MapFault
+abbrev pub shifted_by : List ℕ → ℕ → ℤ → Result ℕ DocumentFault
 shifted_by path start shift =
     if nat_le (unsigned_abs shift) day_us then moved path start shift (unsigned_abs shift)
     else Err (fault.Range path)
 
-abbrev pub shifted_in : List ℕ → ℕ → Data → Result ℕ MapFault
+abbrev pub shifted_in : List ℕ → ℕ → Data → Result ℕ DocumentFault
 shifted_in path start (integer shift) = shifted_by path start shift
 shifted_in path start _ = Err (fault.WrongKind path)
 
 -- the instant of tick 0 in a recorder's clock
-abbrev pub shifted : List ℕ → ℕ → Option Data → Result ℕ MapFault
+abbrev pub shifted : List ℕ → ℕ → Option Data → Result ℕ DocumentFault
 shifted path start None = Ok start
 shifted path start (Some d) = shifted_in path start d

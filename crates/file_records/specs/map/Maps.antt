@@ -7,11 +7,12 @@ use Rattle.model_line.specs.declared.script.Kind.TheVariants.{Internal, External
 use Rattle.model_line.specs.{declared.script.Kind.Kind, PlainNames.is_plain_name}
 use Rattle.base_memory.specs.Gives.{◌>>=◌}
 use Rattle.file_line.specs.Keys.{document_of}
-use Rattle.file_records.specs.declared.map.fault.MapFault.{MapFault}
-use Rattle.file_records.specs.declared.map.fault.MapFault.TheVariants as fault
+use Rattle.file_document.specs.declared.fault.DocumentFault.{DocumentFault}
+use Rattle.file_document.specs.declared.fault.DocumentFault.TheVariants as fault
 use Rattle.file_records.specs.declared.map.map.Map.{Map}
-use Rattle.file_records.specs.map.Keys.{opened, all_known, number_at, text_at, array_at, counted}
-use Rattle.file_records.specs.{map.Paths.under, map.Instants.instant_of, map.Instants.instant_in}
+use Rattle.file_document.specs.Keys.{opened, all_known, number_at, text_at, array_at, counted}
+use Rattle.file_records.specs.{map.Instants.instant_of, map.Instants.instant_in}
+use Rattle.file_document.specs.{Paths.under}
 use Rattle.file_records.specs.map.Recorders.{RecorderValues, recorder_values, recorders_in}
 
 -- A map: the script that the records come to, and the recorders.
@@ -29,13 +30,13 @@ map_values m = record {
   recorders = map recorder_values m.recorders.items;
 }
 
-abbrev pub kind_of : List ℕ → List ℕ → Result Kind MapFault
+abbrev pub kind_of : List ℕ → List ℕ → Result Kind DocumentFault
 kind_of path text =
     if bytes_eq text (codes "internal") then Ok Internal
     else if bytes_eq text (codes "external") then Ok External
     else Err (fault.BadName path)
 
-unfoldable pub kind_at : Members → Result Kind MapFault
+unfoldable pub kind_at : Members → Result Kind DocumentFault
 kind_at top = do
   text ← text_at [] (codes "kind") top
   kind_of (under [] (codes "kind")) text
@@ -48,34 +49,34 @@ top_keys Internal =
 top_keys External =
     codes "version" ∷ codes "script" ∷ codes "kind" ∷ codes "start" ∷ codes "recorder" ∷ []
 
-abbrev pub plain_name : List ℕ → List ℕ → Result (List ℕ) MapFault
+abbrev pub plain_name : List ℕ → List ℕ → Result (List ℕ) DocumentFault
 plain_name path name = if is_plain_name name then Ok name else Err (fault.BadName path)
 
-unfoldable pub script_at : Members → Result (List ℕ) MapFault
+unfoldable pub script_at : Members → Result (List ℕ) DocumentFault
 script_at top = do
   text ← text_at [] (codes "script") top
   plain_name (under [] (codes "script")) text
 
 -- a tick below the horizon
-abbrev pub deadline_at : Line → Kind → Members → Result ℕ MapFault
+abbrev pub deadline_at : Line → Kind → Members → Result ℕ DocumentFault
 deadline_at line Internal top = number_at [] (codes "deadline") 0 (line.horizon - 1) top
 deadline_at line External top = Ok 0
 
 -- the instant of tick 0
-unfoldable pub start_at : Members → Result ℕ MapFault
+unfoldable pub start_at : Members → Result ℕ DocumentFault
 start_at top = do
   text ← text_at [] (codes "start") top
   instant_in (under [] (codes "start")) (instant_of text)
 
 -- 1 to 8 recorders
-unfoldable pub recorders_of : Line → ℕ → Members → Result (List RecorderValues) MapFault
+unfoldable pub recorders_of : Line → ℕ → Members → Result (List RecorderValues) DocumentFault
 recorders_of line start top = do
   all ← array_at [] (codes "recorder") top
   ds ← counted (under [] (codes "recorder")) 1 8 all
   recorders_in line start (under [] (codes "recorder")) 0 ds []
 
 -- the map that a document's table says
-unfoldable pub map_in : Line → Members → Result MapValues MapFault
+unfoldable pub map_in : Line → Members → Result MapValues DocumentFault
 map_in line top = do
   _ ← number_at [] (codes "version") 1 1 top
   kind ← kind_at top
@@ -87,7 +88,7 @@ map_in line top = do
   Ok (record { script = script; kind = kind; deadline = deadline; recorders = recorders })
 
 -- what these bytes say
-unfoldable pub map_of : Line → List ℕ → Result MapValues MapFault
+unfoldable pub map_of : Line → List ℕ → Result MapValues DocumentFault
 map_of line bytes = do
   top ← opened (document_of bytes)
   map_in line top

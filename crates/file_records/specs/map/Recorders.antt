@@ -8,11 +8,12 @@ use Rattle.model_names.specs.NumbersByName.{terminal_named}
 use Rattle.base_memory.specs.Gives.{◌>>=◌}
 use Rattle.file_comtrade.specs.declared.config.DateOrder.{DateOrder}
 use Rattle.file_comtrade.specs.declared.config.DateOrder.TheVariants.{DayFirst, MonthFirst}
-use Rattle.file_records.specs.declared.map.fault.MapFault.{MapFault}
-use Rattle.file_records.specs.declared.map.fault.MapFault.TheVariants as fault
+use Rattle.file_document.specs.declared.fault.DocumentFault.{DocumentFault}
+use Rattle.file_document.specs.declared.fault.DocumentFault.TheVariants as fault
 use Rattle.file_records.specs.declared.map.recorder.Recorder.{Recorder}
-use Rattle.file_records.specs.{map.Paths.under, map.Paths.numbered, map.Keys.all_known, map.Keys.table_in}
-use Rattle.file_records.specs.{map.Keys.text_at, map.Keys.text_in, map.Instants.shifted, map.Signals.SignalsValues}
+use Rattle.file_document.specs.{Paths.under, Paths.numbered, Keys.all_known, Keys.table_in}
+use Rattle.file_records.specs.{map.Instants.shifted, map.Signals.SignalsValues}
+use Rattle.file_document.specs.{Keys.text_at, Keys.text_in}
 use Rattle.file_records.specs.{map.Signals.signals_values, map.Signals.signals_of}
 use Rattle.file_records.specs.map.DataNames.{is_config, is_one_file}
 
@@ -40,44 +41,44 @@ recorder_keys =
     ∷ codes "rv" ∷ codes "uv" ∷ codes "cur" ∷ codes "loss" ∷ codes "key" ∷ codes "trip" ∷ []
 
 -- a terminal of the line
-abbrev pub terminal_in : List ℕ → Option ℕ → Result ℕ MapFault
+abbrev pub terminal_in : List ℕ → Option ℕ → Result ℕ DocumentFault
 terminal_in path None = Err (fault.BadName path)
 terminal_in path (Some k) = Ok k
 
-unfoldable pub terminal_at : Line → List ℕ → Members → Result ℕ MapFault
+unfoldable pub terminal_at : Line → List ℕ → Members → Result ℕ DocumentFault
 terminal_at line path ms = do
   name ← text_at path (codes "terminal") ms
   terminal_in (under path (codes "terminal")) (terminal_named line name)
 
 -- the name of a configuration
-abbrev pub config_in : List ℕ → List ℕ → Result (List ℕ) MapFault
+abbrev pub config_in : List ℕ → List ℕ → Result (List ℕ) DocumentFault
 config_in path name =
     if is_config name then Ok name
     else if is_one_file name then Err (fault.OneFile path)
     else Err (fault.BadName path)
 
-unfoldable pub config_at : List ℕ → Members → Result (List ℕ) MapFault
+unfoldable pub config_at : List ℕ → Members → Result (List ℕ) DocumentFault
 config_at path ms = do
   name ← text_at path (codes "config") ms
   config_in (under path (codes "config")) name
 
-abbrev pub order_named : List ℕ → List ℕ → Result (Option DateOrder) MapFault
+abbrev pub order_named : List ℕ → List ℕ → Result (Option DateOrder) DocumentFault
 order_named path text =
     if bytes_eq text (codes "dmy") then Ok (Some DayFirst)
     else if bytes_eq text (codes "mdy") then Ok (Some MonthFirst)
     else Err (fault.BadName path)
 
-unfoldable pub order_in : List ℕ → Data → Result (Option DateOrder) MapFault
+unfoldable pub order_in : List ℕ → Data → Result (Option DateOrder) DocumentFault
 order_in path d = do
   text ← text_in path d
   order_named path text
 
-abbrev pub order_or_none : List ℕ → Option Data → Result (Option DateOrder) MapFault
+abbrev pub order_or_none : List ℕ → Option Data → Result (Option DateOrder) DocumentFault
 order_or_none path None = Ok None
 order_or_none path (Some d) = order_in path d
 
 -- the recorder that a table says, where tick 0 is at this instant
-unfoldable pub recorder_in : Line → ℕ → List ℕ → Members → Result RecorderValues MapFault
+unfoldable pub recorder_in : Line → ℕ → List ℕ → Members → Result RecorderValues DocumentFault
 recorder_in line start path ms = do
   terminal ← terminal_at line path ms
   config ← config_at path ms
@@ -93,7 +94,7 @@ recorder_in line start path ms = do
   })
 
 -- a recorder, which has no other keys
-unfoldable pub recorder_at : Line → ℕ → List ℕ → Data → Result RecorderValues MapFault
+unfoldable pub recorder_at : Line → ℕ → List ℕ → Data → Result RecorderValues DocumentFault
 recorder_at line start path d = do
   ms ← table_in path d
   _ ← all_known path recorder_keys ms
@@ -101,7 +102,7 @@ recorder_at line start path d = do
 
 -- the recorders of an array, from item i on, behind those that are there
 unfoldable pub recorders_in : Line → ℕ → List ℕ → ℕ → Items → List RecorderValues
-    → Result (List RecorderValues) MapFault
+    → Result (List RecorderValues) DocumentFault
 recorders_in line start path i no_items done = Ok done
 recorders_in line start path i (item d ds) done = do
   new ← recorder_at line start (numbered path i) d

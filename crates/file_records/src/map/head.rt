@@ -5,25 +5,25 @@ ghost use Rattle.toml.specs.View.{table_view};
 ghost use Rattle.file_records.specs.map.Maps.{kind_of, kind_at, top_keys, plain_name, script_at};
 ghost use Rattle.file_records.specs.map.Maps.{deadline_at, start_at};
 
-use crate::map::fault::MapFault;
+use file_document::DocumentFault;
 use crate::map::instant::instant;
-use crate::map::keys::{number, text};
-use crate::map::path::Path;
+use file_document::keys::{number, text};
+use file_document::Path;
 use model_line::{Kind, Line, Name, is_plain};
 use toml::Table;
 
-fn kind_of(path: Path, text: &str) -> Result<Kind, MapFault>
+fn kind_of(path: Path, text: &str) -> Result<Kind, DocumentFault>
     ensures { result ≡ kind_of path text.now }
 {
     match text {
         "internal" => Ok(Kind::Internal),
         "external" => Ok(Kind::External),
-        _ => Err(MapFault::BadName(path)),
+        _ => Err(DocumentFault::BadName(path)),
     }
 }
 
 #[tactic(auto, unfolding(crate::specs::map::Maps::kind_at))]
-pub fn kind(top: &Table) -> Result<Kind, MapFault>
+pub fn kind(top: &Table) -> Result<Kind, DocumentFault>
     ensures { result ≡ kind_at (table_view top.now) }
 {
     let text = text(Path::root(), "kind", top)?;
@@ -40,19 +40,19 @@ pub fn top_keys(kind: Kind) -> &'static [&'static str]
     }
 }
 
-fn plain_name(path: Path, text: &str) -> Result<Name, MapFault>
+fn plain_name(path: Path, text: &str) -> Result<Name, DocumentFault>
     ensures { result ≡ plain_name path text.now }
 {
     if is_plain(text.as_bytes()) {
         Ok(Name::plain(text.as_bytes()))
     } else {
-        Err(MapFault::BadName(path))
+        Err(DocumentFault::BadName(path))
     }
 }
 
 /// The script's name, a plain one.
 #[tactic(auto, unfolding(crate::specs::map::Maps::script_at))]
-pub fn script(top: &Table) -> Result<Name, MapFault>
+pub fn script(top: &Table) -> Result<Name, DocumentFault>
     ensures { result ≡ script_at (table_view top.now) }
 {
     let text = text(Path::root(), "script", top)?;
@@ -60,7 +60,7 @@ pub fn script(top: &Table) -> Result<Name, MapFault>
 }
 
 /// The deadline of an internal fault, a tick below the horizon; of an external one 0.
-pub fn deadline(line: &Line, kind: Kind, top: &Table) -> Result<u32, MapFault>
+pub fn deadline(line: &Line, kind: Kind, top: &Table) -> Result<u32, DocumentFault>
     ensures { result ≡ deadline_at line.now kind (table_view top.now) }
 {
     match kind {
@@ -71,7 +71,7 @@ pub fn deadline(line: &Line, kind: Kind, top: &Table) -> Result<u32, MapFault>
 
 /// The instant of tick 0.
 #[tactic(auto, unfolding(crate::specs::map::Maps::start_at))]
-pub fn start(top: &Table) -> Result<u128, MapFault>
+pub fn start(top: &Table) -> Result<u128, DocumentFault>
     ensures value { result ≡ start_at (table_view top.now) }
     ensures early { IfOk result (λ n. n < 2 ^ 80) }
 {

@@ -5,8 +5,8 @@ ghost use Rattle.toml.specs.View.{view};
 ghost use Rattle.file_records.specs.map.Instants.{has_date, date_in, dated, instant_of, instant_in};
 ghost use Rattle.file_records.specs.map.Instants.{moved, shifted, shifted_in, shifted_by};
 
-use crate::map::fault::MapFault;
-use crate::map::path::Path;
+use file_document::DocumentFault;
+use file_document::Path;
 use file_comtrade::{DateOrder, moment};
 use toml::Value;
 
@@ -41,20 +41,20 @@ fn instant_of(text: &[u8]) -> Option<u128>
 }
 
 /// An instant.
-pub fn instant(path: Path, text: &[u8]) -> Result<u128, MapFault>
+pub fn instant(path: Path, text: &[u8]) -> Result<u128, DocumentFault>
     ensures value { result ≡ instant_in path (instant_of text.now) }
     ensures early { IfOk result (λ n. n < 2 ^ 80) }
 {
     match instant_of(text) {
         Some(instant) => Ok(instant),
-        None => Err(MapFault::BadInstant(path)),
+        None => Err(DocumentFault::BadDate(path)),
     }
 }
 
 const DAY_US: u64 = 86_400_000_000;
 
 // So much earlier, or, where the shift is negative, later.
-fn moved(path: Path, start: u128, shift: i64, size: u64) -> Result<u128, MapFault>
+fn moved(path: Path, start: u128, shift: i64, size: u64) -> Result<u128, DocumentFault>
     requires early { start < 2 ^ 80 }
     requires small { size ≤ 86400000000 }
     ensures value { result ≡ moved path start shift size }
@@ -66,12 +66,12 @@ fn moved(path: Path, start: u128, shift: i64, size: u64) -> Result<u128, MapFaul
     } else if nanos <= start {
         Ok(start - nanos)
     } else {
-        Err(MapFault::Range(path))
+        Err(DocumentFault::Range(path))
     }
 }
 
 // An instant in the clock of a recorder, to whose times so many microseconds are added.
-fn shifted_by(path: Path, start: u128, shift: i64) -> Result<u128, MapFault>
+fn shifted_by(path: Path, start: u128, shift: i64) -> Result<u128, DocumentFault>
     requires { start < 2 ^ 80 }
     ensures value { result ≡ shifted_by path start shift }
     ensures early { IfOk result (λ n. n < 2 ^ 100) }
@@ -80,12 +80,12 @@ fn shifted_by(path: Path, start: u128, shift: i64) -> Result<u128, MapFault>
     if size <= DAY_US {
         moved(path, start, shift, size)
     } else {
-        Err(MapFault::Range(path))
+        Err(DocumentFault::Range(path))
     }
 }
 
 /// The instant of tick 0 in a recorder's clock, by what is added to its times.
-pub fn shifted(path: Path, start: u128, shift: Option<&Value>) -> Result<u128, MapFault>
+pub fn shifted(path: Path, start: u128, shift: Option<&Value>) -> Result<u128, DocumentFault>
     requires { start < 2 ^ 80 }
     ensures value { result ≡ shifted path start (option_map (λ v. view v.now) shift.entry) }
     ensures early { IfOk result (λ n. n < 2 ^ 100) }
@@ -95,6 +95,6 @@ pub fn shifted(path: Path, start: u128, shift: Option<&Value>) -> Result<u128, M
     };
     match shift.as_integer() {
         Some(shift) => shifted_by(path, start, shift),
-        None => Err(MapFault::WrongKind(path)),
+        None => Err(DocumentFault::WrongKind(path)),
     }
 }

@@ -8,9 +8,9 @@ ghost use Rattle.base_memory.specs.Gives.{Becomes};
 ghost use Rattle.file_records.specs.map.Signals.{signals_values, loss_under, losses_from, losses_in};
 ghost use Rattle.file_records.specs.map.Signals.{losses_or_none, other_names};
 
-use crate::map::fault::MapFault;
-use crate::map::keys::{only, table_of};
-use crate::map::path::Path;
+use file_document::DocumentFault;
+use file_document::keys::{only, table_of};
+use file_document::Path;
 use crate::map::signals::push_signal;
 use crate::map::source::{Signal, Signals};
 use base_memory::Stopped;
@@ -55,7 +55,7 @@ fn push_loss(
     channel: Option<u32>,
     table: &Table,
     signals: &mut Signals,
-) -> Result<(), Stopped<MapFault>>
+) -> Result<(), Stopped<DocumentFault>>
     requires { is_plain_name name.now ≡ true }
     ensures { Becomes result (signals_values signals.new)
         (loss_under path name.now channel (table_view table.now)
@@ -79,7 +79,7 @@ fn push_from(
     table: &Table,
     terminals: &[Terminal],
     signals: &mut Signals,
-) -> Result<(), Stopped<MapFault>>
+) -> Result<(), Stopped<DocumentFault>>
     requires plain { are_plain_names terminals.now ≡ true }
     requires few { length terminals.now ≤ 3 }
     ensures { Becomes result (signals_values signals.new)
@@ -101,7 +101,7 @@ fn push_table(
     k: u32,
     value: &Value,
     signals: &mut Signals,
-) -> Result<(), Stopped<MapFault>>
+) -> Result<(), Stopped<DocumentFault>>
     requires { k < length line.now.terminals.items }
     ensures { Becomes result (signals_values signals.new)
         (losses_in line.now path k (view value.now) (signals_values signals.old)) }
@@ -120,7 +120,7 @@ pub fn push_losses(
     k: u32,
     value: Option<&Value>,
     signals: &mut Signals,
-) -> Result<(), Stopped<MapFault>>
+) -> Result<(), Stopped<DocumentFault>>
     requires { k < length line.now.terminals.items }
     ensures { Becomes result (signals_values signals.new)
         (losses_or_none line.now path k (option_map (λ v. view v.now) value.entry)

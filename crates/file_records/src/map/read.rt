@@ -6,11 +6,11 @@ ghost use Rattle.base_memory.specs.Gives.{Gives};
 ghost use Rattle.file_records.specs.map.Recorders.{recorder_values};
 ghost use Rattle.file_records.specs.map.Maps.{map_values, recorders_of, map_in, map_of};
 
-use crate::map::fault::MapFault;
+use file_document::DocumentFault;
 use crate::map::head::{deadline, kind, script, start, top_keys};
-use crate::map::keys::{counted, items, number, only, open};
+use file_document::keys::{counted, items, number, only, open};
 use crate::map::map::Map;
-use crate::map::path::Path;
+use file_document::Path;
 use crate::map::recorder::Recorder;
 use crate::map::recorders::recorders_in;
 use base_memory::Stopped;
@@ -25,7 +25,7 @@ fn recorders(
     line: &Line,
     start: u128,
     top: &Table,
-) -> Result<Vec<Recorder>, Stopped<MapFault>>
+) -> Result<Vec<Recorder>, Stopped<DocumentFault>>
     requires { start < 2 ^ 80 }
     ensures { Gives (λ v. map recorder_values v.items) result
         (recorders_of line.now start (table_view top.now)) }
@@ -36,7 +36,7 @@ fn recorders(
 }
 
 #[tactic(auto, unfolding(crate::specs::map::Maps::map_in))]
-fn map_in(alloc: Global, line: &Line, top: &Table) -> Result<Map, Stopped<MapFault>>
+fn map_in(alloc: Global, line: &Line, top: &Table) -> Result<Map, Stopped<DocumentFault>>
     ensures { Gives map_values result (map_in line.now (table_view top.now)) }
 {
     number(Path::root(), "version", 1, 1, top)?;
@@ -59,7 +59,7 @@ fn map_in(alloc: Global, line: &Line, top: &Table) -> Result<Map, Stopped<MapFau
 /// `NotToml` comes where the bytes are no TOML document. Every other fault tells the first
 /// place, in the order in which a map is read, that is not as it has to be.
 #[tactic(auto, unfolding(crate::specs::map::Maps::map_of))]
-pub fn read_map(alloc: Global, line: &Line, bytes: &[u8]) -> Result<Map, Stopped<MapFault>>
+pub fn read_map(alloc: Global, line: &Line, bytes: &[u8]) -> Result<Map, Stopped<DocumentFault>>
     ensures { Gives map_values result (map_of line.now bytes.now) }
 {
     let table = open(alloc, bytes)?;

@@ -8,11 +8,11 @@ ghost use Rattle.file_records.specs.map.Recorders.{recorder_values, terminal_in,
 ghost use Rattle.file_records.specs.map.Recorders.{config_at, order_named, order_in, order_or_none};
 ghost use Rattle.file_records.specs.map.Recorders.{recorder_at, recorder_in, recorder_keys, recorders_in};
 
-use crate::map::fault::MapFault;
+use file_document::DocumentFault;
 use crate::map::file_names::{is_config, is_one_file};
 use crate::map::instant::shifted;
-use crate::map::keys::{find, only, table_of, text, text_of};
-use crate::map::path::Path;
+use file_document::keys::{find, only, table_of, text, text_of};
+use file_document::Path;
 use crate::map::recorder::Recorder;
 use crate::map::signals::signals;
 use base_memory::Stopped;
@@ -33,18 +33,18 @@ fn recorder_keys() -> &'static [&'static str]
 }
 
 // A terminal of the line.
-fn terminal_in(line: &Line, path: Path, name: &[u8]) -> Result<u32, MapFault>
+fn terminal_in(line: &Line, path: Path, name: &[u8]) -> Result<u32, DocumentFault>
     ensures value { result ≡ terminal_in path (terminal_named line.now name.now) }
     ensures within { IfOk result (λ k. k < length line.now.terminals.items) }
 {
     match terminal_of_name(line, name) {
         Some(k) => Ok(k),
-        None => Err(MapFault::BadName(path)),
+        None => Err(DocumentFault::BadName(path)),
     }
 }
 
 #[tactic(auto, unfolding(crate::specs::map::Recorders::terminal_at))]
-fn terminal(line: &Line, path: Path, table: &Table) -> Result<u32, MapFault>
+fn terminal(line: &Line, path: Path, table: &Table) -> Result<u32, DocumentFault>
     ensures value { result ≡ terminal_at line.now path (table_view table.now) }
     ensures within { IfOk result (λ k. k < length line.now.terminals.items) }
 {
@@ -53,7 +53,7 @@ fn terminal(line: &Line, path: Path, table: &Table) -> Result<u32, MapFault>
 }
 
 // The name of a configuration.
-fn config_in(alloc: Global, path: Path, name: &[u8]) -> Result<Vec<u8>, Stopped<MapFault>>
+fn config_in(alloc: Global, path: Path, name: &[u8]) -> Result<Vec<u8>, Stopped<DocumentFault>>
     ensures said { Gives (λ v. v.items) result (config_in path name.now) }
     ensures long { IfOk result (λ v. 4 ≤ length v.items) }
 {
@@ -61,14 +61,14 @@ fn config_in(alloc: Global, path: Path, name: &[u8]) -> Result<Vec<u8>, Stopped<
         return Ok(Vec::from_slice(alloc, name)?);
     }
     if is_one_file(name) {
-        Err(Stopped::Fault(MapFault::OneFile(path)))
+        Err(Stopped::Fault(DocumentFault::OneFile(path)))
     } else {
-        Err(Stopped::Fault(MapFault::BadName(path)))
+        Err(Stopped::Fault(DocumentFault::BadName(path)))
     }
 }
 
 #[tactic(auto, unfolding(crate::specs::map::Recorders::config_at))]
-fn config(alloc: Global, path: Path, table: &Table) -> Result<Vec<u8>, Stopped<MapFault>>
+fn config(alloc: Global, path: Path, table: &Table) -> Result<Vec<u8>, Stopped<DocumentFault>>
     ensures said { Gives (λ v. v.items) result (config_at path (table_view table.now)) }
     ensures long { IfOk result (λ v. 4 ≤ length v.items) }
 {
@@ -76,25 +76,25 @@ fn config(alloc: Global, path: Path, table: &Table) -> Result<Vec<u8>, Stopped<M
     config_in(alloc, path.key(b"config"), name.as_bytes())
 }
 
-fn order_named(path: Path, text: &str) -> Result<Option<DateOrder>, MapFault>
+fn order_named(path: Path, text: &str) -> Result<Option<DateOrder>, DocumentFault>
     ensures { result ≡ order_named path text.now }
 {
     match text {
         "dmy" => Ok(Some(DateOrder::DayFirst)),
         "mdy" => Ok(Some(DateOrder::MonthFirst)),
-        _ => Err(MapFault::BadName(path)),
+        _ => Err(DocumentFault::BadName(path)),
     }
 }
 
 #[tactic(auto, unfolding(crate::specs::map::Recorders::order_in))]
-fn order_in(path: Path, value: &Value) -> Result<Option<DateOrder>, MapFault>
+fn order_in(path: Path, value: &Value) -> Result<Option<DateOrder>, DocumentFault>
     ensures { result ≡ order_in path (view value.now) }
 {
     let text = text_of(path, value)?;
     order_named(path, text)
 }
 
-fn order(path: Path, value: Option<&Value>) -> Result<Option<DateOrder>, MapFault>
+fn order(path: Path, value: Option<&Value>) -> Result<Option<DateOrder>, DocumentFault>
     ensures { result ≡ order_or_none path (option_map (λ v. view v.now) value.entry) }
 {
     match value {
@@ -111,7 +111,7 @@ fn recorder_in(
     start: u128,
     path: Path,
     table: &Table,
-) -> Result<Recorder, Stopped<MapFault>>
+) -> Result<Recorder, Stopped<DocumentFault>>
     requires { start < 2 ^ 80 }
     ensures { Gives recorder_values result (recorder_in line.now start path (table_view table.now)) }
 {
@@ -137,7 +137,7 @@ fn recorder(
     start: u128,
     path: Path,
     value: &Value,
-) -> Result<Recorder, Stopped<MapFault>>
+) -> Result<Recorder, Stopped<DocumentFault>>
     requires { start < 2 ^ 80 }
     ensures { Gives recorder_values result (recorder_at line.now start path (view value.now)) }
 {
@@ -153,7 +153,7 @@ pub fn recorders_in(
     start: u128,
     path: Path,
     items: &[Value],
-) -> Result<Vec<Recorder>, Stopped<MapFault>>
+) -> Result<Vec<Recorder>, Stopped<DocumentFault>>
     requires { start < 2 ^ 80 }
     ensures { Gives (λ v. map recorder_values v.items) result
         (recorders_in line.now start path 0 (items_view items.now) []) }

@@ -6,10 +6,10 @@ ghost use Rattle.base_memory.specs.Gives.{Becomes, Gives};
 ghost use Rattle.file_records.specs.map.Signals.{signals_values, with_sources, said_or_not, signal_under, shown};
 ghost use Rattle.file_records.specs.map.Signals.{elements_of, signals_of};
 
-use crate::map::fault::MapFault;
-use crate::map::keys::find;
+use file_document::DocumentFault;
+use file_document::keys::find;
 use crate::map::losses::push_losses;
-use crate::map::path::Path;
+use file_document::Path;
 use crate::map::source::{Signal, Signals};
 use crate::map::sources::push_sources;
 use base_memory::Stopped;
@@ -24,7 +24,7 @@ fn push_value(
     signal: Signal,
     value: &Value,
     signals: &mut Signals,
-) -> Result<(), Stopped<MapFault>>
+) -> Result<(), Stopped<DocumentFault>>
     ensures { Becomes result (signals_values signals.new)
         (with_sources path signal (view value.now) (signals_values signals.old)) }
 {
@@ -39,7 +39,7 @@ fn push_optional(
     signal: Signal,
     value: Option<&Value>,
     signals: &mut Signals,
-) -> Result<(), Stopped<MapFault>>
+) -> Result<(), Stopped<DocumentFault>>
     ensures { Becomes result (signals_values signals.new)
         (said_or_not path signal (option_map (λ v. view v.now) value.entry)
         (signals_values signals.old)) }
@@ -58,7 +58,7 @@ pub fn push_signal(
     signal: Signal,
     table: &Table,
     signals: &mut Signals,
-) -> Result<(), Stopped<MapFault>>
+) -> Result<(), Stopped<DocumentFault>>
     ensures { Becomes result (signals_values signals.new)
         (signal_under path key.now signal (table_view table.now)
         (signals_values signals.old)) }
@@ -81,7 +81,7 @@ fn push_elements(
     k: u32,
     table: &Table,
     signals: &mut Signals,
-) -> Result<(), Stopped<MapFault>>
+) -> Result<(), Stopped<DocumentFault>>
     ensures { Becomes result (signals_values signals.new)
         (elements_of path k (table_view table.now) (signals_values signals.old)) }
 {
@@ -100,7 +100,7 @@ pub fn signals(
     path: Path,
     k: u32,
     table: &Table,
-) -> Result<Signals, Stopped<MapFault>>
+) -> Result<Signals, Stopped<DocumentFault>>
     requires { k < length line.now.terminals.items }
     ensures { Gives signals_values result
         (signals_of line.now path k (table_view table.now)) }

@@ -6,9 +6,9 @@ ghost use Rattle.base_memory.specs.Gives.{Becomes, Gives};
 ghost use Rattle.file_records.specs.map.Sources.{source_values, plain_source, text_source, table_source};
 ghost use Rattle.file_records.specs.map.Sources.{source_in, sources_in, one_source, sources_of};
 
-use crate::map::fault::MapFault;
-use crate::map::keys::{find, flag, only, text};
-use crate::map::path::Path;
+use file_document::DocumentFault;
+use file_document::keys::{find, flag, only, text};
+use file_document::Path;
 use crate::map::source::{ChannelName, Signal, Source};
 use base_memory::Stopped;
 use base_text::store::number;
@@ -22,11 +22,11 @@ fn plain_source(
     signal: Signal,
     inverted: bool,
     text: &[u8],
-) -> Result<Source, Stopped<MapFault>>
+) -> Result<Source, Stopped<DocumentFault>>
     ensures { Gives source_values result (plain_source path signal inverted text.now) }
 {
     if text.is_empty() {
-        return Err(Stopped::Fault(MapFault::BadName(path)));
+        return Err(Stopped::Fault(DocumentFault::BadName(path)));
     }
     if text[0] != b'#' {
         let channel = ChannelName::Id(Vec::from_slice(alloc, text)?);
@@ -45,7 +45,7 @@ fn plain_source(
                 inverted,
             })
         }
-        _ => Err(Stopped::Fault(MapFault::BadName(path))),
+        _ => Err(Stopped::Fault(DocumentFault::BadName(path))),
     }
 }
 
@@ -55,11 +55,11 @@ fn text_source(
     path: Path,
     signal: Signal,
     text: &[u8],
-) -> Result<Source, Stopped<MapFault>>
+) -> Result<Source, Stopped<DocumentFault>>
     ensures { Gives source_values result (text_source path signal text.now) }
 {
     if text.is_empty() {
-        return Err(Stopped::Fault(MapFault::BadName(path)));
+        return Err(Stopped::Fault(DocumentFault::BadName(path)));
     }
     if text[0] == b'!' {
         plain_source(alloc, path, signal, true, &text[1..])
@@ -75,7 +75,7 @@ fn table_source(
     path: Path,
     signal: Signal,
     table: &Table,
-) -> Result<Source, Stopped<MapFault>>
+) -> Result<Source, Stopped<DocumentFault>>
     ensures { Gives source_values result (table_source path signal (table_view table.now)) }
 {
     only(path, &["id", "inverted"], &[], table)?;
@@ -94,13 +94,13 @@ fn source(
     path: Path,
     signal: Signal,
     value: &Value,
-) -> Result<Source, Stopped<MapFault>>
+) -> Result<Source, Stopped<DocumentFault>>
     ensures { Gives source_values result (source_in path signal (view value.now)) }
 {
     match value {
         Value::String(text) => text_source(alloc, path, signal, text.as_bytes()),
         Value::Table(table) => table_source(alloc, path, signal, table),
-        _ => Err(Stopped::Fault(MapFault::WrongKind(path))),
+        _ => Err(Stopped::Fault(DocumentFault::WrongKind(path))),
     }
 }
 
@@ -111,7 +111,7 @@ fn push_items(
     signal: Signal,
     items: &[Value],
     sources: &mut Vec<Source>,
-) -> Result<(), Stopped<MapFault>>
+) -> Result<(), Stopped<DocumentFault>>
     ensures { Becomes result (map source_values sources.new.items)
         (sources_in path signal 0 (items_view items.now) (map source_values sources.old.items)) }
 {
@@ -129,7 +129,7 @@ fn push_one(
     signal: Signal,
     value: &Value,
     sources: &mut Vec<Source>,
-) -> Result<(), Stopped<MapFault>>
+) -> Result<(), Stopped<DocumentFault>>
     ensures { Becomes result (map source_values sources.new.items)
         (one_source path signal (view value.now) (map source_values sources.old.items)) }
 {
@@ -145,7 +145,7 @@ pub fn push_sources(
     signal: Signal,
     value: &Value,
     sources: &mut Vec<Source>,
-) -> Result<(), Stopped<MapFault>>
+) -> Result<(), Stopped<DocumentFault>>
     ensures { Becomes result (map source_values sources.new.items)
         (sources_of path signal (view value.now) (map source_values sources.old.items)) }
 {

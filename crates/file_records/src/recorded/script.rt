@@ -3,15 +3,14 @@
 ghost use Rattle.std.specs.Prelude.{[], ◌∷◌, ◌<◌, IfOk, IsTrue, MatchOption, length, map as image};
 ghost use Rattle.model_line.specs.{Fits.deadline_fits, PlainNames.is_plain_name};
 ghost use Rattle.file_records.specs.map.Maps.{map_values};
-ghost use Rattle.file_study.specs.sweeps.Parts.{SaysScripts};
+ghost use Rattle.file_tables.specs.script.ReadBack.{SaysScripts};
 ghost use Rattle.file_records.specs.tracks.Tracks.{track_values};
 ghost use Rattle.file_records.specs.recorded.Spans.{script_told, spans_told as all_spans};
 
 use crate::map::Map;
 use crate::recorded::spans::spans_told;
 use crate::tracks::Track;
-use file_study::sweeps::printed_scripts_are_read_back;
-use file_tables::script::print_scripts;
+use file_tables::script::{print_scripts, printed_scripts_are_read_back};
 use model_line::{Line, Memory, Script};
 use std::alloc::Global;
 

@@ -14,7 +14,7 @@ use Rattle.model_line.specs.{declared.line.Terminal.Terminal, declared.line.Chan
 use Rattle.model_line.specs.{ParamNames.name_at, ParamNames.pair_name}
 use Rattle.base_memory.specs.CheckLaws.{passed, same_ok}
 use Rattle.file_line.specs.Canonical.{put_member, table_of}
-use Rattle.file_study.specs.declared.study.fault.StudyFault.{StudyFault}
+use Rattle.file_document.specs.declared.fault.DocumentFault.{DocumentFault}
 use Rattle.file_study.specs.declared.study.units.Units.{Units}
 use Rattle.file_study.specs.study.Settings.{ends_data, time_data, time_in, put_times, setting_in}
 use Rattle.file_study.specs.study.Settings.{put_settings, put_optional, put_section}
@@ -22,8 +22,9 @@ use Rattle.file_study.specs.study.LineTables.{owner_members, tables_of, terminal
 use Rattle.file_study.specs.study.LineTables.{channel_members, terminal_tables, channel_tables}
 use Rattle.file_study.specs.study.LineTables.{line_head, line_table, with_tables, head_pairs, section_at, channels_of}
 use Rattle.file_study.specs.study.LineTables.{horizon_of, terminals_of}
-use Rattle.file_study.specs.{study.Paths.under, study.Moments.bounds_of, study.Keys.table_or_none, study.Keys.member_of}
-use Rattle.file_study.specs.study.Keys.{text_at, flag_or_false}
+use Rattle.file_study.specs.{study.Moments.bounds_of}
+use Rattle.file_document.specs.{Paths.under, Keys.table_or_none, Keys.member_of}
+use Rattle.file_document.specs.Keys.{text_at, flag_or_false}
 
 -- a value, the members of a table, and some values nest at most so deep and have no date
 pub record IsFlat (n : ℕ) (d : Data) : Type 0 where
@@ -76,7 +77,7 @@ text_flat : (units : Units) (path text : List ℕ) (t : Data) → time_data unit
 unfolding time_data
 text_flat units path text t e =
     let p = passed (bounds_of units path text) (λ b. Ok (ends_data b)) t e in
-    subst (IsFlat 1) (same_ok {F = StudyFault} (ends_data p.value) t p.rest) (ends_flat p.value)
+    subst (IsFlat 1) (same_ok {F = DocumentFault} (ends_data p.value) t p.rest) (ends_flat p.value)
 
 time_flat : (units : Units) (path : List ℕ) (d t : Data) → time_in units path d ≡ Ok t → IsFlat 1 t
 time_flat units path (string text) t e = text_flat units path text t e
@@ -91,7 +92,7 @@ times_flat : (units : Units) (path : List ℕ) (ms done out : Members)
     → put_times units path ms done ≡ Ok out → AreFlat 1 done → AreFlat 1 out
 unfolding put_times
 times_flat units path no_members done out e flat =
-    subst (AreFlat 1) (same_ok {F = StudyFault} done out e) flat
+    subst (AreFlat 1) (same_ok {F = DocumentFault} done out e) flat
 times_flat units path (member k d ms) done out e flat =
     let p = passed (time_in units (under path k) d)
     (λ time. put_times units path ms (put_member k time done)) out e in
@@ -111,7 +112,7 @@ setting_flat : (units : Units) (path : List ℕ) (d t : Data) → setting_in uni
     → IsFlat 2 t
 setting_flat units path (table ms) t e =
     let p = passed (put_times units path ms no_members) (λ times. Ok (table times)) t e in
-    subst (IsFlat 2) (same_ok {F = StudyFault} (table p.value) t p.rest)
+    subst (IsFlat 2) (same_ok {F = DocumentFault} (table p.value) t p.rest)
     (table_flat 1 p.value (times_flat units path ms no_members p.value p.was (none_flat 1)))
 setting_flat units path (string text) t e =
     deeper 1 2 t (omega arith) (time_flat units path (string text) t e)
@@ -125,7 +126,7 @@ settings_flat : (units : Units) (path : List ℕ) (ms done out : Members)
     → put_settings units path ms done ≡ Ok out → AreFlat 2 done → AreFlat 2 out
 unfolding put_settings
 settings_flat units path no_members done out e flat =
-    subst (AreFlat 2) (same_ok {F = StudyFault} done out e) flat
+    subst (AreFlat 2) (same_ok {F = DocumentFault} done out e) flat
 settings_flat units path (member k d ms) done out e flat =
     let p = passed (setting_in units (under path k) d)
     (λ setting. put_settings units path ms (put_member k setting done)) out e in
@@ -135,7 +136,7 @@ settings_flat units path (member k d ms) done out e flat =
 optional_flat : (units : Units) (path : List ℕ) (o : Option Members) (done out : Members)
     → put_optional units path o done ≡ Ok out → AreFlat 2 done → AreFlat 2 out
 optional_flat units path None done out e flat =
-    subst (AreFlat 2) (same_ok {F = StudyFault} done out e) flat
+    subst (AreFlat 2) (same_ok {F = DocumentFault} done out e) flat
 optional_flat units path (Some ms) done out e flat = settings_flat units path ms done out e flat
 
 section_flat : (units : Units) (path key : List ℕ) (outer : Option Members) (done out : Members)
@@ -168,12 +169,12 @@ append_flat n (x ∷ ds) d all one =
     let below = more.deep in
     record { deep = omega arith; dated = rw (here, more.dated) }
 
-tables_flat : {X : Type 0} (members : X → Result Members StudyFault) (xs : List X)
+tables_flat : {X : Type 0} (members : X → Result Members DocumentFault) (xs : List X)
     (done out : List Data) → ((x : X) (ms : Members) → members x ≡ Ok ms → AreFlat 2 ms)
     → tables_of members xs done ≡ Ok out → ListFlat 3 done → ListFlat 3 out
 unfolding tables_of
 tables_flat members [] done out each e flat =
-    subst (ListFlat 3) (same_ok {F = StudyFault} done out e) flat
+    subst (ListFlat 3) (same_ok {F = DocumentFault} done out e) flat
 tables_flat members (x ∷ xs) done out each e flat =
     let p = passed (members x) (λ ms. tables_of members xs (done ++ table ms ∷ [])) out e in
     tables_flat members xs (done ++ table p.value ∷ []) out each p.rest
@@ -224,7 +225,7 @@ line_head_flat units top out e =
     let q = passed (text_at [] (codes "scheme") top) _ out p.rest in
     let r = passed (flag_or_false (under [] (codes "zone1_trip"))
     (get_member (codes "zone1_trip") top)) _ out q.rest in
-    subst (AreFlat 4) (same_ok {F = StudyFault} _ out r.rest)
+    subst (AreFlat 4) (same_ok {F = DocumentFault} _ out r.rest)
     (head_flat units p.value q.value r.value)
 
 array_flat : (ds : List Data) → ListFlat 3 ds → IsFlat 4 (array (items_of ds))
@@ -238,7 +239,7 @@ with_tables_flat units ts top head out e flat =
     (codes "terminal" ∷ codes "channel" ∷ []) top) _ out e in
     let s = passed (terminal_tables units r.value ts top) _ out r.rest in
     let t = passed (channel_tables units r.value ts top) _ out s.rest in
-    subst (AreFlat 4) (same_ok {F = StudyFault} _ out t.rest)
+    subst (AreFlat 4) (same_ok {F = DocumentFault} _ out t.rest)
     (put_flat 4 (codes "channel") (array (items_of t.value))
     (put_member (codes "terminal") (array (items_of s.value)) head)
     (array_flat t.value (channel_tables_flat units r.value ts top t.value t.was))

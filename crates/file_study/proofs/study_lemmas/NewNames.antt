@@ -4,7 +4,7 @@ use Rattle.std.specs.List.{list_any}
 use Rattle.std.specs.Str.{bytes_eq}
 use Rattle.model_line.specs.PlainNames.{is_plain_name}
 use Rattle.base_records.specs.ListLaws.{list_any-map}
-use Rattle.file_study.specs.declared.study.fault.StudyFault.TheVariants as fault
+use Rattle.file_document.specs.declared.fault.DocumentFault.TheVariants as fault
 use Rattle.file_study.specs.declared.study.stage.SweptFault.{SweptFault}
 use Rattle.file_study.specs.study.Faults.{new_name, fault_values}
 

@@ -9,8 +9,8 @@ use Rattle.file_study.specs.{times.Rounding.IsRoundedDown, times.Rounding.IsRoun
 use Rattle.file_study.specs.{times.Fractions.is_at_most, times.Sweeps.IsCount}
 use Rattle.file_study.specs.times.WholeTickLaws.{divided_up as whole_up}
 use Rattle.file_study.specs.times.RoundedLaws.{rounded_down}
-use Rattle.file_study.specs.declared.study.fault.StudyFault.{StudyFault}
-use Rattle.file_study.specs.declared.study.fault.StudyFault.TheVariants as fault
+use Rattle.file_document.specs.declared.fault.DocumentFault.{DocumentFault}
+use Rattle.file_document.specs.declared.fault.DocumentFault.TheVariants as fault
 use Rattle.file_study.specs.study.Rounding.{down, up, rounded, divided_up}
 use Rattle.file_study.specs.study.Moments.{values_from, all_limited, limited, swept_in}
 
@@ -75,7 +75,7 @@ module _ (upward : Bool) (tick : ℕ) (path : List ℕ) where
   unfolding all_limited
   limited_more a more done n e = rw e
 
-  pub limited_ends : (a : Fraction) (more : List Fraction) (done : List ℕ) (why : StudyFault)
+  pub limited_ends : (a : Fraction) (more : List Fraction) (done : List ℕ) (why : DocumentFault)
       → limited path (rounded upward tick a) ≡ Err why
       → all_limited upward tick path (a ∷ more) done ≡ Err why
   unfolding all_limited

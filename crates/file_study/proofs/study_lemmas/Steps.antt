@@ -10,7 +10,7 @@ use Rattle.base_memory.specs.Gives.{◌>>=◌}
 use Rattle.file_line.specs.Canonical.{put_member}
 use Rattle.file_line.specs.Lines.{LineValues}
 use Rattle.model_line.specs.declared.script.Kind.{Kind}
-use Rattle.file_study.specs.declared.study.fault.StudyFault.{StudyFault}
+use Rattle.file_document.specs.declared.fault.DocumentFault.{DocumentFault}
 use Rattle.file_study.specs.declared.study.units.Units.{Units}
 use Rattle.file_study.specs.declared.study.stage.Shown.{Shown}
 use Rattle.file_study.specs.study.Settings.{time_in, put_times, setting_in, put_settings}
@@ -19,7 +19,7 @@ use Rattle.file_study.specs.study.Shows.{all_shown, shown_in, terminals_show, te
 use Rattle.file_study.specs.study.Shows.{lost_in}
 use Rattle.file_study.specs.study.Faults.{stages_in, stage_at, faults_in, fault_at, fault_names}
 use Rattle.file_study.specs.study.Faults.{FaultValues, StageValues}
-use Rattle.file_study.specs.{study.Paths.under, study.Paths.numbered, study.Keys.text_in}
+use Rattle.file_document.specs.{Paths.under, Paths.numbered, Keys.text_in}
 
 -- the next entry of a table, and then those after it
 pub times_more : (units : Units) (path : List ℕ) (s rest : List Entry) (e : Entry) (done : Members)
@@ -49,7 +49,7 @@ pub terminals_more : (path : List ℕ) (i : ℕ) (vs : List Value) (d : Value) (
 unfolding terminals_in
 terminals_more path i vs d done h = rw (items_view-drop vs i d h)
 
-pub tables_more : {X : Type 0} (members : X → Result Members StudyFault) (xs : List X) (i : ℕ)
+pub tables_more : {X : Type 0} (members : X → Result Members DocumentFault) (xs : List X) (i : ℕ)
     (d : X) (done : List Data) → i < length xs
     → (members (get_or xs i d) >>= λ ms.
     tables_of members (drop (i + 1) xs) (done ++ table ms ∷ []))

@@ -13,8 +13,8 @@ use Rattle.std.specs.Fmt.{decimal}
 use Rattle.std.specs.List.{list_all, position_or_len, before_first}
 use Rattle.base_text.specs.store.Number.{is_digit, decimal_value}
 use Rattle.base_text.specs.store.DecimalLaws.{are_digits}
-use Rattle.file_study.specs.declared.times.fault.TimeFault.{TimeFault}
-use Rattle.file_study.specs.declared.times.fault.TimeFault.TheVariants as fault
+use Rattle.file_document.specs.declared.time_fault.TimeFault.{TimeFault}
+use Rattle.file_document.specs.declared.time_fault.TimeFault.TheVariants as fault
 use Rattle.file_study.specs.declared.times.fraction.Fraction.{Fraction}
 use Rattle.file_study.specs.declared.times.word.Sign.TheVariants as sign
 use Rattle.file_study.specs.times.Words.{is_space, is_no_space, next_start, next_end, place_of, word_of}

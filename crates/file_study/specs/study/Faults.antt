@@ -8,12 +8,13 @@ use Rattle.model_line.specs.declared.script.Kind.TheVariants.{Internal, External
 use Rattle.model_line.specs.{declared.script.Kind.Kind, PlainNames.is_plain_name}
 use Rattle.base_memory.specs.Gives.{◌>>=◌}
 use Rattle.file_line.specs.Lines.{LineValues}
-use Rattle.file_study.specs.declared.study.fault.StudyFault.{StudyFault}
-use Rattle.file_study.specs.declared.study.fault.StudyFault.TheVariants as fault
+use Rattle.file_document.specs.declared.fault.DocumentFault.{DocumentFault}
+use Rattle.file_document.specs.declared.fault.DocumentFault.TheVariants as fault
 use Rattle.file_study.specs.declared.study.units.Units.{Units}
 use Rattle.file_study.specs.declared.study.stage.{Shown.Shown, Stage.Stage, SweptFault.SweptFault}
-use Rattle.file_study.specs.{study.Paths.under, study.Paths.numbered, study.Keys.text_at, study.Keys.array_in}
-use Rattle.file_study.specs.{study.Keys.all_known, study.Keys.table_in, study.Keys.counted, study.Moments.moments_of}
+use Rattle.file_document.specs.{Paths.under, Paths.numbered, Keys.text_at, Keys.array_in}
+use Rattle.file_study.specs.{study.Moments.moments_of}
+use Rattle.file_document.specs.{Keys.all_known, Keys.table_in, Keys.counted}
 use Rattle.file_study.specs.{study.Shows.shows_of}
 
 -- A stage: how long it lasts, in ticks, a number for each value of its sweep; and what it shows.
@@ -52,36 +53,36 @@ abbrev pub is_later : Kind → Bool
 is_later Internal = true
 is_later External = false
 
-abbrev pub kind_of : List ℕ → List ℕ → Result Kind StudyFault
+abbrev pub kind_of : List ℕ → List ℕ → Result Kind DocumentFault
 kind_of path text =
     if bytes_eq text (codes "internal") then Ok Internal
     else if bytes_eq text (codes "external") then Ok External
     else Err (fault.BadName path)
 
-unfoldable pub kind_at : List ℕ → Members → Result Kind StudyFault
+unfoldable pub kind_at : List ℕ → Members → Result Kind DocumentFault
 kind_at path ms = do
   text ← text_at path (codes "kind") ms
   kind_of (under path (codes "kind")) text
 
 -- a time of a fault under a required key
-unfoldable pub moments_at : Bool → Units → List ℕ → List ℕ → Members → Result (List ℕ) StudyFault
+unfoldable pub moments_at : Bool → Units → List ℕ → List ℕ → Members → Result (List ℕ) DocumentFault
 moments_at upward units path key ms = do
   text ← text_at path key ms
   moments_of upward units (under path key) text
 
 -- by when an internal fault has to be tripped, counted from its start
-abbrev pub within_at : Kind → Units → List ℕ → Members → Result (List ℕ) StudyFault
+abbrev pub within_at : Kind → Units → List ℕ → Members → Result (List ℕ) DocumentFault
 within_at Internal units path ms = moments_at false units path (codes "trip_within") ms
 within_at External units path ms = Ok (0 ∷ [])
 
 -- a plain name that no fault before it has
-abbrev pub new_name : List ℕ → List (List ℕ) → List ℕ → Result (List ℕ) StudyFault
+abbrev pub new_name : List ℕ → List (List ℕ) → List ℕ → Result (List ℕ) DocumentFault
 new_name path before name =
     if is_plain_name name then
     if list_any (λ other. bytes_eq other name) before then Err (fault.Twice path) else Ok name
     else Err (fault.BadName path)
 
-unfoldable pub name_at : List ℕ → List (List ℕ) → Members → Result (List ℕ) StudyFault
+unfoldable pub name_at : List ℕ → List (List ℕ) → Members → Result (List ℕ) DocumentFault
 name_at path before ms = do
   name ← text_at path (codes "name") ms
   new_name (under path (codes "name")) before name
@@ -109,13 +110,13 @@ terminal_names line = map (λ t. t.name) line.terminals
 
 -- the stage that a table says
 unfoldable pub stage_in : Kind → Units → LineValues → List ℕ → Members
-    → Result StageValues StudyFault
+    → Result StageValues DocumentFault
 stage_in kind units line path ms = do
   lasts ← moments_at (is_longer kind) units path (codes "lasts") ms
   shows ← shows_of (is_later kind) units line path ms
   Ok (record { lasts = lasts; shows = shows })
 
-unfoldable pub stage_at : Kind → Units → LineValues → List ℕ → Data → Result StageValues StudyFault
+unfoldable pub stage_at : Kind → Units → LineValues → List ℕ → Data → Result StageValues DocumentFault
 stage_at kind units line path d = do
   ms ← table_in path d
   _ ← all_known path (stage_keys ++ terminal_names line) ms
@@ -123,7 +124,7 @@ stage_at kind units line path d = do
 
 -- the stages of an array, from item i on, behind those that are there
 unfoldable pub stages_in : Kind → Units → LineValues → List ℕ → ℕ → Items → List StageValues
-    → Result (List StageValues) StudyFault
+    → Result (List StageValues) DocumentFault
 stages_in kind units line path i no_items done = Ok done
 stages_in kind units line path i (item d ds) done = do
   stage ← stage_at kind units line (numbered path i) d
@@ -131,7 +132,7 @@ stages_in kind units line path i (item d ds) done = do
 
 -- 1 to 20 stages
 unfoldable pub several_stages : Kind → Units → LineValues → List ℕ → Data
-    → Result (List StageValues) StudyFault
+    → Result (List StageValues) DocumentFault
 several_stages kind units line path d = do
   all ← array_in path d
   ds ← counted path 1 20 all
@@ -139,14 +140,14 @@ several_stages kind units line path d = do
 
 -- the fault itself as its only stage
 unfoldable pub only_stage : Kind → Units → LineValues → List ℕ → Members
-    → Result (List StageValues) StudyFault
+    → Result (List StageValues) DocumentFault
 only_stage kind units line path ms = do
   stage ← stage_in kind units line path ms
   Ok (stage ∷ [])
 
 -- the stages of a fault, which has no other keys
 abbrev pub stages_or_one : Kind → Units → LineValues → List ℕ → Members → Option Data
-    → Result (List StageValues) StudyFault
+    → Result (List StageValues) DocumentFault
 stages_or_one kind units line path ms None = do
   _ ← all_known path (whole_keys kind ++ terminal_names line) ms
   only_stage kind units line path ms
@@ -155,13 +156,13 @@ stages_or_one kind units line path ms (Some d) = do
   several_stages kind units line (under path (codes "stage")) d
 
 unfoldable pub stages_of : Kind → Units → LineValues → List ℕ → Members
-    → Result (List StageValues) StudyFault
+    → Result (List StageValues) DocumentFault
 stages_of kind units line path ms =
     stages_or_one kind units line path ms (get_member (codes "stage") ms)
 
 -- a fault, which has a name that those before it have not
 unfoldable pub fault_at : Units → LineValues → List ℕ → List (List ℕ) → Data
-    → Result FaultValues StudyFault
+    → Result FaultValues DocumentFault
 fault_at units line path before d = do
   ms ← table_in path d
   name ← name_at path before ms
@@ -176,7 +177,7 @@ fault_names fs = map (λ f. f.name) fs
 
 -- the faults of an array, from item i on, behind those that are there
 unfoldable pub faults_in : Units → LineValues → List ℕ → ℕ → Items → List FaultValues
-    → Result (List FaultValues) StudyFault
+    → Result (List FaultValues) DocumentFault
 faults_in units line path i no_items done = Ok done
 faults_in units line path i (item d ds) done = do
   new ← fault_at units line (numbered path i) (fault_names done) d

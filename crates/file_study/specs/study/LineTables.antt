@@ -11,17 +11,18 @@ use Rattle.file_line.specs.{Canonical.table_of, Canonical.put_all, Lines.LineVal
 use Rattle.file_line.specs.{LineFiles.line_in}
 use Rattle.file_line.specs.declared.fault.LineFault.{LineFault}
 use Rattle.file_line.specs.declared.fault.LineFault.TheVariants as line_fault
-use Rattle.file_study.specs.declared.study.fault.StudyFault.{StudyFault}
-use Rattle.file_study.specs.declared.study.fault.StudyFault.TheVariants as fault
+use Rattle.file_document.specs.declared.fault.DocumentFault.{DocumentFault}
+use Rattle.file_document.specs.declared.fault.DocumentFault.TheVariants as fault
 use Rattle.file_study.specs.declared.study.units.Units.{Units}
-use Rattle.file_study.specs.study.Keys.{number_at, number_or_none, text_in, text_at, flag_or_false}
-use Rattle.file_study.specs.study.Keys.{array_at, table_or_none, none_unknown, counted}
-use Rattle.file_study.specs.{study.Paths.under, study.Paths.numbered, study.Settings.put_section, study.Moments.instant_of}
+use Rattle.file_document.specs.Keys.{number_at, number_or_none, text_in, text_at, flag_or_false}
+use Rattle.file_document.specs.Keys.{array_at, table_or_none, none_unknown, counted}
+use Rattle.file_study.specs.{study.Settings.put_section, study.Moments.instant_of}
+use Rattle.file_document.specs.{Paths.under, Paths.numbered}
 
 -- The table of settings under a key at the top, if there is one, which has only these keys.
 -- `[default.terminal]` and `[default.channel]` are under `default`; `[terminal.X]` and
 -- `[channel."X>Y"]` have what differs.
-unfoldable pub section_at : List ℕ → List (List ℕ) → Members → Result (Option Members) StudyFault
+unfoldable pub section_at : List ℕ → List (List ℕ) → Members → Result (Option Members) DocumentFault
 section_at key known top = do
   section ← table_or_none (under [] key) (get_member key top)
   _ ← none_unknown (under [] key) known section
@@ -29,39 +30,39 @@ section_at key known top = do
 
 -- What an owner is by default, and what differs: a table stands for the whole table of that name.
 unfoldable pub owner_members : Units → Option Members → List ℕ → Option Members → List ℕ → Members
-    → Result Members StudyFault
+    → Result Members DocumentFault
 owner_members units defaults kind own name start = do
   base ← put_section units (under [] (codes "default")) kind defaults start
   put_section units (under [] kind) name own base
 
 -- a terminal
 abbrev pub terminal_members : Units → Option Members → Option Members → Terminal
-    → Result Members StudyFault
+    → Result Members DocumentFault
 terminal_members units defaults own t =
     owner_members units defaults (codes "terminal") own t.name
     (table_of ((codes "name", string t.name) ∷ []))
 
 -- a channel
 abbrev pub channel_members : Units → Option Members → Option Members → List Terminal → Channel
-    → Result Members StudyFault
+    → Result Members DocumentFault
 channel_members units defaults own ts c =
     owner_members units defaults (codes "channel") own (pair_name ts c)
     (table_of ((codes "from", string (name_at ts c.from))
     ∷ (codes "to", string (name_at ts c.to)) ∷ []))
 
 -- a table for each of these, behind those that are there
-unfoldable pub tables_of : {X : Type 0} → (X → Result Members StudyFault) → List X → List Data
-    → Result (List Data) StudyFault
+unfoldable pub tables_of : {X : Type 0} → (X → Result Members DocumentFault) → List X → List Data
+    → Result (List Data) DocumentFault
 tables_of members [] done = Ok done
 tables_of members (x ∷ xs) done = do
   ms ← members x
   tables_of members xs (done ++ table ms ∷ [])
 
 -- the terminals by their names, which are plain
-abbrev pub plain_name : List ℕ → List ℕ → Result (List ℕ) StudyFault
+abbrev pub plain_name : List ℕ → List ℕ → Result (List ℕ) DocumentFault
 plain_name path name = if is_plain_name name then Ok name else Err (fault.BadName path)
 
-unfoldable pub terminals_in : List ℕ → ℕ → Items → List Terminal → Result (List Terminal) StudyFault
+unfoldable pub terminals_in : List ℕ → ℕ → Items → List Terminal → Result (List Terminal) DocumentFault
 terminals_in path i no_items done = Ok done
 terminals_in path i (item d ds) done = do
   text ← text_in (numbered path i) d
@@ -69,7 +70,7 @@ terminals_in path i (item d ds) done = do
   terminals_in path (i + 1) ds (done ++ record { name = name; weak = false; guard = false } ∷ [])
 
 -- two or three of them
-unfoldable pub terminals_of : Members → Result (List Terminal) StudyFault
+unfoldable pub terminals_of : Members → Result (List Terminal) DocumentFault
 terminals_of top = do
   all ← array_at [] (codes "terminals") top
   ds ← counted (under [] (codes "terminals")) 2 3 all
@@ -87,20 +88,20 @@ channels_of ts = channels_for (length ts)
 
 -- a table for each terminal
 unfoldable pub terminal_tables : Units → Option Members → List Terminal → Members
-    → Result (List Data) StudyFault
+    → Result (List Data) DocumentFault
 terminal_tables units defaults ts top = do
   own ← section_at (codes "terminal") (map (λ t. t.name) ts) top
   tables_of (terminal_members units defaults own) ts []
 
 -- a table for each channel
 unfoldable pub channel_tables : Units → Option Members → List Terminal → Members
-    → Result (List Data) StudyFault
+    → Result (List Data) DocumentFault
 channel_tables units defaults ts top = do
   own ← section_at (codes "channel") (map (pair_name ts) (channels_of ts)) top
   tables_of (channel_members units defaults own ts) (channels_of ts) []
 
 -- how many microseconds a tick has, and how many hertz the system
-unfoldable pub units_of : Members → Result Units StudyFault
+unfoldable pub units_of : Members → Result Units DocumentFault
 units_of top = do
   tick_us ← number_at [] (codes "tick_us") 1 1000000 top
   hertz ← number_or_none (under [] (codes "frequency_hz")) 1 1000
@@ -108,7 +109,7 @@ units_of top = do
   Ok (record { tick_us = tick_us; hertz = hertz })
 
 -- the horizon, rounded up
-unfoldable pub horizon_of : Units → Members → Result ℕ StudyFault
+unfoldable pub horizon_of : Units → Members → Result ℕ DocumentFault
 horizon_of units top = do
   text ← text_at [] (codes "horizon") top
   instant_of true units (under [] (codes "horizon")) text
@@ -128,7 +129,7 @@ table_pairs terminals channels =
     ∷ []
 
 -- the head of the line file
-unfoldable pub line_head : Units → Members → Result Members StudyFault
+unfoldable pub line_head : Units → Members → Result Members DocumentFault
 line_head units top = do
   horizon ← horizon_of units top
   scheme ← text_at [] (codes "scheme") top
@@ -136,7 +137,7 @@ line_head units top = do
   Ok (table_of (head_pairs units horizon scheme zone1_trip))
 
 -- the tables of the terminals and of the channels, behind the head
-unfoldable pub with_tables : Units → List Terminal → Members → Members → Result Members StudyFault
+unfoldable pub with_tables : Units → List Terminal → Members → Members → Result Members DocumentFault
 with_tables units ts top head = do
   defaults ← section_at (codes "default") (codes "terminal" ∷ codes "channel" ∷ []) top
   terminals ← terminal_tables units defaults ts top
@@ -144,7 +145,7 @@ with_tables units ts top head = do
   Ok (put_all (table_pairs terminals channels) head)
 
 -- the line file of a study, as a table
-unfoldable pub line_table : Units → Members → Result Members StudyFault
+unfoldable pub line_table : Units → Members → Result Members DocumentFault
 line_table units top = do
   head ← line_head units top
   ts ← terminals_of top
@@ -155,7 +156,7 @@ abbrev pub in_line : List ℕ → List ℕ
 in_line path = under (under [] (codes "line")) path
 
 -- a fault of the line file is one of the study
-abbrev pub as_study : LineFault → StudyFault
+abbrev pub as_study : LineFault → DocumentFault
 as_study line_fault.NotToml = fault.NotToml
 as_study (line_fault.Unknown path) = fault.Unknown (in_line path)
 as_study (line_fault.Missing path) = fault.Missing (in_line path)
@@ -165,12 +166,12 @@ as_study (line_fault.BadName path) = fault.BadName (in_line path)
 as_study (line_fault.Twice path) = fault.Twice (in_line path)
 as_study (line_fault.Channels from to) = fault.Missing (in_line from)
 
-abbrev pub as_line : Result LineValues LineFault → Result LineValues StudyFault
+abbrev pub as_line : Result LineValues LineFault → Result LineValues DocumentFault
 as_line (Ok line) = Ok line
 as_line (Err why) = Err (as_study why)
 
 -- the line of a study: that of its line file
-unfoldable pub line_of_study : Units → Members → Result LineValues StudyFault
+unfoldable pub line_of_study : Units → Members → Result LineValues DocumentFault
 line_of_study units top = do
   ms ← line_table units top
   as_line (line_in ms)

@@ -11,11 +11,11 @@ use Rattle.model_line.specs.declared.line.Terminal.{Terminal}
 use Rattle.model_names.specs.NumbersByName.{has_name}
 use Rattle.base_memory.specs.Gives.{◌>>=◌}
 use Rattle.file_line.specs.Lines.{LineValues}
-use Rattle.file_study.specs.declared.study.fault.StudyFault.{StudyFault}
-use Rattle.file_study.specs.declared.study.fault.StudyFault.TheVariants as fault
+use Rattle.file_document.specs.declared.fault.DocumentFault.{DocumentFault}
+use Rattle.file_document.specs.declared.fault.DocumentFault.TheVariants as fault
 use Rattle.file_study.specs.declared.study.units.Units.{Units}
 use Rattle.file_study.specs.declared.study.stage.Shown.{Shown}
-use Rattle.file_study.specs.{study.Paths.under, study.Paths.numbered, study.Keys.text_in, study.Keys.array_or_none}
+use Rattle.file_document.specs.{Paths.under, Paths.numbered, Keys.text_in, Keys.array_or_none}
 use Rattle.file_study.specs.{study.Moments.instant_of}
 
 abbrev pub element_of : List ℕ → Option Element
@@ -27,7 +27,7 @@ element_of text =
     else if bytes_eq text (codes "cur") then Some Cur
     else None
 
-abbrev pub element_in : List ℕ → Option Element → Result Element StudyFault
+abbrev pub element_in : List ℕ → Option Element → Result Element DocumentFault
 element_in path None = Err (fault.BadName path)
 element_in path (Some element) = Ok element
 
@@ -35,13 +35,13 @@ abbrev pub is_space : ℕ → Bool
 is_space byte = byte == 32
 
 -- behind an element: nothing, or `+` and how far into the stage it comes
-abbrev pub shift_in : Bool → Units → List ℕ → List ℕ → Result ℕ StudyFault
+abbrev pub shift_in : Bool → Units → List ℕ → List ℕ → Result ℕ DocumentFault
 shift_in upward units path [] = Ok 0
 shift_in upward units path (b ∷ text) =
     if b == 43 then instant_of upward units path text else Err (fault.BadName path)
 
 -- an element at terminal k, as `z1` or `z1 +12 ms`
-unfoldable pub shown_in : Bool → Units → ℕ → List ℕ → Data → Result Shown StudyFault
+unfoldable pub shown_in : Bool → Units → ℕ → List ℕ → Data → Result Shown DocumentFault
 shown_in upward units k path d = do
   text ← text_in path d
   element ← element_in path (element_of (before_first is_space text))
@@ -53,7 +53,7 @@ shown_in upward units k path d = do
 
 -- those of an array, from item i on, behind those that are there
 unfoldable pub all_shown : Bool → Units → ℕ → List ℕ → ℕ → Items → List Shown
-    → Result (List Shown) StudyFault
+    → Result (List Shown) DocumentFault
 all_shown upward units k path i no_items done = Ok done
 all_shown upward units k path i (item d ds) done = do
   shown ← shown_in upward units k (numbered path i) d
@@ -61,14 +61,14 @@ all_shown upward units k path i (item d ds) done = do
 
 -- what terminal k sees, under its name
 unfoldable pub terminal_shows : Bool → Units → List ℕ → Members → ℕ → Terminal → List Shown
-    → Result (List Shown) StudyFault
+    → Result (List Shown) DocumentFault
 terminal_shows upward units path ms k t done = do
   ds ← array_or_none (under path t.name) (get_member t.name ms)
   all_shown upward units k (under path t.name) 0 ds done
 
 -- what the terminals from number k on see
 unfoldable pub terminals_show : Bool → Units → List ℕ → Members → ℕ → List Terminal → List Shown
-    → Result (List Shown) StudyFault
+    → Result (List Shown) DocumentFault
 terminals_show upward units path ms k [] done = Ok done
 terminals_show upward units path ms k (t ∷ ts) done = do
   more ← terminal_shows upward units path ms k t done
@@ -79,18 +79,18 @@ abbrev pub channel_called : LineValues → List ℕ → Option ℕ
 channel_called line name = position_from (has_name line.terminals name) 0 line.channels
 
 -- a channel that is lost
-abbrev pub channel_in : List ℕ → Option ℕ → Result Shown StudyFault
+abbrev pub channel_in : List ℕ → Option ℕ → Result Shown DocumentFault
 channel_in path None = Err (fault.BadName path)
 channel_in path (Some c) = Ok (record { what = what.Loss c; after = 0 })
 
-unfoldable pub lost_in : LineValues → List ℕ → Data → Result Shown StudyFault
+unfoldable pub lost_in : LineValues → List ℕ → Data → Result Shown DocumentFault
 lost_in line path d = do
   text ← text_in path d
   channel_in path (channel_called line text)
 
 -- those of an array, from item i on, behind what is there
 unfoldable pub all_lost : LineValues → List ℕ → ℕ → Items → List Shown
-    → Result (List Shown) StudyFault
+    → Result (List Shown) DocumentFault
 all_lost line path i no_items done = Ok done
 all_lost line path i (item d ds) done = do
   lost ← lost_in line (numbered path i) d
@@ -99,7 +99,7 @@ all_lost line path i (item d ds) done = do
 -- what a stage shows: what the terminals see, in the order of the line, and the channels that are
 -- lost
 unfoldable pub shows_of : Bool → Units → LineValues → List ℕ → Members
-    → Result (List Shown) StudyFault
+    → Result (List Shown) DocumentFault
 shows_of upward units line path ms = do
   seen ← terminals_show upward units path ms 0 line.terminals []
   ds ← array_or_none (under path (codes "lost")) (get_member (codes "lost") ms)

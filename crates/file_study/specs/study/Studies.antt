@@ -4,11 +4,12 @@ use Rattle.toml.specs.Data.{Members}
 use Rattle.base_memory.specs.Gives.{◌>>=◌}
 use Rattle.file_line.specs.{Keys.document_of, Lines.LineValues, Lines.line_values}
 use Rattle.file_line.specs.{LineFiles.line_of}
-use Rattle.file_study.specs.declared.study.fault.StudyFault.{StudyFault}
+use Rattle.file_document.specs.declared.fault.DocumentFault.{DocumentFault}
 use Rattle.file_study.specs.declared.study.units.Units.{Units}
 use Rattle.file_study.specs.declared.study.study.Study.{Study}
-use Rattle.file_study.specs.study.Keys.{opened, all_known, number_at, text_at, array_at, counted}
-use Rattle.file_study.specs.{study.Paths.under, study.LineTables.units_of, study.LineTables.line_of_study}
+use Rattle.file_document.specs.Keys.{opened, all_known, number_at, text_at, array_at, counted}
+use Rattle.file_study.specs.{study.LineTables.units_of, study.LineTables.line_of_study}
+use Rattle.file_document.specs.{Paths.under}
 use Rattle.file_study.specs.study.Faults.{FaultValues, fault_values, faults_in}
 
 -- the keys at the top of a study
@@ -35,21 +36,21 @@ study_values s = record {
 }
 
 -- the faults, 1 to 1,000
-unfoldable pub faults_of : Units → LineValues → Members → Result (List FaultValues) StudyFault
+unfoldable pub faults_of : Units → LineValues → Members → Result (List FaultValues) DocumentFault
 faults_of units line top = do
   all ← array_at [] (codes "fault") top
   ds ← counted (under [] (codes "fault")) 1 1000 all
   faults_in units line (under [] (codes "fault")) 0 ds []
 
 -- what a document of this title and these units says
-unfoldable pub study_with : List ℕ → Units → Members → Result StudyValues StudyFault
+unfoldable pub study_with : List ℕ → Units → Members → Result StudyValues DocumentFault
 study_with title units top = do
   line ← line_of_study units top
   faults ← faults_of units line top
   Ok (record { title = title; units = units; line = line; faults = faults })
 
 -- what a document says
-unfoldable pub study_in : Members → Result StudyValues StudyFault
+unfoldable pub study_in : Members → Result StudyValues DocumentFault
 study_in top = do
   version ← number_at [] (codes "study") 1 1 top
   _ ← all_known [] top_keys top
@@ -58,10 +59,10 @@ study_in top = do
   study_with title units top
 
 -- what these bytes say
-unfoldable pub study_of : List ℕ → Result StudyValues StudyFault
+unfoldable pub study_of : List ℕ → Result StudyValues DocumentFault
 study_of bytes = opened (document_of bytes) >>= study_in
 
 -- a text is a line file of the study's line
-abbrev pub HasLine : Result StudyValues StudyFault → List ℕ → Type 0
+abbrev pub HasLine : Result StudyValues DocumentFault → List ℕ → Type 0
 HasLine (Ok study) text = line_of text ≡ Ok study.line
 HasLine (Err why) text = ⊥

@@ -1,7 +1,7 @@
 -- What is wrong with the words of an axis, in words.
 use Rattle.std.specs.Prelude.{ℕ, List, codes}
-use Rattle.file_study.specs.declared.times.fault.TimeFault.{TimeFault}
-use Rattle.file_study.specs.declared.times.fault.TimeFault.TheVariants as time
+use Rattle.file_document.specs.declared.time_fault.TimeFault.{TimeFault}
+use Rattle.file_document.specs.declared.time_fault.TimeFault.TheVariants as time
 use Rattle.file_study.specs.declared.times.{axis_fault.AxisFault.AxisFault, axis_fault.Part.Part}
 use Rattle.file_study.specs.declared.times.axis_fault.AxisFault.TheVariants as fault
 use Rattle.file_study.specs.declared.times.axis_fault.Part.TheVariants as part

@@ -4,8 +4,8 @@ use Rattle.std.specs.Prelude.{nat_le, nat_lt, Result, Ok, Err, if◌then◌else�
 use Rattle.std.specs.List.{list_all, position_or_len, before_first, after_first}
 use Rattle.base_text.specs.store.Number.{is_digit, decimal_value}
 use Rattle.file_study.specs.declared.times.fraction.Fraction.{Fraction}
-use Rattle.file_study.specs.declared.times.fault.TimeFault.{TimeFault}
-use Rattle.file_study.specs.declared.times.fault.TimeFault.TheVariants as fault
+use Rattle.file_document.specs.declared.time_fault.TimeFault.{TimeFault}
+use Rattle.file_document.specs.declared.time_fault.TimeFault.TheVariants as fault
 
 abbrev pub is_point : ℕ → Bool
 is_point byte = byte == 46

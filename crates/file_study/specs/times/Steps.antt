@@ -6,7 +6,8 @@ use Rattle.std.specs.List.{list_any, position_or_len}
 use Rattle.base_memory.specs.Gives.{◌>>=◌}
 use Rattle.base_text.specs.store.Number.{number_of as decimal_of}
 use Rattle.model_line.specs.declared.line.Line.{Line}
-use Rattle.file_study.specs.declared.times.{fault.TimeFault.TimeFault, fraction.Fraction.Fraction}
+use Rattle.file_document.specs.declared.time_fault.TimeFault.{TimeFault}
+use Rattle.file_study.specs.declared.times.{fraction.Fraction.Fraction}
 use Rattle.file_study.specs.declared.times.{time.Interval.Interval, time.Time.Time}
 use Rattle.file_study.specs.declared.times.time.Time.TheVariants as time
 use Rattle.file_study.specs.times.Times.{time_of}

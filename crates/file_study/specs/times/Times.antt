@@ -3,8 +3,8 @@
 use Rattle.std.specs.Prelude.{◌+◌, ◌==◌, ◌<◌, ◌^◌, ℕ, List, Option, Result, Ok, Err}
 use Rattle.std.specs.Prelude.{if◌then◌else◌}
 use Rattle.base_memory.specs.Gives.{◌>>=◌}
-use Rattle.file_study.specs.declared.times.fault.TimeFault.{TimeFault}
-use Rattle.file_study.specs.declared.times.fault.TimeFault.TheVariants as fault
+use Rattle.file_document.specs.declared.time_fault.TimeFault.{TimeFault}
+use Rattle.file_document.specs.declared.time_fault.TimeFault.TheVariants as fault
 use Rattle.file_study.specs.declared.times.fraction.Fraction.{Fraction}
 use Rattle.file_study.specs.declared.times.time.{Sweep.Sweep, Time.Time}
 use Rattle.file_study.specs.declared.times.time.Time.TheVariants as time

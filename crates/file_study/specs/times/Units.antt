@@ -3,8 +3,8 @@ use Rattle.std.specs.Prelude.{◌&&◌, ℕ, List, codes, nat_le, Option, None, 
 use Rattle.std.specs.Prelude.{if◌then◌else◌}
 use Rattle.std.specs.Str.{bytes_eq}
 use Rattle.file_study.specs.declared.times.fraction.Fraction.{Fraction}
-use Rattle.file_study.specs.declared.times.fault.TimeFault.{TimeFault}
-use Rattle.file_study.specs.declared.times.fault.TimeFault.TheVariants as fault
+use Rattle.file_document.specs.declared.time_fault.TimeFault.{TimeFault}
+use Rattle.file_document.specs.declared.time_fault.TimeFault.TheVariants as fault
 use Rattle.file_study.specs.declared.times.word.Sign.{Sign}
 use Rattle.file_study.specs.declared.times.word.Sign.TheVariants as sign
 use Rattle.file_study.specs.{times.Words.sign_in}

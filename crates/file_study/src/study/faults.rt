@@ -14,9 +14,9 @@ ghost use Rattle.file_study.specs.study.Faults.{terminal_names, stage_in, stage_
 ghost use Rattle.file_study.specs.study.Faults.{several_stages, only_stage, stages_or_one, stages_of};
 ghost use Rattle.file_study.specs.study.Faults.{fault_at, faults_in};
 
-use crate::study::fault::StudyFault;
-use crate::study::keys::{counted, find, items_of, only, table_of, text};
-use crate::study::path::Path;
+use file_document::DocumentFault;
+use file_document::keys::{counted, find, items_of, only, table_of, text};
+use file_document::Path;
 use crate::study::shows::shows;
 use crate::study::stage::{Stage, SweptFault};
 use crate::study::ticks::moments;
@@ -40,18 +40,18 @@ fn is_later(kind: Kind) -> bool
     kind == Kind::Internal
 }
 
-fn kind_of(path: Path, text: &str) -> Result<Kind, StudyFault>
+fn kind_of(path: Path, text: &str) -> Result<Kind, DocumentFault>
     ensures { result ≡ kind_of path text.now }
 {
     match text {
         "internal" => Ok(Kind::Internal),
         "external" => Ok(Kind::External),
-        _ => Err(StudyFault::BadName(path)),
+        _ => Err(DocumentFault::BadName(path)),
     }
 }
 
 #[tactic(auto, unfolding(crate::specs::study::Faults::kind_at))]
-fn kind(path: Path, table: &Table) -> Result<Kind, StudyFault>
+fn kind(path: Path, table: &Table) -> Result<Kind, DocumentFault>
     ensures { result ≡ kind_at path (table_view table.now) }
 {
     let text = text(path, "kind", table)?;
@@ -88,20 +88,20 @@ fn is_taken(before: &[SweptFault], name: &str) -> bool
 }
 
 // A plain name that no fault before has.
-fn new_name(path: Path, before: &[SweptFault], name: &str) -> Result<Name, StudyFault>
+fn new_name(path: Path, before: &[SweptFault], name: &str) -> Result<Name, DocumentFault>
     ensures { result ≡ new_name path (map (λ f. f.name) before.now) name.now }
 {
     if !is_plain(name.as_bytes()) {
-        return Err(StudyFault::BadName(path));
+        return Err(DocumentFault::BadName(path));
     }
     if is_taken(before, name) {
-        return Err(StudyFault::Twice(path));
+        return Err(DocumentFault::Twice(path));
     }
     Ok(Name::plain(name.as_bytes()))
 }
 
 #[tactic(auto, unfolding(crate::specs::study::Faults::name_at))]
-fn name(path: Path, before: &[SweptFault], table: &Table) -> Result<Name, StudyFault>
+fn name(path: Path, before: &[SweptFault], table: &Table) -> Result<Name, DocumentFault>
     ensures { result ≡ name_at path (map (λ f. f.name) before.now) (table_view table.now) }
 {
     let text = text(path, "name", table)?;
@@ -117,7 +117,7 @@ fn moments_at(
     path: Path,
     key: &str,
     table: &Table,
-) -> Result<Vec<u32>, Stopped<StudyFault>>
+) -> Result<Vec<u32>, Stopped<DocumentFault>>
     requires { 0 < units.tick_us }
     ensures { Gives (λ v. v.items) result
         (moments_at upward units path key.now (table_view table.now)) }
@@ -139,7 +139,7 @@ fn within(
     units: Units,
     path: Path,
     table: &Table,
-) -> Result<Vec<u32>, Stopped<StudyFault>>
+) -> Result<Vec<u32>, Stopped<DocumentFault>>
     requires { 0 < units.tick_us }
     ensures { Gives (λ v. v.items) result (within_at kind units path (table_view table.now)) }
 {
@@ -158,7 +158,7 @@ fn stage_in(
     line: &Line,
     path: Path,
     table: &Table,
-) -> Result<Stage, Stopped<StudyFault>>
+) -> Result<Stage, Stopped<DocumentFault>>
     requires { 0 < units.tick_us }
     ensures { Gives stage_values result
         (stage_in kind units (line_values line.now) path (table_view table.now)) }
@@ -178,7 +178,7 @@ fn stage(
     names: &[Name],
     path: Path,
     value: &Value,
-) -> Result<Stage, Stopped<StudyFault>>
+) -> Result<Stage, Stopped<DocumentFault>>
     requires tick { 0 < units.tick_us }
     requires names { names.now ≡ terminal_names (line_values line.now) }
     ensures { Gives stage_values result
@@ -198,7 +198,7 @@ fn stages_in(
     names: &[Name],
     path: Path,
     items: &[Value],
-) -> Result<Vec<Stage>, Stopped<StudyFault>>
+) -> Result<Vec<Stage>, Stopped<DocumentFault>>
     requires tick { 0 < units.tick_us }
     requires names { names.now ≡ terminal_names (line_values line.now) }
     ensures { Gives (λ v. map stage_values v.items) result
@@ -222,7 +222,7 @@ fn several_stages(
     names: &[Name],
     path: Path,
     value: &Value,
-) -> Result<Vec<Stage>, Stopped<StudyFault>>
+) -> Result<Vec<Stage>, Stopped<DocumentFault>>
     requires tick { 0 < units.tick_us }
     requires names { names.now ≡ terminal_names (line_values line.now) }
     ensures { Gives (λ v. map stage_values v.items) result
@@ -241,7 +241,7 @@ fn only_stage(
     line: &Line,
     path: Path,
     table: &Table,
-) -> Result<Vec<Stage>, Stopped<StudyFault>>
+) -> Result<Vec<Stage>, Stopped<DocumentFault>>
     requires { 0 < units.tick_us }
     ensures { Gives (λ v. map stage_values v.items) result
         (only_stage kind units (line_values line.now) path (table_view table.now)) }
@@ -260,7 +260,7 @@ fn stages(
     names: &[Name],
     path: Path,
     table: &Table,
-) -> Result<Vec<Stage>, Stopped<StudyFault>>
+) -> Result<Vec<Stage>, Stopped<DocumentFault>>
     requires tick { 0 < units.tick_us }
     requires names { names.now ≡ terminal_names (line_values line.now) }
     ensures { Gives (λ v. map stage_values v.items) result
@@ -288,7 +288,7 @@ fn fault(
     path: Path,
     before: &[SweptFault],
     value: &Value,
-) -> Result<SweptFault, Stopped<StudyFault>>
+) -> Result<SweptFault, Stopped<DocumentFault>>
     requires tick { 0 < units.tick_us }
     requires names { names.now ≡ terminal_names (line_values line.now) }
     ensures { Gives fault_values result
@@ -318,7 +318,7 @@ pub fn faults_in(
     names: &[Name],
     path: Path,
     items: &[Value],
-) -> Result<Vec<SweptFault>, Stopped<StudyFault>>
+) -> Result<Vec<SweptFault>, Stopped<DocumentFault>>
     requires tick { 0 < units.tick_us }
     requires names { names.now ≡ terminal_names (line_values line.now) }
     ensures { Gives (λ v. map fault_values v.items) result

@@ -18,11 +18,11 @@ ghost use Rattle.file_study.specs.study.LineTables.{owner_members, terminal_memb
 ghost use Rattle.file_study.specs.study.LineTables.{line_head, with_tables, line_table, line_of_study};
 ghost use Rattle.file_study.specs.study.LineTables.{as_study, head_pairs};
 
-use crate::study::fault::StudyFault;
-use crate::study::keys::{
+use file_document::DocumentFault;
+use file_document::keys::{
     counted, find, flag, items, number, only_in, optional_number, optional_table, text, text_of,
 };
-use crate::study::path::Path;
+use file_document::Path;
 use crate::study::settings::{put, put_section};
 use crate::study::ticks::instant;
 use crate::study::units::Units;
@@ -51,7 +51,7 @@ fn section<'a>(
     known: &[&str],
     names: &[Name],
     top: &'a Table,
-) -> Result<Option<&'a Table>, StudyFault>
+) -> Result<Option<&'a Table>, DocumentFault>
     ensures { seen (option_map (λ t. table_view t.now)) result
         ≡ section_at key.now (map (λ name. name.now) known.now ++ names.now) (table_view top.now) }
 {
@@ -90,14 +90,14 @@ fn with_text(
 }
 
 // A plain name.
-fn plain_name(path: Path, text: &str) -> Result<Name, StudyFault>
+fn plain_name(path: Path, text: &str) -> Result<Name, DocumentFault>
     ensures is { result ≡ plain_name path text.now }
     ensures plain { IfOk result (λ n. is_plain_name n ≡ true) }
 {
     if is_plain(text.as_bytes()) {
         Ok(Name::plain(text.as_bytes()))
     } else {
-        Err(StudyFault::BadName(path))
+        Err(DocumentFault::BadName(path))
     }
 }
 
@@ -106,7 +106,7 @@ fn terminals_in(
     alloc: Global,
     path: Path,
     names: &[Value],
-) -> Result<Vec<Terminal>, Stopped<StudyFault>>
+) -> Result<Vec<Terminal>, Stopped<DocumentFault>>
     ensures terminals { Gives (λ v. v.items) result
         (terminals_in path 0 (items_view names.now) []) }
     ensures plain { IfOk result (λ v. are_plain_names v.items ≡ true) }
@@ -127,7 +127,7 @@ fn terminals_in(
 
 // The terminals: two or three.
 #[tactic(auto, unfolding(crate::specs::study::LineTables::terminals_of))]
-fn terminals(alloc: Global, top: &Table) -> Result<Vec<Terminal>, Stopped<StudyFault>>
+fn terminals(alloc: Global, top: &Table) -> Result<Vec<Terminal>, Stopped<DocumentFault>>
     ensures terminals { Gives (λ v. v.items) result (terminals_of (table_view top.now)) }
     ensures plain { IfOk result (λ v. are_plain_names v.items ≡ true) }
     ensures count { IfOk result (λ v. (2 ≤ length v.items) × (length v.items ≤ 3)) }
@@ -154,7 +154,7 @@ fn with_owner(
     own: Option<&Table>,
     name: &str,
     table: Result<Table, Memory>,
-) -> Result<Table, Stopped<StudyFault>>
+) -> Result<Table, Stopped<DocumentFault>>
     requires { 0 < units.tick_us }
     ensures { (ms : Members) → IfOk table (λ t. table_view t ≡ ms)
         → Gives table_view result
@@ -187,7 +187,7 @@ fn terminal_table(
     defaults: Option<&Table>,
     own: Option<&Table>,
     terminal: Terminal,
-) -> Result<Table, Stopped<StudyFault>>
+) -> Result<Table, Stopped<DocumentFault>>
     requires tick { 0 < units.tick_us }
     requires plain { is_plain_name terminal.name ≡ true }
     ensures { Gives table_view result
@@ -218,7 +218,7 @@ fn channel_table(
     own: Option<&Table>,
     terminals: &[Terminal],
     channel: Channel,
-) -> Result<Table, Stopped<StudyFault>>
+) -> Result<Table, Stopped<DocumentFault>>
     requires tick { 0 < units.tick_us }
     requires plain { are_plain_names terminals.now ≡ true }
     requires from { channel.from < length terminals.now }
@@ -244,7 +244,7 @@ fn terminal_tables(
     defaults: Option<&Table>,
     terminals: &[Terminal],
     top: &Table,
-) -> Result<Vec<Value>, Stopped<StudyFault>>
+) -> Result<Vec<Value>, Stopped<DocumentFault>>
     requires tick { 0 < units.tick_us }
     requires plain { are_plain_names terminals.now ≡ true }
     ensures { Gives (λ vs. map view vs.items) result
@@ -262,7 +262,7 @@ fn each_terminal(
     defaults: Option<&Table>,
     own: Option<&Table>,
     terminals: &[Terminal],
-) -> Result<Vec<Value>, Stopped<StudyFault>>
+) -> Result<Vec<Value>, Stopped<DocumentFault>>
     requires tick { 0 < units.tick_us }
     requires plain { are_plain_names terminals.now ≡ true }
     ensures { Gives (λ vs. map view vs.items) result
@@ -296,7 +296,7 @@ fn channel_tables(
     defaults: Option<&Table>,
     terminals: &[Terminal],
     top: &Table,
-) -> Result<Vec<Value>, Stopped<StudyFault>>
+) -> Result<Vec<Value>, Stopped<DocumentFault>>
     requires tick { 0 < units.tick_us }
     requires plain { are_plain_names terminals.now ≡ true }
     requires count { (2 ≤ length terminals.now) × (length terminals.now ≤ 3) }
@@ -323,7 +323,7 @@ fn each_channel(
     own: Option<&Table>,
     terminals: &[Terminal],
     channels: &[Channel],
-) -> Result<Vec<Value>, Stopped<StudyFault>>
+) -> Result<Vec<Value>, Stopped<DocumentFault>>
     requires tick { 0 < units.tick_us }
     requires plain { are_plain_names terminals.now ≡ true }
     requires count { (2 ≤ length terminals.now) × (length terminals.now ≤ 3) }
@@ -356,7 +356,7 @@ fn channel_names(alloc: Global, terminals: &[Terminal]) -> Result<Vec<Name>, Mem
 
 /// How many microseconds a tick has, and how many hertz the system.
 #[tactic(auto, unfolding(crate::specs::study::LineTables::units_of))]
-pub fn units(top: &Table) -> Result<Units, StudyFault>
+pub fn units(top: &Table) -> Result<Units, DocumentFault>
     ensures units { result ≡ units_of (table_view top.now) }
     ensures tick { IfOk result (λ units. 0 < units.tick_us) }
 {
@@ -368,7 +368,7 @@ pub fn units(top: &Table) -> Result<Units, StudyFault>
 
 // The horizon, rounded up.
 #[tactic(auto, unfolding(crate::specs::study::LineTables::horizon_of))]
-fn horizon(units: Units, top: &Table) -> Result<u32, StudyFault>
+fn horizon(units: Units, top: &Table) -> Result<u32, DocumentFault>
     requires { 0 < units.tick_us }
     ensures { result ≡ horizon_of units (table_view top.now) }
 {
@@ -408,7 +408,7 @@ fn head(
 
 // The head of the line file.
 #[tactic(auto, unfolding(crate::specs::study::LineTables::line_head))]
-fn line_head(alloc: Global, units: Units, top: &Table) -> Result<Table, Stopped<StudyFault>>
+fn line_head(alloc: Global, units: Units, top: &Table) -> Result<Table, Stopped<DocumentFault>>
     requires { 0 < units.tick_us }
     ensures { Gives table_view result (line_head units (table_view top.now)) }
 {
@@ -426,7 +426,7 @@ fn put_tables(
     terminals: &[Terminal],
     top: &Table,
     table: &mut Table,
-) -> Result<(), Stopped<StudyFault>>
+) -> Result<(), Stopped<DocumentFault>>
     requires tick { 0 < units.tick_us }
     requires plain { are_plain_names terminals.now ≡ true }
     requires count { (2 ≤ length terminals.now) × (length terminals.now ≤ 3) }
@@ -443,7 +443,7 @@ fn put_tables(
 
 // The line file of a study, as a table.
 #[tactic(auto, unfolding(crate::specs::study::LineTables::line_table))]
-fn line_table(alloc: Global, units: Units, top: &Table) -> Result<Table, Stopped<StudyFault>>
+fn line_table(alloc: Global, units: Units, top: &Table) -> Result<Table, Stopped<DocumentFault>>
     requires { 0 < units.tick_us }
     ensures { Gives table_view result (line_table units (table_view top.now)) }
 {
@@ -474,24 +474,24 @@ fn in_line(path: &[u8]) -> Path
 }
 
 // A fault of the line file as one of the study.
-fn as_study(why: LineFault) -> StudyFault
+fn as_study(why: LineFault) -> DocumentFault
     ensures { result ≡ as_study why }
 {
     match why {
-        LineFault::NotToml => StudyFault::NotToml,
-        LineFault::Unknown(path) => StudyFault::Unknown(in_line(path.bytes())),
-        LineFault::Missing(path) => StudyFault::Missing(in_line(path.bytes())),
-        LineFault::WrongKind(path) => StudyFault::WrongKind(in_line(path.bytes())),
-        LineFault::Range(path) => StudyFault::Range(in_line(path.bytes())),
-        LineFault::BadName(path) => StudyFault::BadName(in_line(path.bytes())),
-        LineFault::Twice(path) => StudyFault::Twice(in_line(path.bytes())),
-        LineFault::Channels(from, _) => StudyFault::Missing(in_line(from.bytes())),
+        LineFault::NotToml => DocumentFault::NotToml,
+        LineFault::Unknown(path) => DocumentFault::Unknown(in_line(path.bytes())),
+        LineFault::Missing(path) => DocumentFault::Missing(in_line(path.bytes())),
+        LineFault::WrongKind(path) => DocumentFault::WrongKind(in_line(path.bytes())),
+        LineFault::Range(path) => DocumentFault::Range(in_line(path.bytes())),
+        LineFault::BadName(path) => DocumentFault::BadName(in_line(path.bytes())),
+        LineFault::Twice(path) => DocumentFault::Twice(in_line(path.bytes())),
+        LineFault::Channels(from, _) => DocumentFault::Missing(in_line(from.bytes())),
     }
 }
 
 /// The line of a study: that of its line file.
 #[tactic(auto, unfolding(crate::specs::study::LineTables::line_of_study))]
-pub fn line(alloc: Global, units: Units, top: &Table) -> Result<Line, Stopped<StudyFault>>
+pub fn line(alloc: Global, units: Units, top: &Table) -> Result<Line, Stopped<DocumentFault>>
     requires { 0 < units.tick_us }
     ensures { Gives line_values result (line_of_study units (table_view top.now)) }
 {

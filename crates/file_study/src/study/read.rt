@@ -7,11 +7,11 @@ ghost use Rattle.base_memory.specs.Gives.{Gives};
 ghost use Rattle.file_study.specs.study.Faults.{fault_values};
 ghost use Rattle.file_study.specs.study.Studies.{study_values, faults_of, study_with, study_in, study_of};
 
-use crate::study::fault::StudyFault;
+use file_document::DocumentFault;
 use crate::study::faults::faults_in;
-use crate::study::keys::{counted, items, number, only, open, text};
+use file_document::keys::{counted, items, number, only, open, text};
 use crate::study::line::{line, terminal_names, units};
-use crate::study::path::Path;
+use file_document::Path;
 use crate::study::stage::SweptFault;
 use crate::study::study::Study;
 use crate::study::units::Units;
@@ -42,7 +42,7 @@ fn faults(
     units: Units,
     line: &Line,
     top: &Table,
-) -> Result<Vec<SweptFault>, Stopped<StudyFault>>
+) -> Result<Vec<SweptFault>, Stopped<DocumentFault>>
     requires { 0 < units.tick_us }
     ensures { Gives (λ v. map fault_values v.items) result
         (faults_of units (line_values line.now) (table_view top.now)) }
@@ -60,7 +60,7 @@ fn study_with(
     title: &str,
     units: Units,
     top: &Table,
-) -> Result<Study, Stopped<StudyFault>>
+) -> Result<Study, Stopped<DocumentFault>>
     requires { 0 < units.tick_us }
     ensures { Gives study_values result (study_with title.now units (table_view top.now)) }
 {
@@ -75,7 +75,7 @@ fn study_with(
 }
 
 #[tactic(auto, unfolding(crate::specs::study::Studies::study_in))]
-fn read_table(alloc: Global, top: &Table) -> Result<Study, Stopped<StudyFault>>
+fn read_table(alloc: Global, top: &Table) -> Result<Study, Stopped<DocumentFault>>
     ensures { Gives study_values result (study_in (table_view top.now)) }
 {
     number(Path::root(), "study", 1, 1, top)?;
@@ -89,7 +89,7 @@ fn read_table(alloc: Global, top: &Table) -> Result<Study, Stopped<StudyFault>>
 /// `NotToml` comes where the bytes are no TOML document. Every other fault tells the first
 /// place, in the order in which a study is read, that is not as it has to be.
 #[tactic(auto, unfolding(crate::specs::study::Studies::study_of))]
-pub fn read_study(alloc: Global, bytes: &[u8]) -> Result<Study, Stopped<StudyFault>>
+pub fn read_study(alloc: Global, bytes: &[u8]) -> Result<Study, Stopped<DocumentFault>>
     ensures { Gives study_values result (study_of bytes.now) }
 {
     let table = open(alloc, bytes)?;

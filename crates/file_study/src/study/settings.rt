@@ -8,9 +8,9 @@ ghost use Rattle.file_study.specs.study.Settings.{time_data, time_in, put_times,
 ghost use Rattle.file_study.specs.study.Settings.{put_settings};
 ghost use Rattle.file_study.specs.study.Settings.{put_optional, put_section, ends_data};
 
-use crate::study::fault::StudyFault;
-use crate::study::keys::{find_in, optional_table};
-use crate::study::path::Path;
+use file_document::DocumentFault;
+use file_document::keys::{find_in, optional_table};
+use file_document::Path;
 use crate::study::ticks::bounds;
 use crate::study::units::Units;
 use base_memory::{Memory, Stopped};
@@ -44,7 +44,7 @@ fn time_value(
     units: Units,
     path: Path,
     text: &str,
-) -> Result<Value, Stopped<StudyFault>>
+) -> Result<Value, Stopped<DocumentFault>>
     requires { 0 < units.tick_us }
     ensures { Gives view result (time_data units path text.now) }
 {
@@ -58,13 +58,13 @@ fn time(
     units: Units,
     path: Path,
     value: &Value,
-) -> Result<Value, Stopped<StudyFault>>
+) -> Result<Value, Stopped<DocumentFault>>
     requires { 0 < units.tick_us }
     ensures { Gives view result (time_in units path (view value.now)) }
 {
     match value {
         Value::String(text) => time_value(alloc, units, path, text.as_str()),
-        _ => Err(Stopped::Fault(StudyFault::WrongKind(path))),
+        _ => Err(Stopped::Fault(DocumentFault::WrongKind(path))),
     }
 }
 
@@ -75,7 +75,7 @@ fn put_times(
     path: Path,
     times: &Table,
     table: &mut Table,
-) -> Result<(), Stopped<StudyFault>>
+) -> Result<(), Stopped<DocumentFault>>
     requires { 0 < units.tick_us }
     ensures { Becomes result (table_view table.new)
         (put_times units path (table_view times.now) (table_view table.old)) }
@@ -93,7 +93,7 @@ fn times(
     units: Units,
     path: Path,
     times: &Table,
-) -> Result<Table, Stopped<StudyFault>>
+) -> Result<Table, Stopped<DocumentFault>>
     requires { 0 < units.tick_us }
     ensures { Gives table_view result (put_times units path (table_view times.now) no_members) }
 {
@@ -108,7 +108,7 @@ fn setting(
     units: Units,
     path: Path,
     value: &Value,
-) -> Result<Value, Stopped<StudyFault>>
+) -> Result<Value, Stopped<DocumentFault>>
     requires { 0 < units.tick_us }
     ensures { Gives view result (setting_in units path (view value.now)) }
 {
@@ -125,7 +125,7 @@ fn put_settings(
     path: Path,
     settings: &Table,
     table: &mut Table,
-) -> Result<(), Stopped<StudyFault>>
+) -> Result<(), Stopped<DocumentFault>>
     requires { 0 < units.tick_us }
     ensures { Becomes result (table_view table.new)
         (put_settings units path (table_view settings.now) (table_view table.old)) }
@@ -143,7 +143,7 @@ fn put_optional(
     path: Path,
     settings: Option<&Table>,
     table: &mut Table,
-) -> Result<(), Stopped<StudyFault>>
+) -> Result<(), Stopped<DocumentFault>>
     requires { 0 < units.tick_us }
     ensures { Becomes result (table_view table.new)
         (put_optional units path (option_map (λ t. table_view t.now) settings.entry)
@@ -164,7 +164,7 @@ pub fn put_section(
     key: &str,
     outer: Option<&Table>,
     table: &mut Table,
-) -> Result<(), Stopped<StudyFault>>
+) -> Result<(), Stopped<DocumentFault>>
     requires { 0 < units.tick_us }
     ensures { Becomes result (table_view table.new)
         (put_section units path key.now (option_map (λ t. table_view t.now) outer.entry)

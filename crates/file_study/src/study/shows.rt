@@ -10,10 +10,10 @@ ghost use Rattle.file_study.specs.study.Shows.{element_of, element_in, is_space,
 ghost use Rattle.file_study.specs.study.Shows.{all_shown, terminal_shows, terminals_show};
 ghost use Rattle.file_study.specs.study.Shows.{channel_called, channel_in, lost_in, all_lost, shows_of};
 
-use crate::study::fault::StudyFault;
-use crate::study::keys::{find, optional_items, text_of};
+use file_document::DocumentFault;
+use file_document::keys::{find, optional_items, text_of};
 use crate::study::line::text_of_name;
-use crate::study::path::Path;
+use file_document::Path;
 use crate::study::stage::Shown;
 use crate::study::ticks::instant;
 use crate::study::units::Units;
@@ -38,12 +38,12 @@ fn element(text: &[u8]) -> Option<Element>
     }
 }
 
-fn element_in(path: Path, text: &[u8]) -> Result<Element, StudyFault>
+fn element_in(path: Path, text: &[u8]) -> Result<Element, DocumentFault>
     ensures { result ≡ element_in path (element_of text.now) }
 {
     match element(text) {
         Some(element) => Ok(element),
-        None => Err(StudyFault::BadName(path)),
+        None => Err(DocumentFault::BadName(path)),
     }
 }
 
@@ -69,7 +69,7 @@ fn behind_space(text: &str) -> &[u8]
 }
 
 // Behind an element: nothing, or `+` and how far into the stage it comes.
-fn shift(upward: bool, units: Units, path: Path, text: &[u8]) -> Result<u32, StudyFault>
+fn shift(upward: bool, units: Units, path: Path, text: &[u8]) -> Result<u32, DocumentFault>
     requires { 0 < units.tick_us }
     ensures { result ≡ shift_in upward units path text.now }
 {
@@ -77,14 +77,14 @@ fn shift(upward: bool, units: Units, path: Path, text: &[u8]) -> Result<u32, Stu
         return Ok(0);
     }
     if text[0] != b'+' {
-        return Err(StudyFault::BadName(path));
+        return Err(DocumentFault::BadName(path));
     }
     instant(upward, units, path, &text[1..])
 }
 
 // An element at terminal k, as `z1` or `z1 +12 ms`.
 #[tactic(auto, unfolding(crate::specs::study::Shows::shown_in))]
-fn shown(upward: bool, units: Units, k: u32, path: Path, value: &Value) -> Result<Shown, StudyFault>
+fn shown(upward: bool, units: Units, k: u32, path: Path, value: &Value) -> Result<Shown, DocumentFault>
     requires { 0 < units.tick_us }
     ensures { result ≡ shown_in upward units k path (view value.now) }
 {
@@ -108,7 +108,7 @@ fn push_shown(
     path: Path,
     items: &[Value],
     shows: &mut Vec<Shown>,
-) -> Result<(), Stopped<StudyFault>>
+) -> Result<(), Stopped<DocumentFault>>
     requires { 0 < units.tick_us }
     ensures { Becomes result shows.new.items
         (all_shown upward units k path 0 (items_view items.now) shows.old.items) }
@@ -130,7 +130,7 @@ fn push_terminal(
     k: u32,
     terminal: Terminal,
     shows: &mut Vec<Shown>,
-) -> Result<(), Stopped<StudyFault>>
+) -> Result<(), Stopped<DocumentFault>>
     requires tick { 0 < units.tick_us }
     requires plain { is_plain_name terminal.name ≡ true }
     ensures { Becomes result shows.new.items
@@ -150,7 +150,7 @@ fn push_terminals(
     table: &Table,
     terminals: &[Terminal],
     shows: &mut Vec<Shown>,
-) -> Result<(), Stopped<StudyFault>>
+) -> Result<(), Stopped<DocumentFault>>
     requires tick { 0 < units.tick_us }
     requires plain { are_plain_names terminals.now ≡ true }
     requires few { length terminals.now ≤ 3 }
@@ -166,7 +166,7 @@ fn push_terminals(
 
 // A channel that is lost.
 #[tactic(auto, unfolding(crate::specs::study::Shows::lost_in))]
-fn lost(line: &Line, path: Path, value: &Value) -> Result<Shown, StudyFault>
+fn lost(line: &Line, path: Path, value: &Value) -> Result<Shown, DocumentFault>
     ensures { result ≡ lost_in (line_values line.now) path (view value.now) }
 {
     let text = text_of(path, value)?;
@@ -175,7 +175,7 @@ fn lost(line: &Line, path: Path, value: &Value) -> Result<Shown, StudyFault>
             what: What::Loss(channel),
             after: 0,
         }),
-        None => Err(StudyFault::BadName(path)),
+        None => Err(DocumentFault::BadName(path)),
     }
 }
 
@@ -185,7 +185,7 @@ fn push_lost(
     path: Path,
     items: &[Value],
     shows: &mut Vec<Shown>,
-) -> Result<(), Stopped<StudyFault>>
+) -> Result<(), Stopped<DocumentFault>>
     ensures { Becomes result shows.new.items
         (all_lost (line_values line.now) path 0 (items_view items.now) shows.old.items) }
 {
@@ -206,7 +206,7 @@ pub fn shows(
     line: &Line,
     path: Path,
     table: &Table,
-) -> Result<Vec<Shown>, Stopped<StudyFault>>
+) -> Result<Vec<Shown>, Stopped<DocumentFault>>
     requires { 0 < units.tick_us }
     ensures { Gives (λ v. v.items) result
         (shows_of upward units (line_values line.now) path (table_view table.now)) }

@@ -9,8 +9,8 @@ ghost use Rattle.file_study.specs.study.Moments.{told, is_instant, instant_in, s
 ghost use Rattle.file_study.specs.study.Moments.{moments_of};
 ghost use Rattle.file_study.specs.times.Times.{time_of};
 
-use crate::study::fault::StudyFault;
-use crate::study::path::Path;
+use file_document::DocumentFault;
+use file_document::Path;
 use crate::study::units::Units;
 use crate::times::{Fraction, Interval, Sweep, Time, read_time};
 use base_memory::Stopped;
@@ -48,30 +48,30 @@ fn rounded(upward: bool, tick_us: u32, time: Fraction) -> u128
 }
 
 // At most 4,000 ticks.
-fn limited(path: Path, ticks: u128) -> Result<u32, StudyFault>
+fn limited(path: Path, ticks: u128) -> Result<u32, DocumentFault>
     ensures is { result ≡ limited path ticks }
     ensures few { IfOk result (λ n. n ≤ 4000) }
 {
     if ticks <= 4000 {
         Ok(ticks as u32)
     } else {
-        Err(StudyFault::Range(path))
+        Err(DocumentFault::Range(path))
     }
 }
 
 // What the text of a time says.
-fn told(path: Path, hertz: Option<u32>, text: &[u8]) -> Result<Time, StudyFault>
+fn told(path: Path, hertz: Option<u32>, text: &[u8]) -> Result<Time, DocumentFault>
     ensures is { result ≡ told path (time_of hertz text.now) }
     ensures readable { IfOk result IsReadable }
 {
     match read_time(text, hertz) {
         Ok(time) => Ok(time),
-        Err(why) => Err(StudyFault::BadTime(path, why)),
+        Err(why) => Err(DocumentFault::BadTime(path, why)),
     }
 }
 
 // An interval in ticks, rounded outward.
-fn bounds_in(tick_us: u32, path: Path, time: Time) -> Result<Bounds, StudyFault>
+fn bounds_in(tick_us: u32, path: Path, time: Time) -> Result<Bounds, DocumentFault>
     requires tick { 0 < tick_us }
     requires readable { IsReadable time }
     ensures { result ≡ bounds_in tick_us path time }
@@ -82,13 +82,13 @@ fn bounds_in(tick_us: u32, path: Path, time: Time) -> Result<Bounds, StudyFault>
             let greatest = limited(path, up(tick_us, ends.greatest))?;
             Ok(Bounds { least, greatest })
         }
-        Time::Sweep(_) => Err(StudyFault::Swept(path)),
+        Time::Sweep(_) => Err(DocumentFault::Swept(path)),
     }
 }
 
 /// The interval of a text in ticks, rounded outward.
 #[tactic(auto, unfolding(crate::specs::study::Moments::bounds_of))]
-pub fn bounds(units: Units, path: Path, text: &[u8]) -> Result<Bounds, StudyFault>
+pub fn bounds(units: Units, path: Path, text: &[u8]) -> Result<Bounds, DocumentFault>
     requires { 0 < units.tick_us }
     ensures { result ≡ bounds_of units path text.now }
 {
@@ -102,7 +102,7 @@ fn is_instant(ends: Interval) -> bool
     ends.least.over == ends.greatest.over && ends.least.under == ends.greatest.under
 }
 
-fn instant_at(upward: bool, tick_us: u32, path: Path, ends: Interval) -> Result<u32, StudyFault>
+fn instant_at(upward: bool, tick_us: u32, path: Path, ends: Interval) -> Result<u32, DocumentFault>
     requires tick { 0 < tick_us }
     requires least { IsEnd ends.least }
     ensures is { result ≡ instant_at upward tick_us path ends }
@@ -111,11 +111,11 @@ fn instant_at(upward: bool, tick_us: u32, path: Path, ends: Interval) -> Result<
     if is_instant(ends) {
         limited(path, rounded(upward, tick_us, ends.least))
     } else {
-        Err(StudyFault::NoInstant(path))
+        Err(DocumentFault::NoInstant(path))
     }
 }
 
-fn instant_in(upward: bool, tick_us: u32, path: Path, time: Time) -> Result<u32, StudyFault>
+fn instant_in(upward: bool, tick_us: u32, path: Path, time: Time) -> Result<u32, DocumentFault>
     requires tick { 0 < tick_us }
     requires readable { IsReadable time }
     ensures is { result ≡ instant_in upward tick_us path time }
@@ -123,13 +123,13 @@ fn instant_in(upward: bool, tick_us: u32, path: Path, time: Time) -> Result<u32,
 {
     match time {
         Time::Interval(ends) => instant_at(upward, tick_us, path, ends),
-        Time::Sweep(_) => Err(StudyFault::Swept(path)),
+        Time::Sweep(_) => Err(DocumentFault::Swept(path)),
     }
 }
 
 /// The instant of a text in ticks, rounded up or down.
 #[tactic(auto, unfolding(crate::specs::study::Moments::instant_of))]
-pub fn instant(upward: bool, units: Units, path: Path, text: &[u8]) -> Result<u32, StudyFault>
+pub fn instant(upward: bool, units: Units, path: Path, text: &[u8]) -> Result<u32, DocumentFault>
     requires { 0 < units.tick_us }
     ensures is { result ≡ instant_of upward units path text.now }
     ensures few { IfOk result (λ n. n ≤ 4000) }
@@ -146,7 +146,7 @@ pub fn moments(
     units: Units,
     path: Path,
     text: &[u8],
-) -> Result<Vec<u32>, Stopped<StudyFault>>
+) -> Result<Vec<u32>, Stopped<DocumentFault>>
     requires { 0 < units.tick_us }
     ensures { Gives (λ v. v.items) result (moments_of upward units path text.now) }
 {
@@ -167,14 +167,14 @@ fn swept(
     tick_us: u32,
     path: Path,
     sweep: Sweep,
-) -> Result<Vec<u32>, Stopped<StudyFault>>
+) -> Result<Vec<u32>, Stopped<DocumentFault>>
     requires tick { 0 < tick_us }
     requires swept { IsSwept sweep }
     ensures { Gives (λ v. v.items) result (swept_in upward tick_us path sweep) }
 {
     let count = sweep.count();
     if count > 1000 {
-        return Err(Stopped::Fault(StudyFault::TooMany(path)));
+        return Err(Stopped::Fault(DocumentFault::TooMany(path)));
     }
     let mut values = Vec::new(alloc);
     for i in 0..count as u32 {

@@ -4,10 +4,11 @@ ghost use Rattle.std.specs.Prelude.{◌≡◌, ◌&&◌, IfOk, IfSome, is_some, 
 ghost use Rattle.std.specs.List.{All};
 ghost use Rattle.model_line.specs.Fits.{Fits};
 ghost use Rattle.file_tables.specs.{script.SoFar.AreOnce, script.Values.values_of};
-ghost use Rattle.file_study.specs.sweeps.Parts.{AreReadBack, SaysScripts, is_part, part, parts_of};
+ghost use Rattle.file_tables.specs.script.ReadBack.{SaysScripts};
+ghost use Rattle.file_study.specs.sweeps.Parts.{is_part, part, parts_of};
 ghost use Rattle.file_study.specs.sweeps.Studies.{script_names};
 
-use file_tables::script::print_scripts;
+use file_tables::script::{print_scripts, printed_scripts_are_read_back};
 use model_line::{Line, Memory, Script};
 use std::alloc::Global;
 
@@ -70,8 +71,3 @@ pub fn part_text(
         None => Ok(None),
     }
 }
-
-/// What is printed of scripts that fit a line and may stand in one file is read back as them.
-pub fn printed_scripts_are_read_back()
-    ensures { AreReadBack }
-{}

@@ -3,7 +3,7 @@
 ghost use Rattle.std.specs.Prelude.{◌≡◌};
 ghost use Rattle.file_study.specs.times.AxisWords.{part_words, time_words as words_for, what_words};
 
-use crate::times::fault::TimeFault;
+use file_document::TimeFault;
 
 /// One of the three numbers of an axis.
 #[derive(Clone, Copy)]

@@ -8,7 +8,7 @@ ghost use Rattle.file_study.specs.times.Numbers.{is_number, is_parted_well};
 ghost use Rattle.file_study.specs.times.Numbers.{number_in};
 ghost use Rattle.file_study.specs.times.Fractions.{IsOfSize};
 
-use crate::times::fault::TimeFault;
+use file_document::TimeFault;
 use crate::times::fraction::Fraction;
 use base_text::lines::find_byte;
 

@@ -12,7 +12,7 @@ ghost use Rattle.file_study.specs.times.Times.{stepped, behind_ends, ends_at, be
 ghost use Rattle.file_study.specs.times.Times.{behind_number};
 ghost use Rattle.file_study.specs.times.Times.{first_number, time_of, IsEnd, IsMeasured, IsReadable};
 
-use crate::times::fault::TimeFault;
+use file_document::TimeFault;
 use crate::times::fraction::Fraction;
 use crate::times::number::number_in;
 use crate::times::time::{Interval, Sweep, Time};

@@ -4,7 +4,7 @@ ghost use Rattle.std.specs.Prelude.{◌≡◌, ◌^◌, IfOk};
 ghost use Rattle.file_study.specs.times.Units.{whole, cycle_in, no_unit, unit_in};
 ghost use Rattle.file_study.specs.times.Fractions.{IsOfSize};
 
-use crate::times::fault::TimeFault;
+use file_document::TimeFault;
 use crate::times::fraction::Fraction;
 use crate::times::word::{Sign, is, sign_in};
 

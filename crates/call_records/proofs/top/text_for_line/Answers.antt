@@ -1,7 +1,8 @@
 use Rattle.std.proofs.Common.{◌≡◌, ◌∙◌, ℕ, List, [], Option, None, Some, Result, Err, refl, subst, sym}
 use Rattle.std.proofs.lemmas.Result.{err_from_is_err_and}
 use Rattle.file_records.specs.map.Maps.{MapValues, map_of, map_values}
-use Rattle.file_records.specs.declared.map.{fault.MapFault.MapFault, source.Signal.Signal}
+use Rattle.file_document.specs.declared.fault.DocumentFault.{DocumentFault}
+use Rattle.file_records.specs.declared.map.source.Signal.{Signal}
 use Rattle.call_records.specs.Course.{after_map, map_file, over, recorders_course, unless_untold, untold_by}
 use Rattle.call_records.specs.Faults.{map_refusal, untold_refusal}
 use Rattle.call_records.specs.{Files.Runs, Read.text_seen}
@@ -55,7 +56,7 @@ returns-in-Some g c =
     sym c.untold.ensures ∙ c.in-Some.is in
     runs_next held (map_file ask.map.now) (λ b. after_map ask.work ask.map.now line (map_of line b))
     bytes f.1 f.2 (Err why) c1 c2 c2 f.0
-    (subst (λ (s : Result MapValues MapFault).
+    (subst (λ (s : Result MapValues DocumentFault).
     Runs held c2 c2 (after_map ask.work ask.map.now line s) (Err why)) (sym said)
     (subst (λ (o : Option Signal).
     Runs held c2 c2 (unless_untold o line (recorders_course ask.map.now m.recorders [] (over ask.work line m)))
@@ -80,7 +81,7 @@ returns g c =
     let run = rw c.in_ok-bytes.ensures.held at c.text_for_map.ensures in
     runs_next held (map_file ask.map.now) (λ b. after_map ask.work ask.map.now line (map_of line b))
     bytes f.1 f.2 r c1 c2 c3 f.0
-    (subst (λ (s : Result MapValues MapFault).
+    (subst (λ (s : Result MapValues DocumentFault).
     Runs held c2 c3 (after_map ask.work ask.map.now line s) r) (sym said)
     (subst (λ (o : Option Signal).
     Runs held c2 c3 (unless_untold o line (recorders_course ask.map.now m.recorders [] (over ask.work line m)))

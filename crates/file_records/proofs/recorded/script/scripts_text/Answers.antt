@@ -6,7 +6,7 @@ use Rattle.model_line.specs.declared.script.{Script.Script, SeenSpan.SeenSpan}
 use Rattle.file_records.specs.map.Maps.{map_values}
 use Rattle.file_tables.specs.script.Printed.{file_records, records_text}
 use Rattle.file_tables.specs.{script.SoFar.ValuesFit, script.Values.AreOfOneFile, script.Values.ScriptValues, script.Values.values_of}
-use Rattle.file_study.specs.sweeps.Parts.{SaysScripts}
+use Rattle.file_tables.specs.script.ReadBack.{SaysScripts}
 use Rattle.file_records.specs.tracks.Tracks.{TrackValues, track_values}
 use Rattle.file_records.specs.recorded.Spans.{script_told}
 use Rattle.file_records.proofs.recorded_lemmas.Fitting.{told_fit}

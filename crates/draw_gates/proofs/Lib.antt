@@ -1,0 +1,2 @@
+pub mod dump_lemmas
+pub mod roles_lemmas

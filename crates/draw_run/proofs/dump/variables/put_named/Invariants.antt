@@ -1,9 +1,0 @@
-use Rattle.std.proofs.Common.{◌≡◌, ◌++◌}
-use Rattle.run_changes.specs.rows.PlayRows.{each_below}
-use Rattle.draw_run.specs.dump.Variables.{variable_at}
-use Rattle.draw_run.proofs.dump.variables.put_named.Given as goal
-
-abbrev pub invariant-loop-i : goal.invariant-loop-i
-invariant-loop-i l =
-    l.text.items ≡ l.initial.text.items
-    ++ each_below l.i (variable_at l.compiled.line.now l.compiled.net.now.gates l.k)

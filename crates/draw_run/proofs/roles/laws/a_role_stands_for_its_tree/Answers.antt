@@ -1,8 +1,0 @@
-use Rattle.net_gates.specs.Formulas.{formula_of}
-use Rattle.draw_run.specs.roles.Roles.{tree_of}
-use Rattle.draw_run.proofs.roles_lemmas.TreesCompared.{tree-same}
-use Rattle.draw_run.proofs.roles.laws.a_role_stands_for_its_tree.Goals as goal
-
-pub returns : goal.returns
-returns c = λ line gates role i has.
-    tree-same (formula_of gates i) (tree_of line role) has

@@ -1,6 +1,0 @@
-use Rattle.std.proofs.Common.{◌≡◌, ◌++◌}
-use Rattle.draw_run.specs.{roles.Each.each_of, roles.Roles.channel_roles}
-use Rattle.draw_run.proofs.roles.roles.push_channels.Given as goal
-
-abbrev pub invariant-loop-c : goal.invariant-loop-c
-invariant-loop-c l = l.all.items ≡ l.initial.all.items ++ each_of l.c (channel_roles l.line l.k)

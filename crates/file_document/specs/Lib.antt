@@ -1,0 +1,4 @@
+pub mod PathBytes
+pub mod Paths
+pub mod Keys
+pub mod FaultWords

@@ -1,7 +1,0 @@
-use Rattle.std.proofs.Common.{◌≡◌, drop}
-use Rattle.file_study.specs.study.Paths.{pushed_all}
-use Rattle.file_study.proofs.study.path.Path.push_all.Given as goal
-
-abbrev pub invariant-loop-byte : goal.invariant-loop-byte
-invariant-loop-byte l =
-    pushed_all l.self (drop l.byte-index l.bytes) ≡ pushed_all l.initial.self l.bytes
