@@ -40,11 +40,6 @@ pub fn each(value: bool) -> u64 {
     if value { ALL } else { 0 }
 }
 
-/// The word of this place; none where the list ends before it.
-pub fn word(words: &[u64], place: usize) -> u64 {
-    words.get(place).copied().unwrap_or(0)
-}
-
 /// So many of the first lanes.
 pub fn first(count: u32) -> u64 {
     if count < 64 { !(ALL << count) } else { ALL }

@@ -14,26 +14,6 @@ use model_timing::Timing;
 use run_signal::{Tick, Within};
 use std::alloc::Global;
 
-/// How the delays of a candidate go: all least, all greatest; or each that is read on one rail
-/// leans to it, and the others to the rail that decides, to the other one, or not at all.
-#[derive(Clone, Copy)]
-enum Delays {
-    Least,
-    Greatest,
-    Deciding,
-    Other,
-    Steady,
-}
-
-// in the order in which they are tried
-const DELAYS: [Delays; 5] = [
-    Delays::Least,
-    Delays::Greatest,
-    Delays::Deciding,
-    Delays::Other,
-    Delays::Steady,
-];
-
 /// How many candidates a box has.
 pub const CANDIDATES: u32 = 20;
 
@@ -49,20 +29,33 @@ enum Way {
 /// in the middle, or at the least; the delays in five ways. The first that does not meet the
 /// obligation, as far as this looks.
 pub fn failing(alloc: Global, scene: &Scene, ends: &[Within]) -> Result<Option<Timing>, Memory> {
-    let outlook = look_at_candidates(alloc, scene, ends)?;
-    match first_failing(scene, &outlook) {
-        Some(lane) => Ok(Some(timing_of(alloc, scene, ends, &outlook, lane)?)),
-        None => Ok(None),
-    }
+    let mut views = Views64::bare(alloc, first(CANDIDATES));
+    failing_in(alloc, scene, ends, &mut views)
+}
+
+// The first that does not meet the obligation, looked at in these views.
+fn failing_in(
+    alloc: Global,
+    scene: &Scene,
+    ends: &[Within],
+    views: &mut Views64,
+) -> Result<Option<Timing>, Memory> {
+    let outlook = look_at_candidates(alloc, scene, ends, views)?;
+    first_timing(alloc, scene, ends, &outlook)
 }
 
 // Looks at all candidates, a lane for each.
-fn look_at_candidates(alloc: Global, scene: &Scene, ends: &[Within]) -> Result<Outlook64, Memory> {
-    let mut views = Views64::new(alloc, scene.line, ends, first(CANDIDATES))?;
+fn look_at_candidates(
+    alloc: Global,
+    scene: &Scene,
+    ends: &[Within],
+    views: &mut Views64,
+) -> Result<Outlook64, Memory> {
+    views.begin(scene.line, ends)?;
     for lane in 0..CANDIDATES {
-        put_candidate(scene, ends, lane, &mut views);
+        put_candidate(scene, ends, lane, views);
     }
-    look_ahead(alloc, scene, &views)
+    look_ahead(alloc, scene, views)
 }
 
 // The first candidate that does not meet the obligation.
@@ -93,39 +86,46 @@ fn put_candidate(scene: &Scene, ends: &[Within], lane: u32, views: &mut Views64)
     }
 }
 
-// The timing of a candidate, its delays as they went in its lane.
-fn timing_of(
+// The timing of the first candidate that does not meet the obligation, its delays as they went in
+// its lane.
+fn first_timing(
     alloc: Global,
     scene: &Scene,
     ends: &[Within],
     outlook: &Outlook64,
-    lane: u32,
-) -> Result<Timing, Memory>
-    requires { lane < 64 }
-{
+) -> Result<Option<Timing>, Memory> {
+    let Some(lane) = first_failing(scene, outlook) else {
+        return Ok(None);
+    };
     let mut timing = Timing::new(values_of(alloc, scene, ends, lane)?);
     push_channels(alloc, scene, ends, outlook, lane, &mut timing)?;
-    Ok(timing)
+    Ok(Some(timing))
 }
 
 // The numbers of a candidate: a delay that moves begins at its least.
 fn values_of(alloc: Global, scene: &Scene, ends: &[Within], lane: u32) -> Result<Vec<Tick>, Memory>
     requires { lane < 64 }
 {
-    let mut values = Vec::new(alloc);
-    for param in 0..scene.line.param_count() {
-        values.push(tick(number_in(scene, ends, lane, param)))?;
+    let params = scene.line.param_count();
+    let mut values = vec![in alloc; Tick::new(0); params as usize]?;
+    for param in 0..params {
+        put_value(&mut values, param, number_in(scene, ends, lane, param));
     }
     for channel in 0..scene.line.channels.len() {
         let param = scene.line.delay_of(channel as u32);
-        if let Some(value) = values.get_mut(param as usize) {
-            *value = match way_in(scene, ends, lane, channel as u32) {
-                Way::Fixed(delay) => tick(delay),
-                Way::Leans { .. } => tick(ends_at(ends, param).least()),
-            };
-        }
+        let delay = match way_in(scene, ends, lane, channel as u32) {
+            Way::Fixed(delay) => delay,
+            Way::Leans { .. } => ends_at(ends, param).least(),
+        };
+        put_value(&mut values, param, delay);
     }
     Ok(values)
+}
+
+fn put_value(values: &mut Vec<Tick>, param: u32, number: u32) {
+    if let Some(value) = values.get_mut(param as usize) {
+        *value = Tick::new(number.min(4000));
+    }
 }
 
 // Adds the steps of each channel's delay, if it moves.
@@ -162,24 +162,23 @@ fn push_channel(
         return Ok(());
     };
     let param = scene.line.delay_of(channel);
+    let delay = ends_at(ends, param);
     let leaning = Leaning {
-        from: scene.line.channels[channel as usize].from,
         param,
-        least: ends_at(ends, param).least(),
-        greatest: ends_at(ends, param).greatest(),
+        least: delay.least(),
+        greatest: delay.greatest(),
         on: may,
     };
     let horizon = scene.line.horizon;
-    let keys = outlook.keys(alloc, leaning.from, lane, horizon)?;
+    let from = scene.line.channels[channel as usize].from;
+    let keys = outlook.keys(alloc, from, lane, horizon)?;
     push_moves(&keys, horizon, leaning, timing)
 }
 
 // The number of a parameter in a candidate.
 fn number_in(scene: &Scene, ends: &[Within], lane: u32, param: u32) -> u32 {
-    let (least, greatest) = (
-        ends_at(ends, param).least(),
-        ends_at(ends, param).greatest(),
-    );
+    let own = ends_at(ends, param);
+    let (least, greatest) = (own.least(), own.greatest());
     let on = scene.reads.param(param);
     let may = if on.must == on.may {
         match lane / 5 {
@@ -198,31 +197,28 @@ fn number_in(scene: &Scene, ends: &[Within], lane: u32, param: u32) -> u32 {
     }
 }
 
-// How a channel's delay goes in a candidate.
+// How a channel's delay goes in a candidate, in the order in which they are tried: all least, all
+// greatest; or each that is read on one rail leans to it, and the others to the rail that decides,
+// to the other one, or not at all.
 fn way_in(scene: &Scene, ends: &[Within], lane: u32, channel: u32) -> Way
     requires { channel < channel_count scene.now.line.now }
 {
     let param = scene.line.delay_of(channel);
     let on = scene.reads.param(param);
-    let delays = DELAYS[(lane % 5) as usize];
-    match delays {
-        Delays::Least => Way::Fixed(ends_at(ends, param).least()),
-        Delays::Greatest => Way::Fixed(ends_at(ends, param).greatest()),
+    match lane % 5 {
+        0 => Way::Fixed(ends_at(ends, param).least()),
+        1 => Way::Fixed(ends_at(ends, param).greatest()),
         _ if on.must != on.may => Way::Leans { may: on.may },
-        Delays::Deciding => Way::Leans {
+        2 => Way::Leans {
             may: decides_on_may(scene),
         },
-        Delays::Other => Way::Leans {
+        3 => Way::Leans {
             may: !decides_on_may(scene),
         },
-        Delays::Steady => Way::Fixed(number_in(scene, ends, lane, param)),
+        _ => Way::Fixed(number_in(scene, ends, lane, param)),
     }
 }
 
 fn decides_on_may(scene: &Scene) -> bool {
     scene.script.kind == Kind::External
-}
-
-fn tick(number: u32) -> Tick {
-    Tick::new(number.min(4000))
 }

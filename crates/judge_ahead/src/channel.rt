@@ -4,7 +4,8 @@ ghost use Rattle.std.specs.Prelude.{◌<◌};
 
 use crate::bits::{lowest, only, rest};
 use crate::marks::Marks;
-use crate::timer::{Timer64, Times64};
+use crate::pair::Pair64;
+use crate::rails::{Rails64, Timers64};
 use model_line::Memory;
 use std::alloc::Global;
 
@@ -15,61 +16,70 @@ use std::alloc::Global;
 #[derive(Clone, Copy)]
 pub struct Window64 {
     pub base: [u16; 64],
-    pub must: Times64,
-    pub may: Times64,
+    pub rails: Rails64,
 }
 
-/// One rail of a channel.
+/// A channel, with what goes over it on both rails.
 #[derive(Drop)]
-pub struct Received64 {
+pub struct Channel64 {
     base: [u16; 64],
-    sent: u64,
-    delayed: u64,
+    sent: Pair64,
+    delayed: Pair64,
     /// The lanes in which the delayed key changes, at each of the next ticks, in a ring.
-    changes: Vec<u64>,
-    timer: Timer64,
+    changes: Vec<Pair64>,
+    timers: Timers64,
+    arrived: Pair64,
 }
 
-impl Received64 {
-    /// The rail before the first tick; the key was off.
-    pub fn new(alloc: Global, base: [u16; 64], times: Times64) -> Result<Received64, Memory> {
-        let changes = vec![in alloc; 0u64; greatest(base) as usize + 1]?;
-        Ok(Received64 {
-            base,
-            sent: 0,
-            delayed: 0,
+impl Channel64 {
+    /// The channel before the first tick; the key was off.
+    pub fn new(alloc: Global, window: &Window64) -> Result<Channel64, Memory> {
+        let ticks = greatest(window.base) as usize + 1;
+        let changes = vec![in alloc; Pair64::OFF; ticks]?;
+        Ok(Channel64 {
+            base: window.base,
+            sent: Pair64::OFF,
+            delayed: Pair64::OFF,
             changes,
-            timer: Timer64::new(times),
+            timers: Timers64::new(&window.rails),
+            arrived: Pair64::OFF,
         })
     }
 
-    /// What arrives at a tick in these lanes, after all ticks before that were marked.
-    pub fn arrive(&mut self, t: u32, lanes: u64, marks: &mut Marks) -> u64
+    /// What arrived last.
+    pub fn arrived(&self) -> Pair64 {
+        self.arrived
+    }
+
+    /// Takes what arrives at a tick in these lanes, after all ticks before that were marked, and
+    /// tells whether it is something else in some lane.
+    pub fn arrive(&mut self, t: u32, lanes: u64, marks: &mut Marks) -> bool
         requires { t < 4000 }
     {
         let place = self.place(t);
         if let Some(changed) = self.changes.get_mut(place) {
-            self.delayed ^= *changed;
-            *changed = 0;
+            self.delayed = self.delayed.turns(*changed);
+            *changed = Pair64::OFF;
         }
-        let arrives = self.timer.feed(t, self.delayed, lanes);
-        marks.put(self.timer.due());
-        arrives
+        let before = self.arrived;
+        self.arrived = self.timers.feed(t, self.delayed, lanes, marks);
+        before.turns(self.arrived).lanes() & lanes != 0
     }
 
     /// The key at a tick in these lanes. No delay is 0. The ticks at which it comes are marked.
-    pub fn send(&mut self, t: u32, key: u64, lanes: u64, marks: &mut Marks)
+    pub fn send(&mut self, t: u32, key: Pair64, lanes: u64, marks: &mut Marks)
         requires { t < 4000 }
     {
-        let mut changed = (key ^ self.sent) & lanes;
-        self.sent ^= changed;
+        let turns = self.sent.turns(key);
+        let mut changed = turns.lanes() & lanes;
+        self.sent = key;
         'lanes: while changed != 0 {
             let lane = lowest(changed);
             changed = rest(changed);
             let comes = t + self.base[lane as usize] as u32;
             let place = self.place(comes);
             if let Some(turned) = self.changes.get_mut(place) {
-                *turned ^= only(lane);
+                *turned = turned.turns(turns.within(only(lane)));
             }
             marks.put(comes);
         }
@@ -77,11 +87,7 @@ impl Received64 {
 
     // The place of a tick in the ring.
     fn place(&self, t: u32) -> usize {
-        let ticks = self.changes.len();
-        if ticks == 0 {
-            return 0;
-        }
-        t as usize % ticks
+        t as usize % self.changes.len().max(1)
     }
 }
 

@@ -1,9 +1,11 @@
 //! Where a view is cut in two.
 
-ghost use Rattle.std.specs.Prelude.{◌<◌, ◌+◌};
+ghost use Rattle.std.specs.Prelude.{◌<◌, ◌≤◌, ◌+◌, length};
+ghost use Rattle.model_line.specs.Parameters.{param_count};
 
 use crate::bits::{ALL, first, only};
 use crate::case::{Assumed, Case};
+use crate::lists::push;
 use crate::outlook::{Outlook64, Score};
 use crate::run::look_ahead;
 use crate::scene::Scene;
@@ -47,8 +49,7 @@ pub fn side_of(
     ends: &[Within],
     assumed: &[Assumed],
 ) -> Result<Side, Memory> {
-    let views = views_of(alloc, scene, ends, assumed, 1)?;
-    let outlook = look_ahead(alloc, scene, &views)?;
+    let outlook = look_at(alloc, scene, ends, assumed, 1, &[])?;
     side_in(alloc, scene, &outlook, 0)
 }
 
@@ -61,20 +62,38 @@ pub fn cuts_of(
     cases: &[Case],
 ) -> Result<Vec<Cut>, Memory> {
     let mut cuts = Vec::new(alloc);
+    push_cuts(scene, ends, cases, &mut cuts)?;
+    Ok(cuts)
+}
+
+fn push_cuts(
+    scene: &Scene,
+    ends: &[Within],
+    cases: &[Case],
+    cuts: &mut Vec<Cut>,
+) -> Result<(), Memory> {
     for case in cases {
-        cuts.push(Cut::Case(*case))?;
+        push(cuts, Cut::Case(*case))?;
     }
     for param in 0..scene.line.param_count() {
-        let (least, greatest) = (
-            ends_at(ends, param).least(),
-            ends_at(ends, param).greatest(),
-        );
-        if least < greatest && !scene.line.is_delay(param) && scene.reads.param(param).is_both() {
-            let mid = least + (greatest - least) / 2;
-            cuts.push(Cut::Split { param, mid })?;
+        if let Some(mid) = mid_of(scene, ends, param) {
+            push(cuts, Cut::Split { param, mid })?;
         }
     }
-    Ok(cuts)
+    Ok(())
+}
+
+// Where the lower half of a parameter ends, if it is to be split.
+fn mid_of(scene: &Scene, ends: &[Within], param: u32) -> Option<u32>
+    requires { param < param_count scene.now.line.now }
+{
+    let own = ends_at(ends, param);
+    let (least, greatest) = (own.least(), own.greatest());
+    if least < greatest && !scene.line.is_delay(param) && scene.reads.param(param).is_both() {
+        Some(least + (greatest - least) / 2)
+    } else {
+        None
+    }
 }
 
 /// The cuts at a tick beside a case.
@@ -82,7 +101,7 @@ pub fn cuts_beside(alloc: Global, cuts: &[Cut], last: Case) -> Result<Vec<Cut>, 
     let mut near = Vec::new(alloc);
     for cut in cuts {
         if is_beside(*cut, last) {
-            near.push(*cut)?;
+            push(&mut near, *cut)?;
         }
     }
     Ok(near)
@@ -99,9 +118,9 @@ pub fn choose(
     score: Score,
     settling: bool,
 ) -> Result<Option<Chosen>, Memory> {
-    let outlooks = look_at_all(alloc, scene, ends, assumed, cuts)?;
-    let trials = trials_of(alloc, scene, cuts, &outlooks)?;
-    match best_of(&trials, score, settling) {
+    let mut outlooks = Vec::new(alloc);
+    look_at_all(alloc, scene, ends, assumed, cuts, &mut outlooks)?;
+    match best_of(scene, cuts, &outlooks, score, settling) {
         Some(place) => chosen_at(alloc, scene, cuts, &outlooks, place),
         None => Ok(None),
     }
@@ -114,55 +133,69 @@ fn look_at_all(
     ends: &[Within],
     assumed: &[Assumed],
     cuts: &[Cut],
-) -> Result<Vec<Outlook64>, Memory> {
-    let mut outlooks = Vec::new(alloc);
+    outlooks: &mut Vec<Outlook64>,
+) -> Result<(), Memory> {
     for block in 0..cuts.len() / BLOCK + 1 {
-        outlooks.push(look_at_block(alloc, scene, ends, assumed, cuts, block * BLOCK)?)?;
+        let from = block * BLOCK;
+        let to = cuts.len().min(from + BLOCK);
+        let lanes = 2 * (to - from) as u32;
+        push(
+            outlooks,
+            look_at(alloc, scene, ends, assumed, lanes, &cuts[from..to])?,
+        )?;
     }
-    Ok(outlooks)
+    Ok(())
 }
 
 // Which of them helps most.
-fn best_of(trials: &[Trial], score: Score, settling: bool) -> Option<usize> {
-    let best = best_settling(trials, score);
+fn best_of(
+    scene: &Scene,
+    cuts: &[Cut],
+    outlooks: &[Outlook64],
+    score: Score,
+    settling: bool,
+) -> Option<usize> {
+    let best = best_settling(scene, cuts, outlooks, score);
     if best.is_none() && !settling {
-        return least_sum(trials, score);
+        return least_sum(scene, cuts, outlooks, score);
     }
     best
 }
 
-// The views of a block of cuts: two lanes for each.
-fn look_at_block(
-    alloc: Global,
-    scene: &Scene,
-    ends: &[Within],
-    assumed: &[Assumed],
-    cuts: &[Cut],
-    from: usize,
-) -> Result<Outlook64, Memory> {
-    let count = cuts.len().saturating_sub(from).min(BLOCK) as u32;
-    let mut views = views_of(alloc, scene, ends, assumed, 2 * count)?;
-    for place in 0..BLOCK {
-        if let Some(cut) = cuts.get(from.saturating_add(place)) {
-            put_cut(ends, *cut, 2 * place as u32, &mut views)?;
-        }
-    }
-    look_ahead(alloc, scene, &views)
-}
-
-// The view in so many lanes.
-fn views_of(
+// Looks at a view in so many lanes, with two of them for each of a few cuts.
+fn look_at(
     alloc: Global,
     scene: &Scene,
     ends: &[Within],
     assumed: &[Assumed],
     lanes: u32,
-) -> Result<Views64, Memory> {
-    let mut views = Views64::new(alloc, scene.line, ends, first(lanes))?;
+    cuts: &[Cut],
+) -> Result<Outlook64, Memory>
+    requires { length cuts.now ≤ 32 }
+{
+    let mut views = Views64::bare(alloc, first(lanes));
+    look_in(alloc, scene, ends, assumed, cuts, &mut views)
+}
+
+// Looks at it in these views.
+fn look_in(
+    alloc: Global,
+    scene: &Scene,
+    ends: &[Within],
+    assumed: &[Assumed],
+    cuts: &[Cut],
+    views: &mut Views64,
+) -> Result<Outlook64, Memory>
+    requires { length cuts.now ≤ 32 }
+{
+    views.begin(scene.line, ends)?;
     for one in assumed {
         views.assume(ALL, *one)?;
     }
-    Ok(views)
+    for place in 0..cuts.len() {
+        put_cut(ends, cuts[place], 2 * place as u32, views)?;
+    }
+    look_ahead(alloc, scene, views)
 }
 
 // Puts the sides of a cut into a lane and the next.
@@ -171,12 +204,9 @@ fn put_cut(ends: &[Within], cut: Cut, lane: u32, views: &mut Views64) -> Result<
 {
     match cut {
         Cut::Split { param, mid } => {
-            let (least, greatest) = (
-                ends_at(ends, param).least(),
-                ends_at(ends, param).greatest(),
-            );
-            views.set(lane, param, least, mid);
-            views.set(lane + 1, param, mid.saturating_add(1), greatest);
+            let own = ends_at(ends, param);
+            views.set(lane, param, own.least(), mid);
+            views.set(lane + 1, param, mid.saturating_add(1), own.greatest());
             Ok(())
         }
         Cut::Case(case) => {
@@ -213,25 +243,17 @@ impl Trial {
     }
 }
 
-fn trials_of(
-    alloc: Global,
-    scene: &Scene,
-    cuts: &[Cut],
-    outlooks: &[Outlook64],
-) -> Result<Vec<Trial>, Memory> {
-    let mut trials = Vec::new(alloc);
-    for place in 0..cuts.len() {
-        if let Some(outlook) = outlooks.get(place / BLOCK) {
-            let lane = lane_of(place);
-            trials.push(Trial {
-                cut: cuts[place],
-                first: outlook.score(scene, lane),
-                second: outlook.score(scene, lane + 1),
-                meets: outlook.is_met(scene, lane) || outlook.is_met(scene, lane + 1),
-            })?;
-        }
-    }
-    Ok(trials)
+// What was seen of a cut.
+fn trial_at(scene: &Scene, cuts: &[Cut], outlooks: &[Outlook64], place: usize) -> Option<Trial> {
+    let cut = cuts.get(place)?;
+    let outlook = outlooks.get(place / BLOCK)?;
+    let lane = lane_of(place);
+    Some(Trial {
+        cut: *cut,
+        first: outlook.score(scene, lane),
+        second: outlook.score(scene, lane + 1),
+        meets: outlook.is_met(scene, lane) || outlook.is_met(scene, lane + 1),
+    })
 }
 
 // The lane of a cut's first side.
@@ -250,29 +272,36 @@ fn is_beside(cut: Cut, last: Case) -> bool {
 }
 
 // The first of those that settle a side whose other side is nearest.
-fn best_settling(trials: &[Trial], score: Score) -> Option<usize> {
+fn best_settling(
+    scene: &Scene,
+    cuts: &[Cut],
+    outlooks: &[Outlook64],
+    score: Score,
+) -> Option<usize> {
     let mut best = None;
     let mut nearest = score;
-    for place in 0..trials.len() {
-        let trial = trials[place];
-        if trial.settles(score) && trial.worse() < nearest {
-            best = Some(place);
-            nearest = trial.worse();
+    for place in 0..cuts.len() {
+        if let Some(trial) = trial_at(scene, cuts, outlooks, place) {
+            if trial.settles(score) && trial.worse() < nearest {
+                best = Some(place);
+                nearest = trial.worse();
+            }
         }
     }
     best
 }
 
 // The first of the least sum of scores, and of these of the nearest worse side.
-fn least_sum(trials: &[Trial], score: Score) -> Option<usize> {
+fn least_sum(scene: &Scene, cuts: &[Cut], outlooks: &[Outlook64], score: Score) -> Option<usize> {
     let mut best: Option<usize> = None;
     let mut least = (Score::MET, Score::MET);
-    for place in 0..trials.len() {
-        let trial = trials[place];
-        let sum = (trial.first.plus(trial.second), trial.worse());
-        if !trial.is_idle(score) && (best.is_none() || sum < least) {
-            best = Some(place);
-            least = sum;
+    for place in 0..cuts.len() {
+        if let Some(trial) = trial_at(scene, cuts, outlooks, place) {
+            let sum = (trial.first.plus(trial.second), trial.worse());
+            if !trial.is_idle(score) && (best.is_none() || sum < least) {
+                best = Some(place);
+                least = sum;
+            }
         }
     }
     best
@@ -306,10 +335,11 @@ fn chosen_at(
 fn side_in(alloc: Global, scene: &Scene, outlook: &Outlook64, lane: u32) -> Result<Side, Memory>
     requires { lane < 64 }
 {
-    let cases = outlook.cases(alloc, scene, lane)?;
-    Ok(Side {
+    let mut side = Side {
         met: outlook.is_met(scene, lane),
         score: outlook.score(scene, lane),
-        cases,
-    })
+        cases: Vec::new(alloc),
+    };
+    outlook.push_cases(scene, lane, &mut side.cases)?;
+    Ok(side)
 }

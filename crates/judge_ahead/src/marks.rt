@@ -2,7 +2,7 @@
 
 ghost use Rattle.std.specs.Prelude.{◌<◌};
 
-use crate::bits::{ALL, lowest, only, word};
+use crate::bits::{ALL, lowest, only};
 use model_line::Memory;
 use std::alloc::Global;
 
@@ -13,12 +13,6 @@ pub struct Marks {
 }
 
 impl Marks {
-    /// No tick of a run of so many.
-    pub fn new(alloc: Global, horizon: u32) -> Result<Marks, Memory> {
-        let words = vec![in alloc; 0u64; horizon as usize / 64 + 1]?;
-        Ok(Marks { words })
-    }
-
     /// No tick of a run of none.
     pub fn none(alloc: Global) -> Marks {
         Marks {
@@ -26,10 +20,9 @@ impl Marks {
         }
     }
 
-    /// The same ticks as another set, in place of its own.
-    pub fn copy(&mut self, other: &Marks) -> Result<(), Memory> {
-        self.words.clear();
-        self.words.extend_from_slice(&other.words)?;
+    /// Makes room for the ticks of a run of so many.
+    pub fn begin(&mut self, horizon: u32) -> Result<(), Memory> {
+        self.words.resize(horizon as usize / 64 + 1, 0)?;
         Ok(())
     }
 
@@ -45,9 +38,10 @@ impl Marks {
         requires { t < horizon }
         ensures { t < result }
     {
+        let words: &[u64] = &self.words;
         let from = t + 1;
-        for place in from as usize / 64..self.words.len() {
-            let mut ticks = word(&self.words, place);
+        for place in from as usize / 64..words.len() {
+            let mut ticks = words[place];
             if place == from as usize / 64 {
                 ticks &= ALL << (from % 64);
             }

@@ -7,7 +7,6 @@ use run_signal::Tick;
 /// A delay that moves so that what arrives is on wherever it can be, or off wherever it can be.
 #[derive(Clone, Copy)]
 pub struct Leaning {
-    pub from: u32,
     pub param: u32,
     pub least: u32,
     pub greatest: u32,

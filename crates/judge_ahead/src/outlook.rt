@@ -5,10 +5,12 @@ ghost use Rattle.std.specs.Prelude.{◌<◌};
 use crate::bits::{holds, lowest, only, rest};
 use crate::case::Case;
 use crate::counter::Counter64;
+use crate::lists::push;
 use crate::run::Run64;
 use crate::scene::Scene;
-use crate::since::{Since, by_tick, push_since};
+use crate::since::{Since, keys_by_tick, push_since};
 use model_line::{Kind, Memory};
+use net_gates::GateId;
 use std::alloc::Global;
 
 /// How far a view is from meeting the obligation: for an external fault at how many ticks what sets
@@ -52,18 +54,15 @@ pub struct Outlook64 {
     excluded: u64,
     set: Counter64,
     unknown: Counter64,
-    /// Of each terminal the lanes in which it is not known whether it wants an echo; an empty list
-    /// where no case is to be made of it.
-    wanted: Vec<Vec<Since>>,
-    /// Of each terminal the lanes in which it must key.
-    keys: Vec<Vec<Since>>,
+    /// Of each terminal what is seen of its echo and its key.
+    seen: Vec<Vec<Since>>,
 }
 
 impl Outlook64 {
     /// Before the first tick.
     pub fn new(alloc: Global, scene: &Scene) -> Result<Outlook64, Memory> {
-        let wanted = empty_lists(alloc, scene.wanted().len())?;
-        let keys = empty_lists(alloc, scene.net.key_gates().len())?;
+        let terminals = scene.net.key_gates().len();
+        let seen = vec![in alloc; Vec::new(alloc); terminals]?;
         Ok(Outlook64 {
             first: [NEVER; 64],
             must: 0,
@@ -71,8 +70,7 @@ impl Outlook64 {
             excluded: 0,
             set: Counter64::new(),
             unknown: Counter64::new(),
-            wanted,
-            keys,
+            seen,
         })
     }
 
@@ -92,8 +90,7 @@ impl Outlook64 {
             self.set.add_times(&on, ticks);
         }
         self.unknown.add_times(run.unknown(), counted);
-        self.note_wanted(scene, run, t)?;
-        self.note_keys(scene, run, t)
+        self.note_seen(scene, run, t)
     }
 
     // The lanes that must trip for the first time.
@@ -109,23 +106,17 @@ impl Outlook64 {
         }
     }
 
-    fn note_wanted(&mut self, scene: &Scene, run: &Run64, t: u32) -> Result<(), Memory> {
-        let wanted = scene.wanted();
-        for terminal in 0..wanted.len() {
-            if let Some(gate) = wanted[terminal] {
-                if let Some(list) = self.wanted.get_mut(terminal) {
-                    push_since(list, t, run.pair(gate).unknown())?;
-                }
-            }
-        }
-        Ok(())
-    }
-
-    fn note_keys(&mut self, scene: &Scene, run: &Run64, t: u32) -> Result<(), Memory> {
-        for terminal in 0..scene.net.key_gates().len() {
-            let key = scene.net.key_gates()[terminal];
-            if let Some(list) = self.keys.get_mut(terminal) {
-                push_since(list, t, run.pair(key).must)?;
+    // Whether it is known of each terminal that it wants an echo, and whether it must key.
+    fn note_seen(&mut self, scene: &Scene, run: &Run64, t: u32) -> Result<(), Memory> {
+        let keys = scene.net.key_gates();
+        for terminal in 0..keys.len() {
+            let since = Since {
+                tick: t,
+                unknown: unknown_in(run, scene.wanted_by(terminal)),
+                keys: run.pair(keys[terminal]).must,
+            };
+            if let Some(list) = self.seen.get_mut(terminal) {
+                push_since(list, since)?;
             }
         }
         Ok(())
@@ -173,19 +164,19 @@ impl Outlook64 {
         }
     }
 
-    /// The cases that a view offers: the first and the last tick of each of the first stretches
+    /// Adds the cases that a view offers: the first and the last tick of each of the first stretches
     /// through which it is not known whether a terminal wants an echo.
-    pub fn cases(&self, alloc: Global, scene: &Scene, lane: u32) -> Result<Vec<Case>, Memory>
+    pub fn push_cases(&self, scene: &Scene, lane: u32, cases: &mut Vec<Case>) -> Result<(), Memory>
         requires { lane < 64 }
     {
-        let mut cases = Vec::new(alloc);
-        for terminal in 0..scene.line.terminals.len() {
-            if let Some(list) = self.wanted.get(terminal) {
+        let terminals = scene.line.terminals.len();
+        for terminal in 0..terminals {
+            if let Some(list) = self.seen.get(terminal) {
                 let horizon = scene.line.horizon;
-                push_cases(&mut cases, list, horizon, terminal as u32, only(lane))?;
+                push_stretches(cases, list, horizon, terminal as u32, only(lane))?;
             }
         }
-        Ok(cases)
+        Ok(())
     }
 
     /// Whether a terminal must key in a lane, at each tick of a run.
@@ -198,24 +189,23 @@ impl Outlook64 {
     ) -> Result<Vec<bool>, Memory>
         requires { lane < 64 }
     {
-        match self.keys.get(terminal as usize) {
-            Some(list) => by_tick(alloc, list, lane, horizon),
+        match self.seen.get(terminal as usize) {
+            Some(list) => keys_by_tick(alloc, list, lane, horizon),
             None => Ok(Vec::new(alloc)),
         }
     }
 }
 
-// So many lists with nothing in them.
-fn empty_lists(alloc: Global, count: usize) -> Result<Vec<Vec<Since>>, Memory> {
-    let mut lists = Vec::new(alloc);
-    for _list in 0..count {
-        lists.push(Vec::new(alloc))?;
+// The lanes in which it is not known whether an echo is wanted; none where no case is to be made of it.
+fn unknown_in(run: &Run64, wanted: Option<GateId>) -> u64 {
+    match wanted {
+        Some(gate) => run.pair(gate).unknown(),
+        None => 0,
     }
-    Ok(lists)
 }
 
 // The ends of the first stretches of a lane, through a run of so many ticks.
-fn push_cases(
+fn push_stretches(
     cases: &mut Vec<Case>,
     list: &[Since],
     horizon: u32,
@@ -225,7 +215,7 @@ fn push_cases(
     let mut found = 0u32;
     let mut begun: Option<u32> = None;
     for since in list {
-        let is = since.lanes & lane != 0;
+        let is = since.unknown & lane != 0;
         match begun {
             Some(first) if !is => {
                 push_ends(cases, terminal, first, since.tick)?;
@@ -247,13 +237,16 @@ fn push_cases(
 
 // The first tick of a stretch, and its last, if that is another one.
 fn push_ends(cases: &mut Vec<Case>, terminal: u32, tick: u32, end: u32) -> Result<(), Memory> {
-    cases.push(Case { terminal, tick })?;
+    push(cases, Case { terminal, tick })?;
     let last = end.saturating_sub(1);
-    if tick < last {
-        cases.push(Case {
+    if last <= tick {
+        return Ok(());
+    }
+    push(
+        cases,
+        Case {
             terminal,
             tick: last,
-        })?;
-    }
-    Ok(())
+        },
+    )
 }

@@ -1,5 +1,6 @@
 //! On which rails gates and times are read where a trip is.
 
+use crate::lists::at;
 use model_line::{Kind, Line, Memory};
 use model_logic::Time;
 use net_gates::{Gate, GateId, Net};
@@ -46,14 +47,27 @@ impl ReadOn {
     }
 }
 
+/// How a parameter is read. It counts as a pickup where a timer has it for one.
+#[derive(Clone, Copy)]
+struct ParamReads {
+    on: ReadOn,
+    is_pickup: bool,
+}
+
+impl ParamReads {
+    // Not at all.
+    const NONE: ParamReads = ParamReads {
+        on: ReadOn::NEITHER,
+        is_pickup: false,
+    };
+}
+
 /// On which rails each gate and each parameter is read where the trip of a terminal is read on the
-/// rail that decides: must for an internal fault, may for an external one. A parameter counts as a
-/// pickup where a timer has it for one.
+/// rail that decides: must for an internal fault, may for an external one.
 #[derive(Drop)]
 pub struct Reads {
-    pub gates: Vec<ReadOn>,
-    pub params: Vec<ReadOn>,
-    pub pickups: Vec<bool>,
+    gates: Vec<ReadOn>,
+    params: Vec<ParamReads>,
 }
 
 impl Reads {
@@ -66,13 +80,8 @@ impl Reads {
         terminal: u32,
     ) -> Result<Reads, Memory> {
         let gates = vec![in alloc; ReadOn::NEITHER; net.len() as usize]?;
-        let params = vec![in alloc; ReadOn::NEITHER; line.params.len()]?;
-        let pickups = vec![in alloc; false; line.params.len()]?;
-        let mut reads = Reads {
-            gates,
-            params,
-            pickups,
-        };
+        let params = vec![in alloc; ParamReads::NONE; line.params.len()]?;
+        let mut reads = Reads { gates, params };
         if let Some(trip) = net.trip_gates().get(terminal as usize) {
             reads.read(*trip, decided_on(kind));
         }
@@ -123,23 +132,21 @@ impl Reads {
 
     /// The rails of a gate.
     pub fn gate(&self, gate: GateId) -> ReadOn {
-        self.gates
-            .get(gate.0 as usize)
-            .copied()
-            .unwrap_or(ReadOn::NEITHER)
+        at(&self.gates, gate.0 as usize, ReadOn::NEITHER)
     }
 
     /// The rails of a parameter.
     pub fn param(&self, param: u32) -> ReadOn {
-        self.params
-            .get(param as usize)
-            .copied()
-            .unwrap_or(ReadOn::NEITHER)
+        self.reads_of(param).on
     }
 
     /// Whether a parameter is a pickup.
     pub fn is_pickup(&self, param: u32) -> bool {
-        self.pickups.get(param as usize).copied().unwrap_or(false)
+        self.reads_of(param).is_pickup
+    }
+
+    fn reads_of(&self, param: u32) -> ParamReads {
+        at(&self.params, param as usize, ParamReads::NONE)
     }
 
     fn read(&mut self, gate: GateId, on: ReadOn) {
@@ -152,11 +159,9 @@ impl Reads {
         let Time::Param(param) = time else {
             return;
         };
-        if let Some(read) = self.params.get_mut(param as usize) {
-            *read = read.or(on);
-        }
-        if let Some(is_pickup) = self.pickups.get_mut(param as usize) {
-            *is_pickup = *is_pickup || pickup;
+        if let Some(reads) = self.params.get_mut(param as usize) {
+            reads.on = reads.on.or(on);
+            reads.is_pickup = reads.is_pickup || pickup;
         }
     }
 }

@@ -2,9 +2,9 @@
 
 ghost use Rattle.std.specs.Prelude.{◌≡◌, IfOk};
 
+use crate::lists::{at, push};
 use crate::reads::Reads;
 use crate::turns::{Turn, turns_of};
-use crate::wiring::Wiring;
 use model_line::{Kind, Line, Memory, Script};
 use net_gates::{Gate, GateId, Net};
 use std::alloc::Global;
@@ -18,8 +18,6 @@ pub struct Scene<'a> {
     pub terminal: u32,
     /// On which rails the obligation reads what.
     pub reads: Reads,
-    /// Who reads whom.
-    pub wiring: Wiring,
     /// Where what the script shows turns, by tick.
     pub turns: Vec<Turn>,
     /// Of each terminal the gate of the echo that it wants, where it is read on both rails.
@@ -42,31 +40,29 @@ impl<'a> Scene<'a> {
         ensures script { IfOk result (λ s. s.script.now ≡ script.now) }
         ensures terminal { IfOk result (λ s. s.terminal ≡ terminal) }
     {
-        let reads = Reads::new(alloc, line, net, script.kind, terminal)?;
-        let wiring = Wiring::new(alloc, line, net)?;
         let turns = turns_of(alloc, line, net, script)?;
-        let mut wanted = Vec::new(alloc);
-        for key in net.key_gates() {
-            let want = wanted_gate(net, *key);
-            wanted.push(want.filter(|gate| reads.gate(*gate).is_both()))?;
-        }
-        let set = set_gate(net, terminal);
+        let reads = Reads::new(alloc, line, net, script.kind, terminal)?;
+        let wanted = wanted_gates(alloc, net, &reads)?;
         Ok(Scene {
             line,
             net,
             script,
             terminal,
             reads,
-            wiring,
             turns,
             wanted,
-            set,
+            set: set_gate(net, terminal),
         })
     }
 
     /// The gates of the echoes that are wanted, one for each terminal.
     pub fn wanted(&self) -> &[Option<GateId>] {
         &self.wanted
+    }
+
+    /// The gate of the echo that a terminal wants.
+    pub(crate) fn wanted_by(&self, terminal: usize) -> Option<GateId> {
+        at(&self.wanted, terminal, None)
     }
 
     /// What sets the terminal's trip.
@@ -81,6 +77,16 @@ impl<'a> Scene<'a> {
             Kind::External => self.line.horizon,
         }
     }
+}
+
+// Of each key the gate of the echo that is wanted, where it is read on both rails.
+fn wanted_gates(alloc: Global, net: &Net, reads: &Reads) -> Result<Vec<Option<GateId>>, Memory> {
+    let mut wanted = Vec::new(alloc);
+    for key in net.key_gates() {
+        let want = wanted_gate(net, *key);
+        push(&mut wanted, want.filter(|gate| reads.gate(*gate).is_both()))?;
+    }
+    Ok(wanted)
 }
 
 // What the echo of a key starts from: of `ahead or (wanted and still)` the gate of `wanted`.

@@ -1,29 +1,48 @@
-//! Lanes that change at few ticks.
+//! What is seen of a terminal, by the few ticks at which it changes.
 
 ghost use Rattle.std.specs.Prelude.{◌<◌};
 
 use crate::bits::holds;
+use crate::lists::push;
 use model_line::Memory;
 use std::alloc::Global;
 
-/// From this tick on it is these lanes.
+/// What is seen of a terminal from a tick on.
 #[derive(Clone, Copy)]
 pub struct Since {
     pub tick: u32,
-    pub lanes: u64,
+    /// The lanes in which it is not known whether it wants an echo.
+    pub unknown: u64,
+    /// The lanes in which it must key.
+    pub keys: u64,
 }
 
-/// Adds lanes from a tick on, if they differ from the last ones.
-pub fn push_since(list: &mut Vec<Since>, tick: u32, lanes: u64) -> Result<(), Memory> {
-    let last = list.last().map_or(0, |one| one.lanes);
-    if last != lanes {
-        list.push(Since { tick, lanes })?;
+impl Since {
+    // Whether nothing else is seen since another tick.
+    fn is_as(self, other: Since) -> bool {
+        self.unknown == other.unknown && self.keys == other.keys
     }
-    Ok(())
 }
 
-/// Whether a lane is one of them, at each tick of a run.
-pub fn by_tick(alloc: Global, list: &[Since], lane: u32, horizon: u32) -> Result<Vec<bool>, Memory>
+/// Adds what is seen, if it differs from what was seen last. At first nothing is.
+pub fn push_since(list: &mut Vec<Since>, since: Since) -> Result<(), Memory> {
+    let is_seen = match list.last() {
+        Some(last) => since.is_as(*last),
+        None => since.unknown == 0 && since.keys == 0,
+    };
+    if is_seen {
+        return Ok(());
+    }
+    push(list, since)
+}
+
+/// Whether it must key in a lane, at each tick of a run.
+pub fn keys_by_tick(
+    alloc: Global,
+    list: &[Since],
+    lane: u32,
+    horizon: u32,
+) -> Result<Vec<bool>, Memory>
     requires { lane < 64 }
 {
     let mut place = 0usize;
@@ -32,11 +51,11 @@ pub fn by_tick(alloc: Global, list: &[Since], lane: u32, horizon: u32) -> Result
     for t in 0..horizon {
         if let Some(one) = list.get(place) {
             if one.tick == t {
-                on = holds(one.lanes, lane);
+                on = holds(one.keys, lane);
                 place = place.saturating_add(1);
             }
         }
-        all.push(on)?;
+        push(&mut all, on)?;
     }
     Ok(all)
 }

@@ -18,11 +18,7 @@ const NEVER: u16 = u16::MAX;
 /// after that. It is looked at where its input changes, and where a lane is due.
 #[derive(Drop)]
 pub struct Timer64 {
-    times: Times64,
-    /// Since when the input is on.
-    start: [u16; 64],
-    /// The last tick at which it was on by its input.
-    last: [u16; 64],
+    lanes: [Lane; 64],
     /// When each lane is due: then it answers otherwise, if its input stays.
     next: [u16; 64],
     /// The least of these.
@@ -31,13 +27,85 @@ pub struct Timer64 {
     output: u64,
 }
 
+/// A timer in one lane.
+#[derive(Clone, Copy)]
+struct Lane {
+    pickup: u16,
+    dropout: u16,
+    /// Since when the input is on.
+    start: u16,
+    /// The last tick at which it was on by its input.
+    last: u16,
+}
+
+impl Lane {
+    // Before the first tick; the input was off.
+    fn new(pickup: u16, dropout: u16) -> Lane {
+        Lane {
+            pickup,
+            dropout,
+            start: NEVER,
+            last: NEVER,
+        }
+    }
+
+    // Takes the input at a tick.
+    fn take(&mut self, t: u32, on: bool)
+        requires { t < 4000 }
+    {
+        if on {
+            if self.start == NEVER {
+                self.start = t as u16;
+            }
+            return;
+        }
+        if self.reached() < t {
+            self.last = (t - 1) as u16;
+        }
+        self.start = NEVER;
+    }
+
+    // When the input was on for the pickup; past each run where it is off.
+    fn reached(self) -> u32
+        ensures { result < 131072 }
+    {
+        self.start as u32 + self.pickup as u32
+    }
+
+    // Until when it stays on after its input; past each run where it never was on by it.
+    fn until(self) -> u32
+        ensures { result < 131072 }
+    {
+        self.last as u32 + self.dropout as u32
+    }
+
+    // Whether it stays on after its input.
+    fn stays(self, t: u32) -> bool {
+        self.last != NEVER && t <= self.until()
+    }
+
+    // When it answers otherwise, if its input stays.
+    fn due(self, t: u32) -> u16 {
+        let mut due = self.reached();
+        if due <= t {
+            return NEVER;
+        }
+        if self.stays(t) {
+            due = due.min(self.until() + 1);
+        }
+        due.min(NEVER as u32) as u16
+    }
+}
+
 impl Timer64 {
     /// A timer before the first tick, whose input was off.
-    pub fn new(times: Times64) -> Timer64 {
+    pub fn new(times: &Times64) -> Timer64 {
+        let mut lanes = [Lane::new(0, 0); 64];
+        for lane in 0..64 {
+            lanes[lane] = Lane::new(times.pickup[lane], times.dropout[lane]);
+        }
         Timer64 {
-            times,
-            start: [NEVER; 64],
-            last: [NEVER; 64],
+            lanes,
             next: [NEVER; 64],
             due: NEVER,
             input: 0,
@@ -96,49 +164,14 @@ impl Timer64 {
         requires tick { t < 4000 }
         requires lane { lane < 64 }
     {
-        self.next[lane as usize] = NEVER;
-        let held = self.is_held(t, lane, on);
-        let last = self.last[lane as usize];
-        let until = last as u32 + self.times.dropout[lane as usize] as u32;
-        let stays = last != NEVER && t <= until;
-        if stays && !held {
-            self.remind(until + 1, lane);
-        }
-        if held || stays {
+        let place = lane as usize;
+        let mut own = self.lanes[place];
+        own.take(t, on);
+        self.lanes[place] = own;
+        self.next[place] = own.due(t);
+        self.output &= !only(lane);
+        if own.reached() <= t || own.stays(t) {
             self.output |= only(lane);
-        } else {
-            self.output &= !only(lane);
         }
-    }
-
-    // Whether its input was on for the pickup.
-    fn is_held(&mut self, t: u32, lane: u32, on: bool) -> bool
-        requires tick { t < 4000 }
-        requires lane { lane < 64 }
-    {
-        let start = self.start[lane as usize];
-        let pickup = self.times.pickup[lane as usize] as u32;
-        if on {
-            let since = if start == NEVER { t as u16 } else { start };
-            self.start[lane as usize] = since;
-            let reached = since as u32 + pickup;
-            if t < reached {
-                self.remind(reached, lane);
-            }
-            return reached <= t;
-        }
-        self.start[lane as usize] = NEVER;
-        if start != NEVER && start as u32 + pickup < t {
-            self.last[lane as usize] = (t - 1) as u16;
-        }
-        false
-    }
-
-    // Looks at a lane again at a tick, or sooner.
-    fn remind(&mut self, t: u32, lane: u32)
-        requires { lane < 64 }
-    {
-        let next = self.next[lane as usize] as u32;
-        self.next[lane as usize] = t.min(next) as u16;
     }
 }

@@ -1,6 +1,8 @@
 //! Where what a script shows turns.
 
-use crate::marks::Marks;
+ghost use Rattle.std.specs.Prelude.{◌<◌};
+
+use crate::lists::push;
 use model_line::{Line, Memory, Script, loss, seen};
 use net_gates::{Gate, GateId, Net};
 use std::alloc::Global;
@@ -20,43 +22,33 @@ pub fn turns_of(
     net: &Net,
     script: &Script,
 ) -> Result<Vec<Turn>, Memory> {
-    let ends = ends_of(alloc, line, script)?;
-    let mut shown = vec![in alloc; false; net.len() as usize]?;
     let mut turns = Vec::new(alloc);
-    push_turns(net, script, 0, &mut shown, &mut turns)?;
-    let mut t = 0;
-    'ticks: while t < line.horizon {
-        t = ends.after(t, line.horizon);
-        push_turns(net, script, t, &mut shown, &mut turns)?;
+    for tick in 0..line.horizon {
+        if tick == 0 || is_end(script, tick) {
+            push_turns(net, script, tick, &mut turns)?;
+        }
     }
     Ok(turns)
 }
 
-// The ticks at which a span begins or ends.
-fn ends_of(alloc: Global, line: &Line, script: &Script) -> Result<Marks, Memory> {
-    let mut ends = Marks::new(alloc, line.horizon)?;
+// Whether a span begins or ends at a tick.
+fn is_end(script: &Script, tick: u32) -> bool {
     for span in &script.spans {
-        ends.put(span.from);
-        ends.put(span.to);
+        if span.from == tick || span.to == tick {
+            return true;
+        }
     }
-    Ok(ends)
+    false
 }
 
 // Adds the turns at a tick to those before.
-fn push_turns(
-    net: &Net,
-    script: &Script,
-    tick: u32,
-    shown: &mut Vec<bool>,
-    turns: &mut Vec<Turn>,
-) -> Result<(), Memory> {
+fn push_turns(net: &Net, script: &Script, tick: u32, turns: &mut Vec<Turn>) -> Result<(), Memory> {
     for gate in 0..net.len() {
-        let on = is_shown(script, *net.gate(GateId(gate)), tick);
-        if let Some(before) = shown.get_mut(gate as usize) {
-            if *before != on {
-                *before = on;
-                turns.push(Turn { tick, gate, on })?;
-            }
+        let shows = *net.gate(GateId(gate));
+        let on = is_shown(script, shows, tick);
+        let was_on = tick > 0 && is_shown(script, shows, tick - 1);
+        if on != was_on {
+            push(turns, Turn { tick, gate, on })?;
         }
     }
     Ok(())

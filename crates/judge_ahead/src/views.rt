@@ -2,10 +2,10 @@
 
 ghost use Rattle.std.specs.Prelude.{◌<◌};
 
-use crate::bits::word;
 use crate::case::Assumed;
 use crate::channel::Window64;
-use crate::marks::Marks;
+use crate::lists::{at, push};
+use crate::rails::Rails64;
 use crate::timer::Times64;
 use model_line::{Line, Memory};
 use model_logic::Time;
@@ -13,53 +13,57 @@ use run_signal::Within;
 use std::alloc::Global;
 
 /// An interval for each parameter in each of 64 lanes, for each channel how its delay moves within
-/// its own, and for each terminal at which ticks its echo is assumed to be wanted or not.
+/// its own, and what is assumed of echoes.
 #[derive(Drop)]
 pub struct Views64 {
-    least: Vec<[u16; 64]>,
-    greatest: Vec<[u16; 64]>,
+    ends: Vec<Ends64>,
     windows: Vec<Window64>,
+    assumed: Vec<Assumed64>,
     /// The lanes that are views; the others stand still.
     lanes: u64,
-    /// Terminal after terminal the lanes in which it is assumed not to want an echo, by tick. Then
-    /// those in which it is assumed to want one. Empty lists while nothing is assumed.
-    off: Vec<u64>,
-    on: Vec<u64>,
-    /// The ticks at which something is assumed, and those after them.
-    marks: Marks,
-    terminals: usize,
-    horizon: u32,
+}
+
+/// An interval in each of 64 lanes.
+#[derive(Clone, Copy)]
+struct Ends64 {
+    least: [u16; 64],
+    greatest: [u16; 64],
+}
+
+/// What is assumed in some lanes.
+#[derive(Clone, Copy)]
+pub struct Assumed64 {
+    pub lanes: u64,
+    pub one: Assumed,
+}
+
+/// The lanes in which an echo is assumed not to be wanted, and those in which it is assumed to be.
+#[derive(Clone, Copy)]
+pub struct Levels64 {
+    pub off: u64,
+    pub on: u64,
 }
 
 impl Views64 {
-    /// These intervals of a line's parameters in each of these lanes, its delays moving, nothing
-    /// assumed.
-    pub fn new(alloc: Global, line: &Line, ends: &[Within], lanes: u64) -> Result<Views64, Memory> {
-        let marks = Marks::new(alloc, line.horizon)?;
-        let mut views = Views64 {
-            least: Vec::new(alloc),
-            greatest: Vec::new(alloc),
+    /// Views in these lanes, of a line with no parameters.
+    pub fn bare(alloc: Global, lanes: u64) -> Views64 {
+        Views64 {
+            ends: Vec::new(alloc),
             windows: Vec::new(alloc),
+            assumed: Vec::new(alloc),
             lanes,
-            off: Vec::new(alloc),
-            on: Vec::new(alloc),
-            marks,
-            terminals: line.terminals.len(),
-            horizon: line.horizon,
-        };
-        views.add(line, ends)?;
-        Ok(views)
+        }
     }
 
-    // Adds the intervals of all parameters, and how each delay moves within its own.
-    fn add(&mut self, line: &Line, ends: &[Within]) -> Result<(), Memory> {
+    /// Takes these intervals of a line's parameters in each lane, its delays moving, and nothing
+    /// assumed.
+    pub fn begin(&mut self, line: &Line, ends: &[Within]) -> Result<(), Memory> {
         for one in ends {
-            self.least.push([ticks(one.least()); 64])?;
-            self.greatest.push([ticks(one.greatest()); 64])?;
+            push(&mut self.ends, ends_in_all(*one))?;
         }
         for channel in 0..line.channels.len() {
             let delay = ends_at(ends, line.delay_of(channel as u32));
-            self.windows.push(window(delay.least(), delay.greatest()))?;
+            push(&mut self.windows, window(delay))?;
         }
         Ok(())
     }
@@ -68,11 +72,9 @@ impl Views64 {
     pub fn set(&mut self, lane: u32, param: u32, least: u32, greatest: u32)
         requires { lane < 64 }
     {
-        if let Some(all) = self.least.get_mut(param as usize) {
-            all[lane as usize] = ticks(least);
-        }
-        if let Some(all) = self.greatest.get_mut(param as usize) {
-            all[lane as usize] = ticks(greatest);
+        if let Some(ends) = self.ends.get_mut(param as usize) {
+            ends.least[lane as usize] = ticks(least);
+            ends.greatest[lane as usize] = ticks(greatest);
         }
     }
 
@@ -81,10 +83,8 @@ impl Views64 {
         requires { lane < 64 }
     {
         if let Some(window) = self.windows.get_mut(channel) {
-            let lane = lane as usize;
-            window.base[lane] = ticks(delay);
-            put(&mut window.must, lane, 0, 0);
-            put(&mut window.may, lane, 0, 0);
+            window.base[lane as usize] = ticks(delay);
+            put(&mut window.rails, lane, 0, 0);
         }
     }
 
@@ -94,35 +94,38 @@ impl Views64 {
         requires { lane < 64 }
     {
         if let Some(window) = self.windows.get_mut(channel) {
-            let lane = lane as usize;
-            let wide = window.may.dropout[lane].max(window.must.pickup[lane]);
+            let place = lane as usize;
+            let rails = &mut window.rails;
+            let wide = rails.may.dropout[place].max(rails.must.pickup[place]);
             let (pickup, dropout) = if may { (0, wide) } else { (wide, 0) };
-            put(&mut window.must, lane, pickup, dropout);
-            put(&mut window.may, lane, pickup, dropout);
+            put(rails, lane, pickup, dropout);
         }
     }
 
     /// Assumes a case in these lanes.
-    pub fn assume(&mut self, lanes: u64, assumed: Assumed) -> Result<(), Memory> {
-        let all = self.terminals.saturating_mul(self.horizon as usize);
-        self.off.resize(all, 0)?;
-        self.on.resize(all, 0)?;
-        self.marks.put(assumed.case.tick);
-        self.marks.put(assumed.case.tick.saturating_add(1));
-        let place = self.place(assumed.case.terminal as usize, assumed.case.tick);
-        if assumed.level {
-            if let Some(on) = self.on.get_mut(place) {
-                *on |= lanes;
-            }
-        } else if let Some(off) = self.off.get_mut(place) {
-            *off |= lanes;
-        }
-        Ok(())
+    pub fn assume(&mut self, lanes: u64, one: Assumed) -> Result<(), Memory> {
+        push(&mut self.assumed, Assumed64 { lanes, one })
     }
 
-    /// Whether something is assumed of a terminal at a tick, in some lane.
-    pub fn is_assumed(&self, terminal: usize, t: u32) -> bool {
-        self.assumed_off(terminal, t) | self.assumed_on(terminal, t) != 0
+    /// What is assumed.
+    pub fn assumed(&self) -> &[Assumed64] {
+        &self.assumed
+    }
+
+    /// What is assumed of a terminal at a tick.
+    pub fn levels(&self, terminal: usize, t: u32) -> Levels64 {
+        let mut levels = Levels64 { off: 0, on: 0 };
+        for assumed in &self.assumed {
+            let case = assumed.one.case;
+            if case.tick == t && case.terminal as usize == terminal {
+                if assumed.one.level {
+                    levels.on |= assumed.lanes;
+                } else {
+                    levels.off |= assumed.lanes;
+                }
+            }
+        }
+        levels
     }
 
     /// The lanes that are views.
@@ -130,41 +133,23 @@ impl Views64 {
         self.lanes
     }
 
-    /// The ticks at which something is assumed, and those after them.
-    pub fn marks(&self) -> &Marks {
-        &self.marks
-    }
-
-    /// The lanes in which a terminal is assumed not to want an echo at a tick.
-    pub fn assumed_off(&self, terminal: usize, t: u32) -> u64 {
-        word(&self.off, self.place(terminal, t))
-    }
-
-    /// Those in which it is assumed to want one.
-    pub fn assumed_on(&self, terminal: usize, t: u32) -> u64 {
-        word(&self.on, self.place(terminal, t))
-    }
-
-    // Where the lanes of a terminal stand at a tick.
-    fn place(&self, terminal: usize, t: u32) -> usize {
-        terminal
-            .saturating_mul(self.horizon as usize)
-            .saturating_add(t as usize)
-    }
-
-    /// How the rails take a timer: what must be with the greatest pickup and the least dropout.
-    pub fn must_times(&self, pickup: Time, dropout: Time) -> Times64 {
-        Times64 {
-            pickup: of_time(&self.greatest, pickup),
-            dropout: of_time(&self.least, dropout),
+    /// How the rails take a timer: what must be with the greatest pickup and the least dropout, what
+    /// may be with the least pickup and the greatest dropout.
+    pub fn rails(&self, pickup: Time, dropout: Time) -> Rails64 {
+        let pickup = self.ends_of(pickup);
+        let dropout = self.ends_of(dropout);
+        Rails64 {
+            must: times(pickup.greatest, dropout.least),
+            may: times(pickup.least, dropout.greatest),
         }
     }
 
-    /// What may be with the least pickup and the greatest dropout.
-    pub fn may_times(&self, pickup: Time, dropout: Time) -> Times64 {
-        Times64 {
-            pickup: of_time(&self.least, pickup),
-            dropout: of_time(&self.greatest, dropout),
+    // The interval of a time in each lane.
+    fn ends_of(&self, time: Time) -> Ends64 {
+        let none = ends_in_all(Within::new(0, 0));
+        match time {
+            Time::Zero => none,
+            Time::Param(param) => at(&self.ends, param as usize, none),
         }
     }
 
@@ -179,39 +164,42 @@ fn ticks(number: u32) -> u16 {
     number.min(4000) as u16
 }
 
+// The same interval in each lane.
+fn ends_in_all(ends: Within) -> Ends64 {
+    Ends64 {
+        least: [ticks(ends.least()); 64],
+        greatest: [ticks(ends.greatest()); 64],
+    }
+}
+
+fn times(pickup: [u16; 64], dropout: [u16; 64]) -> Times64 {
+    Times64 { pickup, dropout }
+}
+
 // The window of a delay that moves within its interval.
-fn window(least: u32, greatest: u32) -> Window64 {
-    let wide = ticks(greatest.saturating_sub(least));
+fn window(delay: Within) -> Window64 {
+    let wide = ticks(delay.greatest().saturating_sub(delay.least()));
     Window64 {
-        base: [ticks(least); 64],
-        must: Times64 {
-            pickup: [wide; 64],
-            dropout: [0; 64],
-        },
-        may: Times64 {
-            pickup: [0; 64],
-            dropout: [wide; 64],
+        base: [ticks(delay.least()); 64],
+        rails: Rails64 {
+            must: times([wide; 64], [0; 64]),
+            may: times([0; 64], [wide; 64]),
         },
     }
 }
 
-fn put(times: &mut Times64, lane: usize, pickup: u16, dropout: u16)
+// The same times on both rails, in one lane.
+fn put(rails: &mut Rails64, lane: u32, pickup: u16, dropout: u16)
     requires { lane < 64 }
 {
-    times.pickup[lane] = pickup;
-    times.dropout[lane] = dropout;
-}
-
-fn of_time(all: &[[u16; 64]], time: Time) -> [u16; 64] {
-    match time {
-        Time::Zero => [0; 64],
-        Time::Param(param) => all.get(param as usize).copied().unwrap_or([0; 64]),
-    }
+    let lane = lane as usize;
+    rails.must.pickup[lane] = pickup;
+    rails.must.dropout[lane] = dropout;
+    rails.may.pickup[lane] = pickup;
+    rails.may.dropout[lane] = dropout;
 }
 
 /// The interval of a parameter; 0 past the last.
 pub fn ends_at(ends: &[Within], param: u32) -> Within {
-    ends.get(param as usize)
-        .copied()
-        .unwrap_or(Within::new(0, 0))
+    at(ends, param as usize, Within::new(0, 0))
 }
