@@ -8,6 +8,7 @@ use crate::moving::{Leaning, push_moves};
 use crate::outlook::Outlook64;
 use crate::run::look_ahead;
 use crate::scene::Scene;
+use crate::since::push_keys;
 use crate::views::{Views64, ends_at};
 use model_line::{Kind, Memory};
 use model_timing::Timing;
@@ -171,7 +172,8 @@ fn push_channel(
     };
     let horizon = scene.line.horizon;
     let from = scene.line.channels[channel as usize].from;
-    let keys = outlook.keys(alloc, from, lane, horizon)?;
+    let mut keys = Vec::new(alloc);
+    push_keys(outlook.seen_of(from as usize), lane, horizon, &mut keys)?;
     push_moves(&keys, horizon, leaning, timing)
 }
 

@@ -120,10 +120,8 @@ pub fn choose(
 ) -> Result<Option<Chosen>, Memory> {
     let mut outlooks = Vec::new(alloc);
     look_at_all(alloc, scene, ends, assumed, cuts, &mut outlooks)?;
-    match best_of(scene, cuts, &outlooks, score, settling) {
-        Some(place) => chosen_at(alloc, scene, cuts, &outlooks, place),
-        None => Ok(None),
-    }
+    let best = best_of(scene, cuts, &outlooks, score, settling);
+    chosen_at(alloc, scene, cuts, &outlooks, best)
 }
 
 // Looks at both sides of each cut, block by block.
@@ -307,18 +305,18 @@ fn least_sum(scene: &Scene, cuts: &[Cut], outlooks: &[Outlook64], score: Score) 
     best
 }
 
-// A cut with its sides.
+// A cut with its sides, if there is one.
 fn chosen_at(
     alloc: Global,
     scene: &Scene,
     cuts: &[Cut],
     outlooks: &[Outlook64],
-    place: usize,
+    best: Option<usize>,
 ) -> Result<Option<Chosen>, Memory> {
-    let Some(cut) = cuts.get(place) else {
+    let Some(place) = best else {
         return Ok(None);
     };
-    let Some(outlook) = outlooks.get(place / BLOCK) else {
+    let (Some(cut), Some(outlook)) = (cuts.get(place), outlooks.get(place / BLOCK)) else {
         return Ok(None);
     };
     let lane = lane_of(place);

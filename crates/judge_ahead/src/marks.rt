@@ -3,33 +3,25 @@
 ghost use Rattle.std.specs.Prelude.{◌<◌};
 
 use crate::bits::{ALL, lowest, only};
-use model_line::Memory;
-use std::alloc::Global;
+
+// enough for 4,000 ticks
+const WORDS: usize = 63;
 
 /// A set of ticks: a bit for each.
-#[derive(Drop)]
+#[derive(Clone, Copy)]
 pub struct Marks {
-    words: Vec<u64>,
+    words: [u64; WORDS],
 }
 
 impl Marks {
-    /// No tick of a run of none.
-    pub fn none(alloc: Global) -> Marks {
-        Marks {
-            words: Vec::new(alloc),
-        }
-    }
+    /// No tick.
+    pub const NONE: Marks = Marks { words: [0; WORDS] };
 
-    /// Makes room for the ticks of a run of so many.
-    pub fn begin(&mut self, horizon: u32) -> Result<(), Memory> {
-        self.words.resize(horizon as usize / 64 + 1, 0)?;
-        Ok(())
-    }
-
-    /// Adds a tick, if it is one of the run.
+    /// Adds a tick, if a run may have it.
     pub fn put(&mut self, t: u32) {
-        if let Some(word) = self.words.get_mut(t as usize / 64) {
-            *word |= only(t % 64);
+        let place = t as usize / 64;
+        if place < WORDS {
+            self.words[place] |= only(t % 64);
         }
     }
 
@@ -38,10 +30,9 @@ impl Marks {
         requires { t < horizon }
         ensures { t < result }
     {
-        let words: &[u64] = &self.words;
         let from = t + 1;
-        for place in from as usize / 64..words.len() {
-            let mut ticks = words[place];
+        for place in from as usize / 64..WORDS {
+            let mut ticks = self.words[place];
             if place == from as usize / 64 {
                 ticks &= ALL << (from % 64);
             }

@@ -8,7 +8,7 @@ use crate::counter::Counter64;
 use crate::lists::push;
 use crate::run::Run64;
 use crate::scene::Scene;
-use crate::since::{Since, keys_by_tick, push_since};
+use crate::since::{Since, push_since};
 use model_line::{Kind, Memory};
 use net_gates::GateId;
 use std::alloc::Global;
@@ -59,19 +59,25 @@ pub struct Outlook64 {
 }
 
 impl Outlook64 {
-    /// Before the first tick.
-    pub fn new(alloc: Global, scene: &Scene) -> Result<Outlook64, Memory> {
-        let terminals = scene.net.key_gates().len();
-        let seen = vec![in alloc; Vec::new(alloc); terminals]?;
-        Ok(Outlook64 {
+    /// Before the first tick, of no terminals.
+    pub fn bare(alloc: Global) -> Outlook64 {
+        Outlook64 {
             first: [NEVER; 64],
             must: 0,
             may: 0,
             excluded: 0,
             set: Counter64::new(),
             unknown: Counter64::new(),
-            seen,
-        })
+            seen: Vec::new(alloc),
+        }
+    }
+
+    /// Makes room for so many terminals.
+    pub fn begin(&mut self, alloc: Global, terminals: usize) -> Result<(), Memory> {
+        for _terminal in 0..terminals {
+            push(&mut self.seen, Vec::new(alloc))?;
+        }
+        Ok(())
     }
 
     /// Notes what a run has at a tick and keeps for so many ticks.
@@ -79,8 +85,8 @@ impl Outlook64 {
         requires { t < 4000 }
     {
         let counted = scene.counted().saturating_sub(t).min(ticks);
-        if let Some(trip) = scene.net.trip_gates().get(scene.terminal as usize) {
-            let pair = run.pair(*trip);
+        if let Some(trip) = scene.trip() {
+            let pair = run.pair(trip);
             self.note_trip(t, pair.must & run.lanes());
             self.may |= if counted > 0 { pair.may } else { 0 };
         }
@@ -169,29 +175,19 @@ impl Outlook64 {
     pub fn push_cases(&self, scene: &Scene, lane: u32, cases: &mut Vec<Case>) -> Result<(), Memory>
         requires { lane < 64 }
     {
-        let terminals = scene.line.terminals.len();
-        for terminal in 0..terminals {
-            if let Some(list) = self.seen.get(terminal) {
-                let horizon = scene.line.horizon;
-                push_stretches(cases, list, horizon, terminal as u32, only(lane))?;
-            }
+        let horizon = scene.line.horizon;
+        for terminal in 0..scene.line.terminals.len() {
+            let list = self.seen_of(terminal);
+            push_stretches(cases, list, horizon, terminal as u32, only(lane))?;
         }
         Ok(())
     }
 
-    /// Whether a terminal must key in a lane, at each tick of a run.
-    pub fn keys(
-        &self,
-        alloc: Global,
-        terminal: u32,
-        lane: u32,
-        horizon: u32,
-    ) -> Result<Vec<bool>, Memory>
-        requires { lane < 64 }
-    {
-        match self.seen.get(terminal as usize) {
-            Some(list) => keys_by_tick(alloc, list, lane, horizon),
-            None => Ok(Vec::new(alloc)),
+    /// What is seen of a terminal.
+    pub fn seen_of(&self, terminal: usize) -> &[Since] {
+        match self.seen.get(terminal) {
+            Some(list) => list,
+            None => &[],
         }
     }
 }

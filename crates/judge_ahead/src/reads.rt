@@ -47,6 +47,9 @@ impl ReadOn {
     }
 }
 
+// more than a line has
+const PARAMS: usize = 64;
+
 /// How a parameter is read. It counts as a pickup where a timer has it for one.
 #[derive(Clone, Copy)]
 struct ParamReads {
@@ -67,7 +70,7 @@ impl ParamReads {
 #[derive(Drop)]
 pub struct Reads {
     gates: Vec<ReadOn>,
-    params: Vec<ParamReads>,
+    params: [ParamReads; PARAMS],
 }
 
 impl Reads {
@@ -77,13 +80,15 @@ impl Reads {
         line: &Line,
         net: &Net,
         kind: Kind,
-        terminal: u32,
+        trip: Option<GateId>,
     ) -> Result<Reads, Memory> {
         let gates = vec![in alloc; ReadOn::NEITHER; net.len() as usize]?;
-        let params = vec![in alloc; ParamReads::NONE; line.params.len()]?;
-        let mut reads = Reads { gates, params };
-        if let Some(trip) = net.trip_gates().get(terminal as usize) {
-            reads.read(*trip, decided_on(kind));
+        let mut reads = Reads {
+            gates,
+            params: [ParamReads::NONE; PARAMS],
+        };
+        if let Some(trip) = trip {
+            reads.read(trip, decided_on(kind));
         }
         for _hop in 0..8 {
             reads.walk(line, net);

@@ -63,7 +63,7 @@ struct TimerGate {
 
 /// Looks at 64 views of an obligation.
 pub fn look_ahead(alloc: Global, scene: &Scene, views: &Views64) -> Result<Outlook64, Memory> {
-    let mut outlook = Outlook64::new(alloc, scene)?;
+    let mut outlook = Outlook64::bare(alloc);
     look_through(alloc, scene, views, &mut outlook)?;
     Ok(outlook)
 }
@@ -86,6 +86,7 @@ fn run_through(
     run: &mut Run64,
     outlook: &mut Outlook64,
 ) -> Result<(), Memory> {
+    outlook.begin(alloc, scene.net.key_gates().len())?;
     run.begin(alloc, scene, views)?;
     let horizon = scene.line.horizon;
     let mut t = 0;
@@ -110,13 +111,13 @@ impl Run64 {
             turned: 0,
             unknown: Counter64::new(),
             excluded: 0,
-            marks: Marks::none(alloc),
+            marks: Marks::NONE,
         }
     }
 
     // Takes what there is before the first tick.
     fn begin(&mut self, alloc: Global, scene: &Scene, views: &Views64) -> Result<(), Memory> {
-        self.begin_marks(scene, views)?;
+        self.begin_marks(scene, views);
         for i in 0..scene.net.len() {
             self.add_gate(scene, views, i)?;
         }
@@ -127,8 +128,7 @@ impl Run64 {
     }
 
     // Marks where the script turns, and where something is assumed, and no longer is.
-    fn begin_marks(&mut self, scene: &Scene, views: &Views64) -> Result<(), Memory> {
-        self.marks.begin(scene.line.horizon)?;
+    fn begin_marks(&mut self, scene: &Scene, views: &Views64) {
         for assumed in views.assumed() {
             let tick = assumed.one.case.tick;
             self.marks.put(tick);
@@ -137,7 +137,6 @@ impl Run64 {
         for turn in &scene.turns {
             self.marks.put(turn.tick);
         }
-        Ok(())
     }
 
     // Adds a gate, off in all lanes, to be looked at in the first tick.
@@ -265,11 +264,9 @@ impl Run64 {
 
     // The gate of a timer that is due.
     fn due_at(&self, slot: usize, t: u32) -> Option<u32> {
-        let one = self.timers.get(slot)?;
-        if one.timers.is_due(t) {
-            Some(one.gate)
-        } else {
-            None
+        match self.timers.get(slot) {
+            Some(one) if one.timers.is_due(t) => Some(one.gate),
+            _ => None,
         }
     }
 

@@ -22,7 +22,8 @@ pub struct Scene<'a> {
     pub turns: Vec<Turn>,
     /// Of each terminal the gate of the echo that it wants, where it is read on both rails.
     wanted: Vec<Option<GateId>>,
-    /// What sets the terminal's trip.
+    /// The terminal's trip, and what sets it.
+    trip: Option<GateId>,
     set: Option<GateId>,
 }
 
@@ -40,8 +41,9 @@ impl<'a> Scene<'a> {
         ensures script { IfOk result (λ s. s.script.now ≡ script.now) }
         ensures terminal { IfOk result (λ s. s.terminal ≡ terminal) }
     {
+        let trip = net.trip_gates().get(terminal as usize).copied();
         let turns = turns_of(alloc, line, net, script)?;
-        let reads = Reads::new(alloc, line, net, script.kind, terminal)?;
+        let reads = Reads::new(alloc, line, net, script.kind, trip)?;
         let wanted = wanted_gates(alloc, net, &reads)?;
         Ok(Scene {
             line,
@@ -51,7 +53,8 @@ impl<'a> Scene<'a> {
             reads,
             turns,
             wanted,
-            set: set_gate(net, terminal),
+            trip,
+            set: set_gate(net, trip),
         })
     }
 
@@ -63,6 +66,11 @@ impl<'a> Scene<'a> {
     /// The gate of the echo that a terminal wants.
     pub(crate) fn wanted_by(&self, terminal: usize) -> Option<GateId> {
         at(&self.wanted, terminal, None)
+    }
+
+    /// The terminal's trip.
+    pub(crate) fn trip(&self) -> Option<GateId> {
+        self.trip
     }
 
     /// What sets the terminal's trip.
@@ -83,39 +91,43 @@ impl<'a> Scene<'a> {
 fn wanted_gates(alloc: Global, net: &Net, reads: &Reads) -> Result<Vec<Option<GateId>>, Memory> {
     let mut wanted = Vec::new(alloc);
     for key in net.key_gates() {
-        let want = wanted_gate(net, *key);
-        push(&mut wanted, want.filter(|gate| reads.gate(*gate).is_both()))?;
+        push(&mut wanted, wanted_gate(net, reads, *key))?;
     }
     Ok(wanted)
 }
 
-// What the echo of a key starts from: of `ahead or (wanted and still)` the gate of `wanted`.
-fn wanted_gate(net: &Net, key: GateId) -> Option<GateId> {
-    let Gate::Or(_, echo) = gate_at(net, key)? else {
+// What the echo of a key starts from, where it is read on both rails: of `ahead or (wanted and
+// still)` the gate of `wanted`.
+fn wanted_gate(net: &Net, reads: &Reads, key: GateId) -> Option<GateId> {
+    let Gate::Or(_, echo) = gate_at(net, key) else {
         return None;
     };
-    let Gate::And(wanted, _) = gate_at(net, echo)? else {
+    let Gate::And(wanted, _) = gate_at(net, echo) else {
         return None;
     };
-    let Gate::Timer(_, _, _) = gate_at(net, wanted)? else {
+    let Gate::Timer(_, _, _) = gate_at(net, wanted) else {
         return None;
     };
-    Some(wanted)
+    if reads.gate(wanted).is_both() {
+        Some(wanted)
+    } else {
+        None
+    }
 }
 
 // What sets a trip.
-fn set_gate(net: &Net, terminal: u32) -> Option<GateId> {
-    let trip = net.trip_gates().get(terminal as usize)?;
-    match gate_at(net, *trip)? {
+fn set_gate(net: &Net, trip: Option<GateId>) -> Option<GateId> {
+    match gate_at(net, trip?) {
         Gate::Seal(set, _) => Some(set),
         _ => None,
     }
 }
 
-fn gate_at(net: &Net, id: GateId) -> Option<Gate> {
+// The gate of a number; never on where there is none.
+fn gate_at(net: &Net, id: GateId) -> Gate {
     if id.0 < net.len() {
-        Some(*net.gate(id))
+        *net.gate(id)
     } else {
-        None
+        Gate::Const(false)
     }
 }

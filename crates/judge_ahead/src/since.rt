@@ -5,7 +5,6 @@ ghost use Rattle.std.specs.Prelude.{◌<◌};
 use crate::bits::holds;
 use crate::lists::push;
 use model_line::Memory;
-use std::alloc::Global;
 
 /// What is seen of a terminal from a tick on.
 #[derive(Clone, Copy)]
@@ -36,26 +35,20 @@ pub fn push_since(list: &mut Vec<Since>, since: Since) -> Result<(), Memory> {
     push(list, since)
 }
 
-/// Whether it must key in a lane, at each tick of a run.
-pub fn keys_by_tick(
-    alloc: Global,
+/// Adds whether it must key in a lane, at each tick of a run.
+pub fn push_keys(
     list: &[Since],
     lane: u32,
     horizon: u32,
-) -> Result<Vec<bool>, Memory>
+    keys: &mut Vec<bool>,
+) -> Result<(), Memory>
     requires { lane < 64 }
 {
-    let mut place = 0usize;
     let mut on = false;
-    let mut all = Vec::new(alloc);
-    for t in 0..horizon {
-        if let Some(one) = list.get(place) {
-            if one.tick == t {
-                on = holds(one.keys, lane);
-                place = place.saturating_add(1);
-            }
-        }
-        push(&mut all, on)?;
+    for since in list {
+        keys.resize(since.tick as usize, on)?;
+        on = holds(since.keys, lane);
     }
-    Ok(all)
+    keys.resize(horizon as usize, on)?;
+    Ok(())
 }
