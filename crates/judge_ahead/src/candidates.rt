@@ -99,7 +99,17 @@ fn first_timing(
         return Ok(None);
     };
     let mut timing = Timing::new(values_of(alloc, scene, ends, lane)?);
-    push_channels(alloc, scene, ends, outlook, lane, &mut timing)?;
+    for channel in 0..scene.line.channels.len() {
+        push_channel(
+            alloc,
+            scene,
+            ends,
+            outlook,
+            lane,
+            channel as u32,
+            &mut timing,
+        )?;
+    }
     Ok(Some(timing))
 }
 
@@ -127,23 +137,6 @@ fn put_value(values: &mut Vec<Tick>, param: u32, number: u32) {
     if let Some(value) = values.get_mut(param as usize) {
         *value = Tick::new(number.min(4000));
     }
-}
-
-// Adds the steps of each channel's delay, if it moves.
-fn push_channels(
-    alloc: Global,
-    scene: &Scene,
-    ends: &[Within],
-    outlook: &Outlook64,
-    lane: u32,
-    timing: &mut Timing,
-) -> Result<(), Memory>
-    requires { lane < 64 }
-{
-    for channel in 0..scene.line.channels.len() {
-        push_channel(alloc, scene, ends, outlook, lane, channel as u32, timing)?;
-    }
-    Ok(())
 }
 
 // Adds the steps of a channel's delay, if it moves.

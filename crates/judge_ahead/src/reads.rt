@@ -1,7 +1,7 @@
 //! On which rails gates and times are read where a trip is.
 
 use crate::lists::at;
-use model_line::{Kind, Line, Memory};
+use model_line::{Channel, Kind, Line, Memory};
 use model_logic::Time;
 use net_gates::{Gate, GateId, Net};
 use std::alloc::Global;
@@ -126,9 +126,10 @@ impl Reads {
 
     // Over a channel to its sender's key.
     fn step_channel(&mut self, line: &Line, net: &Net, channel: u32, on: ReadOn) {
-        if (channel as usize) < line.channels.len() {
+        let channels: &[Channel] = &line.channels;
+        if (channel as usize) < channels.len() {
             self.read_time(Time::Param(line.delay_of(channel)), on, false);
-            let from = line.channels[channel as usize].from;
+            let from = channels[channel as usize].from;
             if let Some(key) = net.key_gates().get(from as usize) {
                 self.read(*key, on);
             }
