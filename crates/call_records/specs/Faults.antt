@@ -13,7 +13,7 @@ use Rattle.file_comtrade.specs.declared.record.RecordFault.{RecordFault}
 use Rattle.file_comtrade.specs.declared.record.RecordFault.TheVariants as record_fault
 use Rattle.file_comtrade.specs.declared.ticks.TickFault.{TickFault}
 use Rattle.file_document.specs.declared.fault.DocumentFault.{DocumentFault}
-use Rattle.file_document.specs.declared.fault.DocumentFault.TheVariants as map_fault
+use Rattle.file_document.specs.FaultWords.{place_of, words_of}
 use Rattle.file_records.specs.declared.map.source.Signal.{Signal}
 use Rattle.file_records.specs.declared.map.source.Signal.TheVariants as signal
 use Rattle.file_records.specs.map.Sources.{ChannelSaid, id, number}
