@@ -5,8 +5,8 @@ ghost use Rattle.model_line.specs.Fits.{Fits};
 ghost use Rattle.model_timing.specs.{Inside.IsTimingInside, NamedValues.values_of};
 ghost use Rattle.call_facts.specs.Drawings.{IsBandsOf, IsPlayOf};
 
-use draw_run::diagram::{every_choice_waves, history_diagram, play_diagram};
 use draw_gates::dump::play_waves;
+use draw_run::diagram::{every_choice_waves, history_diagram, play_diagram};
 use draw_run::layout::{Subject, draw};
 use draw_shapes::{Drawing, Rows};
 use judge_verdict::verdict::analyse;

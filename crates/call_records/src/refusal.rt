@@ -12,8 +12,8 @@ ghost use Rattle.call_records.specs.Faults.{channel_words, line_words_at, missin
 
 use crate::halt::Halt;
 use file_comtrade::{ConfigFault, DataFault, RecordFault, TickFault};
-use file_line::LineFault;
 use file_document::DocumentFault;
+use file_line::LineFault;
 use file_records::map::{ChannelName, Signal};
 use itoa::Buffer;
 use model_line::{Line, Memory, name_of_terminal};

@@ -191,7 +191,10 @@ pub fn items<'a>(path: Path, key: &str, table: &'a Table) -> Result<&'a [Value],
 }
 
 /// The items of an array that may be absent.
-pub fn optional_items<'a>(path: Path, value: Option<&'a Value>) -> Result<&'a [Value], DocumentFault>
+pub fn optional_items<'a>(
+    path: Path,
+    value: Option<&'a Value>,
+) -> Result<&'a [Value], DocumentFault>
     ensures { seen (λ vs. items_view vs.now) result
         ≡ array_or_none path (option_map (λ v. view v.now) value.entry) }
 {

@@ -5,4 +5,3 @@ pub mod LineTables
 pub mod Shows
 pub mod Faults
 pub mod Studies
-

@@ -1,7 +1,7 @@
 //! The rules that a refused file breaks, in words.
 
-use file_line::LineFault;
 use file_document::DocumentFault;
+use file_line::LineFault;
 use file_study::sweeps::{StudySweepFault, SweepFault};
 use file_tables::script::ScriptFault;
 
@@ -103,7 +103,8 @@ pub fn study_rule(fault: &DocumentFault) -> &'static str {
         DocumentFault::Swept(_) => "only the times of a fault are swept",
         DocumentFault::NoInstant(_) => "one time stands here, and no interval",
         DocumentFault::TooMany(_) => "a sweep has at most 1000 values, and a fault 4096 scripts",
-        DocumentFault::BadDate(_) | DocumentFault::OneFile(_) => "this stands in maps of recorders alone",
+        DocumentFault::BadDate(_) | DocumentFault::OneFile(_) =>
+            "this stands in maps of recorders alone",
     }
 }
 

@@ -5,10 +5,9 @@ ghost use Rattle.toml.specs.View.{table_view};
 ghost use Rattle.file_records.specs.map.Maps.{kind_of, kind_at, top_keys, plain_name, script_at};
 ghost use Rattle.file_records.specs.map.Maps.{deadline_at, start_at};
 
-use file_document::DocumentFault;
 use crate::map::instant::instant;
 use file_document::keys::{number, text};
-use file_document::Path;
+use file_document::{DocumentFault, Path};
 use model_line::{Kind, Line, Name, is_plain};
 use toml::Table;
 

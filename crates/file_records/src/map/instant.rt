@@ -5,9 +5,8 @@ ghost use Rattle.toml.specs.View.{view};
 ghost use Rattle.file_records.specs.map.Instants.{has_date, date_in, dated, instant_of, instant_in};
 ghost use Rattle.file_records.specs.map.Instants.{moved, shifted, shifted_in, shifted_by};
 
-use file_document::DocumentFault;
-use file_document::Path;
 use file_comtrade::{DateOrder, moment};
+use file_document::{DocumentFault, Path};
 use toml::Value;
 
 // Whether `yyyy-mm-ddT` stands before a time, with no 0 at its front.

@@ -8,12 +8,11 @@ ghost use Rattle.base_memory.specs.Gives.{Becomes};
 ghost use Rattle.file_records.specs.map.Signals.{signals_values, loss_under, losses_from, losses_in};
 ghost use Rattle.file_records.specs.map.Signals.{losses_or_none, other_names};
 
-use file_document::DocumentFault;
-use file_document::keys::{only, table_of};
-use file_document::Path;
 use crate::map::signals::push_signal;
 use crate::map::source::{Signal, Signals};
 use base_memory::Stopped;
+use file_document::keys::{only, table_of};
+use file_document::{DocumentFault, Path};
 use model_line::{Line, Name, Terminal, What};
 use std::alloc::{AllocError, Global};
 use toml::{Table, Value};

@@ -6,14 +6,13 @@ ghost use Rattle.base_memory.specs.Gives.{Gives};
 ghost use Rattle.file_records.specs.map.Recorders.{recorder_values};
 ghost use Rattle.file_records.specs.map.Maps.{map_values, recorders_of, map_in, map_of};
 
-use file_document::DocumentFault;
 use crate::map::head::{deadline, kind, script, start, top_keys};
-use file_document::keys::{counted, items, number, only, open};
 use crate::map::map::Map;
-use file_document::Path;
 use crate::map::recorder::Recorder;
 use crate::map::recorders::recorders_in;
 use base_memory::Stopped;
+use file_document::keys::{counted, items, number, only, open};
+use file_document::{DocumentFault, Path};
 use model_line::Line;
 use std::alloc::Global;
 use toml::Table;

@@ -8,15 +8,14 @@ ghost use Rattle.file_records.specs.map.Recorders.{recorder_values, terminal_in,
 ghost use Rattle.file_records.specs.map.Recorders.{config_at, order_named, order_in, order_or_none};
 ghost use Rattle.file_records.specs.map.Recorders.{recorder_at, recorder_in, recorder_keys, recorders_in};
 
-use file_document::DocumentFault;
 use crate::map::file_names::{is_config, is_one_file};
 use crate::map::instant::shifted;
-use file_document::keys::{find, only, table_of, text, text_of};
-use file_document::Path;
 use crate::map::recorder::Recorder;
 use crate::map::signals::signals;
 use base_memory::Stopped;
 use file_comtrade::DateOrder;
+use file_document::keys::{find, only, table_of, text, text_of};
+use file_document::{DocumentFault, Path};
 use model_line::Line;
 use model_names::terminal_of_name;
 use std::alloc::Global;

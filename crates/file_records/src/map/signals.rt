@@ -6,13 +6,12 @@ ghost use Rattle.base_memory.specs.Gives.{Becomes, Gives};
 ghost use Rattle.file_records.specs.map.Signals.{signals_values, with_sources, said_or_not, signal_under, shown};
 ghost use Rattle.file_records.specs.map.Signals.{elements_of, signals_of};
 
-use file_document::DocumentFault;
-use file_document::keys::find;
 use crate::map::losses::push_losses;
-use file_document::Path;
 use crate::map::source::{Signal, Signals};
 use crate::map::sources::push_sources;
 use base_memory::Stopped;
+use file_document::keys::find;
+use file_document::{DocumentFault, Path};
 use model_line::{Element, Line, Place, What};
 use std::alloc::Global;
 use toml::{Table, Value};

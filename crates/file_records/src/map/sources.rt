@@ -6,12 +6,11 @@ ghost use Rattle.base_memory.specs.Gives.{Becomes, Gives};
 ghost use Rattle.file_records.specs.map.Sources.{source_values, plain_source, text_source, table_source};
 ghost use Rattle.file_records.specs.map.Sources.{source_in, sources_in, one_source, sources_of};
 
-use file_document::DocumentFault;
-use file_document::keys::{find, flag, only, text};
-use file_document::Path;
 use crate::map::source::{ChannelName, Signal, Source};
 use base_memory::Stopped;
 use base_text::store::number;
+use file_document::keys::{find, flag, only, text};
+use file_document::{DocumentFault, Path};
 use std::alloc::Global;
 use toml::{Table, Value};
 

@@ -14,14 +14,13 @@ ghost use Rattle.file_study.specs.study.Faults.{terminal_names, stage_in, stage_
 ghost use Rattle.file_study.specs.study.Faults.{several_stages, only_stage, stages_or_one, stages_of};
 ghost use Rattle.file_study.specs.study.Faults.{fault_at, faults_in};
 
-use file_document::DocumentFault;
-use file_document::keys::{counted, find, items_of, only, table_of, text};
-use file_document::Path;
 use crate::study::shows::shows;
 use crate::study::stage::{Stage, SweptFault};
 use crate::study::ticks::moments;
 use crate::study::units::Units;
 use base_memory::Stopped;
+use file_document::keys::{counted, find, items_of, only, table_of, text};
+use file_document::{DocumentFault, Path};
 use model_line::{Kind, Line, Name, is_plain};
 use std::alloc::Global;
 use toml::{Table, Value};

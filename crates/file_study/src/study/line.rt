@@ -18,15 +18,14 @@ ghost use Rattle.file_study.specs.study.LineTables.{owner_members, terminal_memb
 ghost use Rattle.file_study.specs.study.LineTables.{line_head, with_tables, line_table, line_of_study};
 ghost use Rattle.file_study.specs.study.LineTables.{as_study, head_pairs};
 
-use file_document::DocumentFault;
-use file_document::keys::{
-    counted, find, flag, items, number, only_in, optional_number, optional_table, text, text_of,
-};
-use file_document::Path;
 use crate::study::settings::{put, put_section};
 use crate::study::ticks::instant;
 use crate::study::units::Units;
 use base_memory::{Memory, Stopped};
+use file_document::keys::{
+    counted, find, flag, items, number, only_in, optional_number, optional_table, text, text_of,
+};
+use file_document::{DocumentFault, Path};
 use file_line::{LineFault, read_line};
 use model_line::{Channel, Line, Name, Terminal, channel_name, is_plain};
 use std::alloc::Global;

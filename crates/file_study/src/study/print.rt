@@ -4,9 +4,9 @@ ghost use Rattle.std.specs.Prelude.{IfOk, IfErr};
 ghost use Rattle.base_memory.specs.Gives.{Fails};
 ghost use Rattle.file_study.specs.study.Studies.{study_of, HasLine};
 
-use file_document::DocumentFault;
 use crate::study::read::read_study;
 use base_memory::Stopped;
+use file_document::DocumentFault;
 use file_line::print_line;
 use std::alloc::Global;
 

@@ -7,15 +7,14 @@ ghost use Rattle.base_memory.specs.Gives.{Gives};
 ghost use Rattle.file_study.specs.study.Faults.{fault_values};
 ghost use Rattle.file_study.specs.study.Studies.{study_values, faults_of, study_with, study_in, study_of};
 
-use file_document::DocumentFault;
 use crate::study::faults::faults_in;
-use file_document::keys::{counted, items, number, only, open, text};
 use crate::study::line::{line, terminal_names, units};
-use file_document::Path;
 use crate::study::stage::SweptFault;
 use crate::study::study::Study;
 use crate::study::units::Units;
 use base_memory::Stopped;
+use file_document::keys::{counted, items, number, only, open, text};
+use file_document::{DocumentFault, Path};
 use model_line::Line;
 use std::alloc::Global;
 use toml::Table;

@@ -8,12 +8,11 @@ ghost use Rattle.file_study.specs.study.Settings.{time_data, time_in, put_times,
 ghost use Rattle.file_study.specs.study.Settings.{put_settings};
 ghost use Rattle.file_study.specs.study.Settings.{put_optional, put_section, ends_data};
 
-use file_document::DocumentFault;
-use file_document::keys::{find_in, optional_table};
-use file_document::Path;
 use crate::study::ticks::bounds;
 use crate::study::units::Units;
 use base_memory::{Memory, Stopped};
+use file_document::keys::{find_in, optional_table};
+use file_document::{DocumentFault, Path};
 use model_line::Bounds;
 use std::alloc::Global;
 use toml::{Table, Value};

@@ -10,15 +10,14 @@ ghost use Rattle.file_study.specs.study.Shows.{element_of, element_in, is_space,
 ghost use Rattle.file_study.specs.study.Shows.{all_shown, terminal_shows, terminals_show};
 ghost use Rattle.file_study.specs.study.Shows.{channel_called, channel_in, lost_in, all_lost, shows_of};
 
-use file_document::DocumentFault;
-use file_document::keys::{find, optional_items, text_of};
 use crate::study::line::text_of_name;
-use file_document::Path;
 use crate::study::stage::Shown;
 use crate::study::ticks::instant;
 use crate::study::units::Units;
 use base_memory::Stopped;
 use base_text::lines::find_byte;
+use file_document::keys::{find, optional_items, text_of};
+use file_document::{DocumentFault, Path};
 use model_line::{Element, Line, Place, Terminal, What};
 use model_names::channel_of_name;
 use std::alloc::Global;
@@ -84,7 +83,13 @@ fn shift(upward: bool, units: Units, path: Path, text: &[u8]) -> Result<u32, Doc
 
 // An element at terminal k, as `z1` or `z1 +12 ms`.
 #[tactic(auto, unfolding(crate::specs::study::Shows::shown_in))]
-fn shown(upward: bool, units: Units, k: u32, path: Path, value: &Value) -> Result<Shown, DocumentFault>
+fn shown(
+    upward: bool,
+    units: Units,
+    k: u32,
+    path: Path,
+    value: &Value,
+) -> Result<Shown, DocumentFault>
     requires { 0 < units.tick_us }
     ensures { result ≡ shown_in upward units k path (view value.now) }
 {

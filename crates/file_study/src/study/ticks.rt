@@ -9,11 +9,10 @@ ghost use Rattle.file_study.specs.study.Moments.{told, is_instant, instant_in, s
 ghost use Rattle.file_study.specs.study.Moments.{moments_of};
 ghost use Rattle.file_study.specs.times.Times.{time_of};
 
-use file_document::DocumentFault;
-use file_document::Path;
 use crate::study::units::Units;
 use crate::times::{Fraction, Interval, Sweep, Time, read_time};
 use base_memory::Stopped;
+use file_document::{DocumentFault, Path};
 use model_line::Bounds;
 use std::alloc::Global;
 

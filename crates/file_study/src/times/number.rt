@@ -8,9 +8,9 @@ ghost use Rattle.file_study.specs.times.Numbers.{is_number, is_parted_well};
 ghost use Rattle.file_study.specs.times.Numbers.{number_in};
 ghost use Rattle.file_study.specs.times.Fractions.{IsOfSize};
 
-use file_document::TimeFault;
 use crate::times::fraction::Fraction;
 use base_text::lines::find_byte;
+use file_document::TimeFault;
 
 /// The number that a word at this place is, of at most nine digits.
 pub fn number_in(place: usize, word: &[u8]) -> Result<Fraction, TimeFault>

@@ -12,12 +12,12 @@ ghost use Rattle.file_study.specs.times.Times.{stepped, behind_ends, ends_at, be
 ghost use Rattle.file_study.specs.times.Times.{behind_number};
 ghost use Rattle.file_study.specs.times.Times.{first_number, time_of, IsEnd, IsMeasured, IsReadable};
 
-use file_document::TimeFault;
 use crate::times::fraction::Fraction;
 use crate::times::number::number_in;
 use crate::times::time::{Interval, Sweep, Time};
 use crate::times::unit::{unit_in, whole};
 use crate::times::word::{Sign, place, sign_in, word};
+use file_document::TimeFault;
 
 /// What a text says, where the system has so many hertz. Words are parted by one or more spaces:
 /// `8 ms`, `8 .. 16 ms`, `500 us .. 2 ms`, `30 ms +- 2 ms`, `30 ms +- 5 % +- 2 ms`,

@@ -4,9 +4,9 @@ ghost use Rattle.std.specs.Prelude.{◌≡◌, ◌^◌, IfOk};
 ghost use Rattle.file_study.specs.times.Units.{whole, cycle_in, no_unit, unit_in};
 ghost use Rattle.file_study.specs.times.Fractions.{IsOfSize};
 
-use file_document::TimeFault;
 use crate::times::fraction::Fraction;
 use crate::times::word::{Sign, is, sign_in};
+use file_document::TimeFault;
 
 /// One of the unit that a word at this place is.
 pub fn unit_in(place: usize, hertz: Option<u32>, word: &[u8]) -> Result<Fraction, TimeFault>
