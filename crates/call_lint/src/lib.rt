@@ -2,4 +2,5 @@
 #![tactic(auto)]
 
 pub mod lint;
+mod pieces;
 pub mod warnings;

@@ -1,157 +1,143 @@
-//! The times of a line file of version 2, in microseconds.
+//! The times as the files write them, in microseconds.
 
 ghost use Rattle.std.specs.Prelude.{IfOk};
 ghost use Rattle.std.specs.List.{All};
 ghost use Rattle.file_study.specs.times.Times.{IsEnd};
 ghost use Rattle.call_lint.specs.warnings.TimeTests.{AreEnds};
 
-use file_study::times::{Fraction, Interval};
-use model_line::{Line, Memory, Setting, groups_of_channel, groups_of_terminal};
+use crate::lint::owners::{parted, place_of_owner};
+use crate::lint::sheet::Sheet;
+use file_study::times::{Fraction, Interval, Time, read_time};
+use model_line::{Line, Memory};
 use std::alloc::Global;
+use toml::value::Index;
 use toml::{Table, Value};
 
-/// The ends of each parameter in microseconds, as a line file of version 2 writes them; none of a
-/// file of version 1, whose times are ticks.
-pub fn exact_ends(alloc: Global, line: &Line, bytes: &[u8]) -> Result<Vec<Interval>, Memory>
+/// The ends of each parameter in microseconds, as a line file of version 2 or a study writes them;
+/// none of a line file of version 1, whose times are ticks.
+pub fn exact_ends(alloc: Global, line: &Line, sheet: &Sheet<'_>) -> Result<Vec<Interval>, Memory>
     ensures { IfOk result (λ v. All AreEnds v.items) }
 {
-    match table_of(alloc, bytes)? {
-        Some(top) if is_in_microseconds(&top) => ends_in(alloc, line, &top),
-        _ => Ok(Vec::new(alloc)),
-    }
-}
-
-/// The document's table, where the bytes are one.
-pub fn table_of(alloc: Global, bytes: &[u8]) -> Result<Option<Table>, Memory> {
+    let (bytes, hertz) = match sheet {
+        Sheet::Files { line, .. } => (*line, None),
+        Sheet::Study { bytes, hertz, .. } => (*bytes, *hertz),
+    };
     match toml::table_from_slice(alloc, bytes) {
-        Ok(table) => Ok(Some(table)),
+        Ok(top) => ends_in(alloc, line, sheet, hertz, &top),
         Err(error) => {
             if error.is_memory() {
-                return Err(Memory);
+                Err(Memory)
+            } else {
+                Ok(Vec::new(alloc))
             }
-            Ok(None)
         }
     }
 }
 
-fn is_in_microseconds(top: &Table) -> bool {
-    matches!(top.get("version"), Some(Value::Integer(2)))
-}
-
-fn ends_in(alloc: Global, line: &Line, top: &Table) -> Result<Vec<Interval>, Memory>
+fn ends_in(
+    alloc: Global,
+    line: &Line,
+    sheet: &Sheet<'_>,
+    hertz: Option<u32>,
+    top: &Table,
+) -> Result<Vec<Interval>, Memory>
     ensures { IfOk result (λ v. All AreEnds v.items) }
 {
     let mut exact = Vec::new(alloc);
-    push_terminals(&mut exact, line, top)?;
-    push_channels(&mut exact, line, top)?;
+    if !is_in_ticks(top) {
+        for param in line.params.iter() {
+            let value = value_of(line, sheet, top, param.name.bytes());
+            exact.push(ends_of(value, hertz))?;
+        }
+    }
     Ok(exact)
 }
 
-fn push_terminals(exact: &mut Vec<Interval>, line: &Line, top: &Table) -> Result<(), Memory>
-    requires { All AreEnds exact.old.items }
-    ensures { All AreEnds exact.new.items }
-{
-    for (k, terminal) in line.terminals.iter().enumerate() {
-        let own = item(top, "terminal", k);
-        push_groups(exact, own, &groups_of_terminal(line.scheme, terminal))?;
+fn is_in_ticks(top: &Table) -> bool {
+    matches!(top.get("version"), Some(Value::Integer(1)))
+}
+
+// What is written for the parameter of this name, as `east.z1.pickup`.
+fn value_of<'a>(line: &Line, sheet: &Sheet<'_>, top: &'a Table, name: &[u8]) -> Option<&'a Value> {
+    let (owner, path) = parted(name);
+    let (key, inner) = parted(path);
+    let value = value_at(line, sheet, top, owner, text_of(key))?;
+    if inner.is_empty() {
+        Some(value)
+    } else {
+        value.get(text_of(inner))
     }
-    Ok(())
 }
 
-fn push_channels(exact: &mut Vec<Interval>, line: &Line, top: &Table) -> Result<(), Memory>
-    requires { All AreEnds exact.old.items }
-    ensures { All AreEnds exact.new.items }
-{
-    for c in 0..line.channels.len() {
-        push_groups(
-            exact,
-            item(top, "channel", c),
-            &groups_of_channel(line.scheme),
-        )?;
+// What stands at a key of an owner. In a study its own stands for the whole of the default one.
+fn value_at<'a>(
+    line: &Line,
+    sheet: &Sheet<'_>,
+    top: &'a Table,
+    owner: &[u8],
+    key: &str,
+) -> Option<&'a Value> {
+    let (kind, number) = place_of_owner(line, owner);
+    match sheet {
+        Sheet::Files { .. } => value_under(top, kind, number, key),
+        Sheet::Study { .. } => {
+            value_under(top, kind, text_of(owner), key).or(value_under(top, "default", kind, key))
+        }
     }
-    Ok(())
 }
 
-fn push_groups(
-    exact: &mut Vec<Interval>,
-    own: Option<&Table>,
-    groups: &[&[Setting]],
-) -> Result<(), Memory>
-    requires { All AreEnds exact.old.items }
-    ensures { All AreEnds exact.new.items }
-{
-    for group in groups {
-        push_group(exact, own, group)?;
-    }
-    Ok(())
+fn value_under<'a, I: Index + Drop>(
+    top: &'a Table,
+    outer: &str,
+    inner: I,
+    key: &str,
+) -> Option<&'a Value> {
+    top.get(outer)?.get(inner)?.get(key)
 }
 
-fn push_group(
-    exact: &mut Vec<Interval>,
-    own: Option<&Table>,
-    settings: &[Setting],
-) -> Result<(), Memory>
-    requires { All AreEnds exact.old.items }
-    ensures { All AreEnds exact.new.items }
-{
-    for setting in settings {
-        exact.push(ends_of(value_of(own, *setting)))?;
-    }
-    Ok(())
+fn text_of(key: &[u8]) -> &str {
+    std::str::from_utf8(key).unwrap_or("")
 }
 
-// A table of an array.
-fn item<'a>(top: &'a Table, array: &str, i: usize) -> Option<&'a Table> {
-    top.get(array)?.as_array()?.get(i)?.as_table()
-}
-
-// What is written for a setting of an owner.
-fn value_of<'a>(own: Option<&'a Table>, setting: Setting) -> Option<&'a Value> {
-    let own = own?;
-    if setting.table().is_empty() {
-        return own.get(setting.key());
-    }
-    own.get(setting.table())?.as_table()?.get(setting.key())
-}
-
-// The ends of a time; those of none are 0.
-fn ends_of(value: Option<&Value>) -> Interval
+// The ends of a time: a number of microseconds, two of them, or a text with a unit. Those of none
+// are 0.
+fn ends_of(value: Option<&Value>, hertz: Option<u32>) -> Interval
     ensures { AreEnds result }
 {
     match value {
-        Some(Value::Integer(n)) => Interval {
-            least: microseconds(*n),
-            greatest: microseconds(*n),
+        Some(Value::Integer(n)) => interval(*n, *n),
+        Some(Value::Array(items)) => interval(number_at(items, 0), number_at(items, 1)),
+        Some(Value::String(text)) => match read_time(text.as_bytes(), hertz) {
+            Ok(Time::Interval(ends)) => ends,
+            _ => interval(0, 0),
         },
-        Some(Value::Array(items)) => Interval {
-            least: end_at(items, 0),
-            greatest: end_at(items, 1),
-        },
-        _ => Interval {
-            least: microseconds(0),
-            greatest: microseconds(0),
-        },
+        _ => interval(0, 0),
     }
 }
 
-fn end_at(items: &[Value], i: usize) -> Fraction
-    ensures { IsEnd result }
-{
+fn number_at(items: &[Value], i: usize) -> i64 {
     match items.get(i) {
-        Some(Value::Integer(n)) => microseconds(*n),
-        _ => microseconds(0),
+        Some(Value::Integer(n)) => *n,
+        _ => 0,
     }
 }
 
-/// So many microseconds.
-pub fn microseconds(number: i64) -> Fraction
+// From so many microseconds to so many.
+fn interval(least: i64, greatest: i64) -> Interval
+    ensures { AreEnds result }
+{
+    Interval {
+        least: microseconds(least),
+        greatest: microseconds(greatest),
+    }
+}
+
+fn microseconds(number: i64) -> Fraction
     ensures { IsEnd result }
 {
-    match u32::try_from(number) {
-        Ok(number) => Fraction {
-            over: number as u128,
-            under: 1,
-        },
-        Err(_) => Fraction { over: 0, under: 1 },
+    let over = u32::try_from(number).unwrap_or(0);
+    Fraction {
+        over: u128::from(over),
+        under: 1,
     }
 }

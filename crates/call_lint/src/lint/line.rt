@@ -1,19 +1,17 @@
 //! Over a line file and its scripts.
 
 ghost use Rattle.std.specs.Prelude.{IfOk};
-ghost use Rattle.call_lint.specs.lint.Outcomes.{IsLinted, IsScriptsLinted, IsReadLinted};
+ghost use Rattle.call_lint.specs.lint.Outcomes.{IsLinted, IsScriptsLinted};
 
-use crate::lint::exact::exact_ends;
-use crate::lint::linted::{Linted, Outcome, outcome_of};
+use crate::lint::accepted::lint_accepted;
+use crate::lint::linted::{Linted, Outcome};
 use crate::lint::refused_line::refused_line;
 use crate::lint::refused_scripts::refused_scripts;
 use crate::lint::sheet::{Names, Sheet};
-use crate::lint::warned::warnings_text;
-use crate::warnings::warnings;
 use base_memory::{Memory, Stopped};
 use file_line::read_line;
 use file_tables::script::read_scripts;
-use model_line::{Line, Script};
+use model_line::Line;
 use std::alloc::Global;
 
 /// What is suspicious in a line file and its scripts, or where and why one of them is refused.
@@ -51,7 +49,7 @@ fn lint_scripts(
                 scripts,
                 names,
             };
-            lint_read(alloc, own, line, &sheet, &read)
+            lint_accepted(alloc, own, &sheet, &read)
         }
         Err(Stopped::Memory) => Err(Memory),
         Err(Stopped::Fault(fault)) => Ok(Linted {
@@ -59,21 +57,4 @@ fn lint_scripts(
             text: refused_scripts(alloc, scripts, names.scripts, &fault)?,
         }),
     }
-}
-
-fn lint_read(
-    alloc: Global,
-    own: &Line,
-    line: &[u8],
-    sheet: &Sheet<'_>,
-    scripts: &[Script],
-) -> Result<Linted, Memory>
-    ensures { IfOk result (λ linted. IsReadLinted own.now scripts.now linted.outcome) }
-{
-    let exact = exact_ends(alloc, own, line)?;
-    let list = warnings(alloc, own, &exact, scripts)?;
-    Ok(Linted {
-        outcome: outcome_of(&list),
-        text: warnings_text(alloc, sheet, own, scripts, &list)?,
-    })
 }

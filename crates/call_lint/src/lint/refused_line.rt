@@ -1,14 +1,14 @@
 //! The text of a line file that is refused.
 
 use crate::lint::rules::{key_rule, line_rule};
-use crate::lint::spots::{push_fault, toml_place};
-use crate::lint::text::Spot;
-use crate::warnings::{Wanted, place_of_key};
+use crate::lint::spots::{document_place, wrong_at};
+use crate::lint::text::{Spot, refused_text};
+use crate::warnings::Wanted;
 use file_line::LineFault;
 use model_line::Memory;
 use std::alloc::Global;
 
-/// The text: the line that `pilot` writes, and one of the place, `error: FILE:LINE:COLUMN: ..`.
+/// The text: the line that `pilot` writes, and one of the place.
 pub fn refused_line(
     alloc: Global,
     bytes: &[u8],
@@ -16,33 +16,26 @@ pub fn refused_line(
     fault: &LineFault,
 ) -> Result<Vec<u8>, Memory> {
     let path = path_of(fault);
-    let at = match fault {
-        LineFault::NotToml => toml_place(alloc, bytes)?,
-        _ => place_of_key(alloc, bytes, path)?,
-    };
-    let rules = [
-        line_rule(fault).as_bytes(),
-        key_rule(fault, path).as_bytes(),
+    let at = document_place(alloc, bytes, path)?;
+    let spot = Spot { name, bytes, at };
+    let words = [
+        line_rule(fault),
+        key_rule(fault, path.unwrap_or(b"")),
+        wrong_at(Wanted::Document, spot),
     ];
-    let mut text = format!(in alloc; "refused line {fault}\n")?.into_bytes();
-    push_fault(
-        &mut text,
-        Wanted::Document,
-        Spot { name, bytes, at },
-        &rules,
-    )?;
-    Ok(text)
+    refused_text(alloc, "refused line", fault, spot, words)
 }
 
-// The path that a fault tells.
-fn path_of(fault: &LineFault) -> &[u8] {
+// The path that a fault tells; a file that is no TOML has none.
+fn path_of(fault: &LineFault) -> Option<&[u8]> {
     match fault {
         LineFault::Unknown(path)
         | LineFault::Missing(path)
         | LineFault::WrongKind(path)
         | LineFault::Range(path)
         | LineFault::BadName(path)
-        | LineFault::Twice(path) => path.bytes(),
-        LineFault::NotToml | LineFault::Channels(_, _) => b"",
+        | LineFault::Twice(path) => Some(path.bytes()),
+        LineFault::Channels(_, _) => Some(b""),
+        LineFault::NotToml => None,
     }
 }

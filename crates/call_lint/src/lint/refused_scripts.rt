@@ -1,14 +1,14 @@
 //! The text of a file of scripts that is refused.
 
 use crate::lint::rules::script_rule;
-use crate::lint::spots::push_fault;
-use crate::lint::text::Spot;
+use crate::lint::spots::wrong_at;
+use crate::lint::text::{Spot, refused_text};
 use crate::warnings::{Wanted, place_of_record};
 use file_tables::script::ScriptFault;
 use model_line::Memory;
 use std::alloc::Global;
 
-/// The text: the line that `pilot` writes, and one of the place, `error: FILE:LINE:COLUMN: ..`.
+/// The text: the line that `pilot` writes, and one of the place.
 pub fn refused_scripts(
     alloc: Global,
     bytes: &[u8],
@@ -16,8 +16,7 @@ pub fn refused_scripts(
     fault: &ScriptFault,
 ) -> Result<Vec<u8>, Memory> {
     let at = place_of_record(alloc, bytes, fault.record().unwrap_or(1))?;
-    let rules = [script_rule(fault).as_bytes()];
-    let mut text = format!(in alloc; "refused scripts {fault}\n")?.into_bytes();
-    push_fault(&mut text, Wanted::Records, Spot { name, bytes, at }, &rules)?;
-    Ok(text)
+    let spot = Spot { name, bytes, at };
+    let words = [script_rule(fault), "", wrong_at(Wanted::Records, spot)];
+    refused_text(alloc, "refused scripts", fault, spot, words)
 }

@@ -3,11 +3,13 @@
 ghost use Rattle.std.specs.Prelude.{◌≤◌, IfOk, length};
 
 use crate::lint::rules::{study_rule, sweep_rule};
-use crate::lint::spots::{push_fault, toml_place};
-use crate::lint::text::{Spot, push_error, push_item};
+use crate::lint::spots::{document_place, wrong_at};
+use crate::lint::text::{Spot, refused_text};
+use crate::pieces::joined;
 use crate::warnings::{Wanted, place_of_key};
 use file_document::DocumentFault;
 use file_study::sweeps::StudySweepFault;
+use itoa::Buffer;
 use model_line::Memory;
 use std::alloc::Global;
 
@@ -18,19 +20,15 @@ pub fn refused_study(
     name: &str,
     fault: &DocumentFault,
 ) -> Result<Vec<u8>, Memory> {
-    let at = match fault.place() {
-        Some(path) => place_of_key(alloc, bytes, path.bytes())?,
-        None => toml_place(alloc, bytes)?,
+    let place = fault.place();
+    let path = match &place {
+        Some(path) => Some(path.bytes()),
+        None => None,
     };
-    let rules = [study_rule(fault).as_bytes()];
-    let mut text = format!(in alloc; "refused study: {fault}\n")?.into_bytes();
-    push_fault(
-        &mut text,
-        Wanted::Document,
-        Spot { name, bytes, at },
-        &rules,
-    )?;
-    Ok(text)
+    let at = document_place(alloc, bytes, path)?;
+    let spot = Spot { name, bytes, at };
+    let words = [study_rule(fault), "", wrong_at(Wanted::Document, spot)];
+    refused_text(alloc, "refused study:", fault, spot, words)
 }
 
 /// The text of a study of which a fault comes to no scripts.
@@ -40,19 +38,30 @@ pub fn refused_sweep(
     name: &str,
     fault: &StudySweepFault,
 ) -> Result<Vec<u8>, Memory> {
-    let at = place_of_fault(alloc, bytes, number_of(fault))?;
-    let rules = [sweep_rule(fault).as_bytes(), b"\n"];
-    let mut text = format!(in alloc; "refused study: {fault}\n")?.into_bytes();
-    push_error(&mut text, Spot { name, bytes, at }, &rules)?;
-    Ok(text)
+    let at = place_of_item(alloc, bytes, b"fault", number_of(fault), b"name")?;
+    let spot = Spot { name, bytes, at };
+    refused_text(
+        alloc,
+        "refused study:",
+        fault,
+        spot,
+        [sweep_rule(fault), "", ""],
+    )
 }
 
-/// Where the name of this fault stands.
-pub fn place_of_fault(alloc: Global, bytes: &[u8], i: usize) -> Result<usize, Memory>
+/// Where the key of an array's item stands, as `terminal[0].name`.
+pub fn place_of_item(
+    alloc: Global,
+    bytes: &[u8],
+    array: &[u8],
+    index: usize,
+    key: &[u8],
+) -> Result<usize, Memory>
     ensures { IfOk result (λ at. at ≤ length bytes.now) }
 {
-    let mut path = Vec::new(alloc);
-    push_item(&mut path, b"fault", i, b"name")?;
+    let mut digits = Buffer::new();
+    let number = digits.format(index).as_bytes();
+    let path = joined(alloc, &[array, b"[", number, b"].", key])?;
     place_of_key(alloc, bytes, &path)
 }
 

@@ -34,22 +34,30 @@ pub fn key_rule(fault: &LineFault, path: &[u8]) -> &'static str {
     }
 }
 
+fn is(path: &[u8], key: &[u8]) -> bool {
+    path == key
+}
+
 fn ends_with(path: &[u8], end: &[u8]) -> bool {
     path.ends_with(end)
 }
 
 // What a key has.
 fn value_rule(path: &[u8]) -> &'static str {
-    match path {
-        b"version" => ": version = 1 has times in ticks, version = 2 in microseconds",
-        b"tick_us" => ": tick_us is the number of microseconds in a tick, 1 to 1000000",
-        b"horizon" => ": horizon is a number of ticks, 1 to 4000; longer ticks reach further",
-        b"scheme" => {
-            ": scheme is \"pott\", \"putt\", \"dcb\", \"dcub\" or \"dtt\", in small letters"
-        }
-        b"terminal" => ": two or three tables [[terminal]]",
-        b"channel" => ": a table [[channel]] for each ordered pair of terminals",
-        _ => time_rule(path),
+    if is(path, b"version") {
+        ": version = 1 has times in ticks, version = 2 in microseconds"
+    } else if is(path, b"tick_us") {
+        ": tick_us is the number of microseconds in a tick, 1 to 1000000"
+    } else if is(path, b"horizon") {
+        ": horizon is a number of ticks, 1 to 4000; longer ticks reach further"
+    } else if is(path, b"scheme") {
+        ": scheme is \"pott\", \"putt\", \"dcb\", \"dcub\" or \"dtt\", in small letters"
+    } else if is(path, b"terminal") {
+        ": two or three tables [[terminal]]"
+    } else if is(path, b"channel") {
+        ": a table [[channel]] for each ordered pair of terminals"
+    } else {
+        time_rule(path)
     }
 }
 
@@ -110,14 +118,12 @@ pub fn study_rule(fault: &DocumentFault) -> &'static str {
 
 // What a study has.
 fn missing_rule(path: &[u8]) -> &'static str {
-    match path {
-        b"study" => {
-            "a key is missing: a study begins with `study = 1`, and a line file is given with its scripts"
-        }
-        _ if ends_with(path, b".trip_within") => {
-            "a key is missing: of an internal fault the time from its start within which it has to be tripped"
-        }
-        _ => "a key is missing",
+    if is(path, b"study") {
+        "a key is missing: a study begins with `study = 1`, and a line file is given with its scripts"
+    } else if ends_with(path, b".trip_within") {
+        "a key is missing: of an internal fault the time from its start within which it has to be tripped"
+    } else {
+        "a key is missing"
     }
 }
 

@@ -8,7 +8,7 @@ pub struct Names<'a> {
 }
 
 /// The files: a line and its scripts, or a study, with the number of the fault that each script is
-/// of.
+/// of, and with so many hertz where it has cycles.
 #[derive(Clone, Copy)]
 pub enum Sheet<'a> {
     Files {
@@ -20,5 +20,6 @@ pub enum Sheet<'a> {
         bytes: &'a [u8],
         name: &'a str,
         faults: &'a [usize],
+        hertz: Option<u32>,
     },
 }

@@ -2,18 +2,15 @@
 
 ghost use Rattle.std.specs.Prelude.{IfOk, map};
 ghost use Rattle.file_study.specs.study.Faults.{fault_values};
-ghost use Rattle.call_lint.specs.lint.Outcomes.{IsFaultsLinted, IsReadLinted, IsStudyLinted};
+ghost use Rattle.call_lint.specs.lint.Outcomes.{IsFaultsLinted, IsStudyLinted};
 
-use crate::lint::linted::{Linted, Outcome, outcome_of};
+use crate::lint::accepted::lint_accepted;
+use crate::lint::linted::{Linted, Outcome};
 use crate::lint::refused_study::{refused_study, refused_sweep};
 use crate::lint::sheet::Sheet;
-use crate::lint::study_times::exact_ends;
-use crate::lint::warned::warnings_text;
-use crate::warnings::warnings;
 use base_memory::{Memory, Stopped};
 use file_study::study::{Study, read_study};
 use file_study::sweeps::{Group, scripts_of_study};
-use model_line::Script;
 use std::alloc::Global;
 
 /// What is suspicious in a study and the scripts that it comes to, or where and why it is refused.
@@ -41,8 +38,9 @@ fn lint_faults(alloc: Global, study: &Study, bytes: &[u8], name: &str) -> Result
                 bytes,
                 name,
                 faults: &numbers,
+                hertz: study.units.hertz,
             };
-            lint_scripts(alloc, study, bytes, &sheet, &all.scripts)
+            lint_accepted(alloc, &study.line, &sheet, &all.scripts)
         }
         Err(Stopped::Memory) => Err(Memory),
         Err(Stopped::Fault(fault)) => Ok(Linted {
@@ -56,31 +54,9 @@ fn lint_faults(alloc: Global, study: &Study, bytes: &[u8], name: &str) -> Result
 fn numbers_of(alloc: Global, groups: &[Group]) -> Result<Vec<usize>, Memory> {
     let mut numbers = Vec::new(alloc);
     for (i, group) in groups.iter().enumerate() {
-        push_number_of(&mut numbers, i, group.swept.len())?;
+        for _ in 0..group.swept.len() {
+            numbers.push(i)?;
+        }
     }
     Ok(numbers)
-}
-
-fn push_number_of(numbers: &mut Vec<usize>, i: usize, count: usize) -> Result<(), Memory> {
-    for _ in 0..count {
-        numbers.push(i)?;
-    }
-    Ok(())
-}
-
-fn lint_scripts(
-    alloc: Global,
-    study: &Study,
-    bytes: &[u8],
-    sheet: &Sheet<'_>,
-    scripts: &[Script],
-) -> Result<Linted, Memory>
-    ensures { IfOk result (λ linted. IsReadLinted study.now.line scripts.now linted.outcome) }
-{
-    let exact = exact_ends(alloc, study, bytes)?;
-    let list = warnings(alloc, &study.line, &exact, scripts)?;
-    Ok(Linted {
-        outcome: outcome_of(&list),
-        text: warnings_text(alloc, sheet, &study.line, scripts, &list)?,
-    })
 }

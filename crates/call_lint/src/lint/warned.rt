@@ -1,9 +1,10 @@
 //! The text of warnings.
 
 use crate::lint::sheet::Sheet;
-use crate::lint::subject::{push_subject, spot_of, subject_of};
-use crate::lint::text::{push_all, push_line_place};
-use crate::lint::words::{of_script_before, study_words, warning_words};
+use crate::lint::subject::{name_of, spot_of, subject_of};
+use crate::lint::text::push_place;
+use crate::lint::words::{study_words, warning_words};
+use crate::pieces::push_all;
 use crate::warnings::Warning;
 use model_line::{Line, Memory, Script};
 use std::alloc::Global;
@@ -20,27 +21,25 @@ pub fn warnings_text(
 ) -> Result<Vec<u8>, Memory> {
     let mut text = Vec::new(alloc);
     for warning in warnings {
-        if !is_said_before(sheet, warnings, warning) {
-            push_warning(alloc, &mut text, sheet, line, scripts, warning)?;
+        if !is_said(sheet, warnings, warning) {
+            push_warning(alloc, &mut text, sheet, &*line, &*scripts, warning)?;
         }
     }
     Ok(text)
 }
 
-fn push_warning(
+fn push_warning<'a>(
     alloc: Global,
     text: &mut Vec<u8>,
     sheet: &Sheet<'_>,
-    line: &Line,
-    scripts: &[Script],
+    line: &'a Line,
+    scripts: &'a [Script],
     warning: &Warning,
 ) -> Result<(), Memory> {
-    let subject = subject_of(warning);
+    let subject = subject_of(line, warning);
     let spot = spot_of(alloc, sheet, line, scripts, subject)?;
-    push_all(text, &[b"warning: "])?;
-    push_line_place(text, spot)?;
-    push_all(text, &[b": "])?;
-    push_subject(text, line, scripts, subject)?;
+    push_place(text, b"warning: ", spot)?;
+    push_all(text, &name_of(scripts, subject))?;
     push_all(text, &[b": ", words_of(sheet, warning).as_bytes(), b"\n"])
 }
 
@@ -52,26 +51,27 @@ fn words_of(sheet: &Sheet<'_>, warning: &Warning) -> &'static str {
     }
 }
 
-// Whether the same is said of the script before, which is of the same fault, or of a time that was
-// rounded that it is less than a tick.
-fn is_said_before(sheet: &Sheet<'_>, warnings: &[Warning], warning: &Warning) -> bool {
-    if let Warning::Rounded(i) = warning {
-        return warnings.contains(&Warning::BelowTick(*i));
-    }
-    let Sheet::Study { faults, .. } = sheet else {
-        return false;
-    };
-    let Some(before) = of_script_before(warning) else {
-        return false;
-    };
-    fault_of(faults, warning) == fault_of(faults, &before) && warnings.contains(&before)
+fn is_said(sheet: &Sheet<'_>, warnings: &[Warning], warning: &Warning) -> bool {
+    warnings.iter().any(|told| says(sheet, told, warning))
 }
 
-fn fault_of(faults: &[usize], warning: &Warning) -> Option<usize> {
-    match warning {
-        Warning::NothingChanges(s) | Warning::DueFirst(s) | Warning::NoCurrent(s, _) => {
-            faults.get(*s).copied()
-        }
-        _ => None,
+// Whether the one, where it is told, says the other too: of a time that was rounded that it is less
+// than a tick, and of a script the same as of the one before it.
+fn says(sheet: &Sheet<'_>, told: &Warning, warning: &Warning) -> bool {
+    match (told, warning) {
+        (Warning::BelowTick(j), Warning::Rounded(i)) => i == j,
+        (Warning::NothingChanges(r), Warning::NothingChanges(s))
+        | (Warning::DueFirst(r), Warning::DueFirst(s)) => is_before(sheet, *r, *s),
+        (Warning::NoCurrent(r, j), Warning::NoCurrent(s, k)) => j == k && is_before(sheet, *r, *s),
+        _ => false,
+    }
+}
+
+// Whether the one script is right before the other, and both are of one fault of a study.
+fn is_before(sheet: &Sheet<'_>, r: usize, s: usize) -> bool {
+    match sheet {
+        Sheet::Study { faults, .. } => s.checked_sub(1) == Some(r)
+            && faults.get(r) == faults.get(s),
+        Sheet::Files { .. } => false,
     }
 }

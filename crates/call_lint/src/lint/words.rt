@@ -42,13 +42,3 @@ pub fn study_words(warning: &Warning) -> &'static str {
         other => warning_words(other),
     }
 }
-
-/// Whether the same is said of the script before.
-pub fn of_script_before(warning: &Warning) -> Option<Warning> {
-    match warning {
-        Warning::NothingChanges(s) => Some(Warning::NothingChanges(s.checked_sub(1)?)),
-        Warning::DueFirst(s) => Some(Warning::DueFirst(s.checked_sub(1)?)),
-        Warning::NoCurrent(s, k) => Some(Warning::NoCurrent(s.checked_sub(1)?, *k)),
-        _ => None,
-    }
-}

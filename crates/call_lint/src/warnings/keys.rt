@@ -8,6 +8,14 @@ use crate::warnings::section::Section;
 use base_memory::Memory;
 use std::alloc::Global;
 
+// The line of a document that leads furthest to a path: where it begins, and how many bytes of the
+// path it has.
+#[derive(Clone, Copy)]
+struct Lead {
+    place: usize,
+    depth: usize,
+}
+
 /// Where the key of this path, as `terminal[0].z2.pickup`, stands in a TOML document; where it does
 /// not, the deepest table of the path that does, or else the beginning.
 ///
@@ -16,42 +24,39 @@ use std::alloc::Global;
 pub fn place_of_key(alloc: Global, bytes: &[u8], path: &[u8]) -> Result<usize, Memory>
     ensures { IfOk result (λ place. place ≤ length bytes.now) }
 {
-    let mut section = Section::new(alloc);
-    let mut place = 0;
-    let mut depth = 0;
-    for i in 0..bytes.len() {
-        if begins_line(bytes, i) {
-            let own = section.path_of(alloc, first_line(&bytes[i..]))?;
-            if depth < own.len() && leads_to(&own, path) {
-                place = i;
-                depth = own.len();
-            }
-        }
-    }
-    Ok(place_of_word(bytes, place, last_key(path)))
+    let lead = lead_to(&mut Section::new(alloc), alloc, bytes, path)?;
+    Ok(place_of_word(bytes, lead.place, last_key(path)))
 }
 
 /// Where a table or key of exactly this path stands.
 pub fn place_of_table(alloc: Global, bytes: &[u8], path: &[u8]) -> Result<Option<usize>, Memory>
     ensures { IfOk result (λ found. IfSome found (λ place. place ≤ length bytes.now)) }
 {
-    let mut section = Section::new(alloc);
+    let lead = lead_to(&mut Section::new(alloc), alloc, bytes, path)?;
+    if lead.depth == path.len() {
+        Ok(Some(lead.place))
+    } else {
+        Ok(None)
+    }
+}
+
+// The first of those that lead furthest, read with this section.
+fn lead_to(section: &mut Section, alloc: Global, bytes: &[u8], path: &[u8]) -> Result<Lead, Memory>
+    ensures { IfOk result (λ lead. lead.place ≤ length bytes.now) }
+{
+    let mut place = 0;
+    let mut depth = 0;
     for i in 0..bytes.len() {
-        if begins_line(bytes, i) {
-            let own = section.path_of(alloc, first_line(&bytes[i..]))?;
-            if own.as_slice() == path {
-                return Ok(Some(i));
+        if i == 0 || bytes[i - 1] == b'\n' {
+            let has_path = section.read(alloc, first_line(&bytes[i..]))?;
+            let own = section.path();
+            if has_path && depth < own.len() && leads_to(own, path) {
+                place = i;
+                depth = own.len();
             }
         }
     }
-    Ok(None)
-}
-
-fn begins_line(bytes: &[u8], i: usize) -> bool {
-    match i.checked_sub(1) {
-        None => true,
-        Some(before) => bytes.get(before) == Some(&b'\n'),
-    }
+    Ok(Lead { place, depth })
 }
 
 /// Where the word stands in the line that begins at the place, or the place itself.

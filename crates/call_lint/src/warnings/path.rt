@@ -1,17 +1,11 @@
 //! Paths of tables and keys, as bytes.
 
-ghost use Rattle.std.specs.Prelude.{◌≡◌, ◌≤◌, IfOk, length};
+ghost use Rattle.std.specs.Prelude.{◌≤◌, length};
 
+use crate::pieces::{joint, push_all};
 use base_memory::Memory;
 use itoa::Buffer;
 use std::alloc::Global;
-
-/// The same bytes.
-pub fn copied(alloc: Global, bytes: &[u8]) -> Result<Vec<u8>, Memory>
-    ensures { IfOk result (λ v. v.items ≡ bytes.now) }
-{
-    Ok(Vec::from_slice(alloc, bytes)?)
-}
 
 /// The bytes without the blanks before them.
 pub fn trimmed(line: &[u8]) -> &[u8]
@@ -64,23 +58,14 @@ pub fn last_key(name: &[u8]) -> &[u8] {
 
 /// Appends a key of the table at the path; no key is none.
 pub fn push_key(path: &mut Vec<u8>, key: &[u8]) -> Result<(), Memory> {
-    if key.is_empty() {
-        return Ok(());
-    }
-    if !path.is_empty() {
-        path.push(b'.')?;
-    }
-    path.extend_from_slice(key)?;
-    Ok(())
+    let dot: &[u8] = if path.is_empty() { b"" } else { b"." };
+    push_all(path, &[joint(dot, key), key])
 }
 
 /// Appends the number of a table of an array.
 pub fn push_index(path: &mut Vec<u8>, number: u32) -> Result<(), Memory> {
     let mut digits = Buffer::new();
-    path.push(b'[')?;
-    path.extend_from_slice(digits.format(number).as_bytes())?;
-    path.push(b']')?;
-    Ok(())
+    push_all(path, &[b"[", digits.format(number).as_bytes(), b"]"])
 }
 
 /// Whether one path is the other, or a table in which the other stands.

@@ -3,7 +3,7 @@
 ghost use Rattle.std.specs.Prelude.{◌≤◌, IfOk, length};
 
 use base_memory::Memory;
-use csv::{ByteRecord, ReaderBuilder};
+use csv::{ByteRecord, Reader, ReaderBuilder};
 use std::alloc::Global;
 
 /// Where the record of this number begins, the first being 1; the end of the bytes where there is
@@ -15,11 +15,22 @@ pub fn place_of_record(alloc: Global, bytes: &[u8], number: u32) -> Result<usize
         .has_headers(false)
         .flexible(true)
         .from_reader(alloc, bytes);
-    let mut row = ByteRecord::new(alloc);
+    place_in(&mut rows, &mut ByteRecord::new(alloc), bytes, number)
+}
+
+// The same of the records that a reader of the bytes has, each read into this row.
+fn place_in(
+    rows: &mut Reader<&[u8]>,
+    row: &mut ByteRecord,
+    bytes: &[u8],
+    number: u32,
+) -> Result<usize, Memory>
+    ensures { IfOk result (λ place. place ≤ length bytes.now) }
+{
     let mut place = bytes.len();
     'rows: for _ in 0..number {
-        match rows.read_byte_record(&mut row) {
-            Ok(true) => place = start_of(bytes, &row),
+        match rows.read_byte_record(row) {
+            Ok(true) => place = start_of(bytes, row),
             Ok(false) => return Ok(bytes.len()),
             Err(_) => return Err(Memory),
         }

@@ -1,8 +1,6 @@
 //! The table of a TOML document to which its lines belong.
 
-use crate::warnings::path::{
-    copied, has_key, last_key, parent, plain, push_index, push_key, trimmed,
-};
+use crate::warnings::path::{has_key, last_key, parent, plain, push_index, push_key, trimmed};
 use base_memory::Memory;
 use std::alloc::Global;
 
@@ -13,10 +11,13 @@ struct Counter {
     count: u32,
 }
 
-/// The table to which the lines belong, as a path: `terminal[0].z2`.
+/// The table to which the lines belong, and what the line that was read last has there.
 #[derive(Drop)]
 pub struct Section {
+    // The path of the table, as `terminal[0].z2`, and behind it the key of the line.
     path: Vec<u8>,
+    // How many bytes of the path are the table's.
+    table: usize,
     counters: Vec<Counter>,
 }
 
@@ -25,67 +26,65 @@ impl Section {
     pub fn new(alloc: Global) -> Section {
         Section {
             path: Vec::new(alloc),
+            table: 0,
             counters: Vec::new(alloc),
         }
     }
 
-    /// The path of what the next line has: a table where it is a header, a key where it has one, and
-    /// else nothing.
-    pub fn path_of(&mut self, alloc: Global, line: &[u8]) -> Result<Vec<u8>, Memory> {
-        let line = trimmed(line);
-        if line.starts_with(b"[[") {
-            let name = plain(alloc, line, b']')?;
-            self.path = self.next_table(alloc, &name)?;
-            return copied(alloc, &self.path);
-        }
-        if line.starts_with(b"[") {
-            let name = plain(alloc, line, b']')?;
-            self.path = self.table(alloc, &name)?;
-            return copied(alloc, &self.path);
-        }
-        if !has_key(line) {
-            return Ok(Vec::new(alloc));
-        }
-        self.key(alloc, line)
+    /// The path of the line that was read last: that of a header or of a key.
+    pub fn path(&self) -> &[u8] {
+        &self.path
     }
 
-    // The path of a line's key.
-    fn key(&self, alloc: Global, line: &[u8]) -> Result<Vec<u8>, Memory> {
-        let key = plain(alloc, line, b'=')?;
-        let mut path = copied(alloc, &self.path)?;
-        push_key(&mut path, &key)?;
-        Ok(path)
+    /// Reads the next line: whether it is a header or has a key, of which there is a path then.
+    pub fn read(&mut self, alloc: Global, line: &[u8]) -> Result<bool, Memory> {
+        let line = trimmed(line);
+        let is_header = line.starts_with(b"[");
+        if !is_header && !has_key(line) {
+            return Ok(false);
+        }
+        let name = plain(alloc, line, if is_header { b']' } else { b'=' })?;
+        self.enter(alloc, line, &name)?;
+        Ok(true)
+    }
+
+    // Enters the table of this name or the next one of an array, as the line says, or adds a key.
+    fn enter(&mut self, alloc: Global, line: &[u8], name: &[u8]) -> Result<(), Memory> {
+        if line.starts_with(b"[[") {
+            self.push_next(alloc, name)?;
+        } else if line.starts_with(b"[") {
+            self.push_table(name)?;
+        } else {
+            self.path.truncate(self.table);
+            return push_key(&mut self.path, name);
+        }
+        self.table = self.path.len();
+        Ok(())
     }
 
     // The path of the next table of an array.
-    fn next_table(&mut self, alloc: Global, name: &[u8]) -> Result<Vec<u8>, Memory> {
-        let mut path = self.table(alloc, parent(name))?;
-        push_key(&mut path, last_key(name))?;
-        let number = self.next(alloc, &path)?;
-        push_index(&mut path, number)?;
-        Ok(path)
+    fn push_next(&mut self, alloc: Global, name: &[u8]) -> Result<(), Memory> {
+        self.push_table(parent(name))?;
+        push_key(&mut self.path, last_key(name))?;
+        let number = self.next(alloc)?;
+        push_index(&mut self.path, number)
     }
 
     // The path of a table, with the number of the latest table of each array above it.
-    fn table(&self, alloc: Global, name: &[u8]) -> Result<Vec<u8>, Memory> {
-        let mut path = Vec::new(alloc);
+    fn push_table(&mut self, name: &[u8]) -> Result<(), Memory> {
+        self.path.clear();
         for key in name.split(|b| *b == b'.') {
-            self.push_step(&mut path, key)?;
+            push_key(&mut self.path, key)?;
+            if let Some(count) = self.count() {
+                push_index(&mut self.path, count.saturating_sub(1))?;
+            }
         }
-        Ok(path)
+        Ok(())
     }
 
-    fn push_step(&self, path: &mut Vec<u8>, key: &[u8]) -> Result<(), Memory> {
-        push_key(path, key)?;
-        match self.count(path) {
-            Some(count) => push_index(path, count.saturating_sub(1)),
-            None => Ok(()),
-        }
-    }
-
-    fn count(&self, path: &[u8]) -> Option<u32> {
+    fn count(&self) -> Option<u32> {
         for counter in &self.counters {
-            if counter.path.as_slice() == path {
+            if counter.path.as_slice() == self.path.as_slice() {
                 return Some(counter.count);
             }
         }
@@ -93,16 +92,16 @@ impl Section {
     }
 
     // The number of the next table of an array.
-    fn next(&mut self, alloc: Global, path: &[u8]) -> Result<u32, Memory> {
+    fn next(&mut self, alloc: Global) -> Result<u32, Memory> {
         for counter in self.counters.iter_mut() {
-            if counter.path.as_slice() == path {
+            if counter.path.as_slice() == self.path.as_slice() {
                 let number = counter.count;
                 counter.count = number.saturating_add(1);
                 return Ok(number);
             }
         }
         self.counters.push(Counter {
-            path: copied(alloc, path)?,
+            path: Vec::from_slice(alloc, &self.path)?,
             count: 1,
         })?;
         Ok(0)

@@ -4,7 +4,7 @@ use model_line::Place;
 
 /// What is suspicious, and of what: a parameter, a terminal or a script by its number, an element at
 /// a terminal, or a script and a terminal.
-#[derive(Clone, Copy, PartialEq, Eq, Drop)]
+#[derive(Clone, Copy, Drop)]
 pub enum Warning {
     /// The greatest time of the parameter is not 0, and less than one tick.
     BelowTick(u32),

@@ -1,5 +1,5 @@
 use Rattle.std.proofs.Common.{◌≤◌, length}
-use Rattle.call_lint.proofs.warnings.records.place_of_record.Given as goal
+use Rattle.call_lint.proofs.warnings.records.place_in.Given as goal
 
 abbrev pub invariant-rows : goal.invariant-rows
 invariant-rows l = l.place ≤ length l.bytes
