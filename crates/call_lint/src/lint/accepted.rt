@@ -15,7 +15,7 @@ use std::alloc::Global;
 pub fn lint_accepted(
     alloc: Global,
     line: &Line,
-    sheet: &Sheet<'_>,
+    sheet: Sheet<'_>,
     scripts: &[Script],
 ) -> Result<Linted, Memory>
     ensures { IfOk result (λ linted. IsReadLinted line.now scripts.now linted.outcome) }

@@ -15,12 +15,12 @@ use toml::{Table, Value};
 
 /// The ends of each parameter in microseconds, as a line file of version 2 or a study writes them;
 /// none of a line file of version 1, whose times are ticks.
-pub fn exact_ends(alloc: Global, line: &Line, sheet: &Sheet<'_>) -> Result<Vec<Interval>, Memory>
+pub fn exact_ends(alloc: Global, line: &Line, sheet: Sheet<'_>) -> Result<Vec<Interval>, Memory>
     ensures { IfOk result (λ v. All AreEnds v.items) }
 {
     let (bytes, hertz) = match sheet {
-        Sheet::Files { line, .. } => (*line, None),
-        Sheet::Study { bytes, hertz, .. } => (*bytes, *hertz),
+        Sheet::Files { line, .. } => (line, None),
+        Sheet::Study { bytes, hertz, .. } => (bytes, hertz),
     };
     match toml::table_from_slice(alloc, bytes) {
         Ok(top) => ends_in(alloc, line, sheet, hertz, &top),
@@ -37,7 +37,7 @@ pub fn exact_ends(alloc: Global, line: &Line, sheet: &Sheet<'_>) -> Result<Vec<I
 fn ends_in(
     alloc: Global,
     line: &Line,
-    sheet: &Sheet<'_>,
+    sheet: Sheet<'_>,
     hertz: Option<u32>,
     top: &Table,
 ) -> Result<Vec<Interval>, Memory>
@@ -58,7 +58,7 @@ fn is_in_ticks(top: &Table) -> bool {
 }
 
 // What is written for the parameter of this name, as `east.z1.pickup`.
-fn value_of<'a>(line: &Line, sheet: &Sheet<'_>, top: &'a Table, name: &[u8]) -> Option<&'a Value> {
+fn value_of<'a>(line: &Line, sheet: Sheet<'_>, top: &'a Table, name: &[u8]) -> Option<&'a Value> {
     let (owner, path) = parted(name);
     let (key, inner) = parted(path);
     let value = value_at(line, sheet, top, owner, text_of(key))?;
@@ -72,7 +72,7 @@ fn value_of<'a>(line: &Line, sheet: &Sheet<'_>, top: &'a Table, name: &[u8]) -> 
 // What stands at a key of an owner. In a study its own stands for the whole of the default one.
 fn value_at<'a>(
     line: &Line,
-    sheet: &Sheet<'_>,
+    sheet: Sheet<'_>,
     top: &'a Table,
     owner: &[u8],
     key: &str,

@@ -49,7 +49,7 @@ fn lint_scripts(
                 scripts,
                 names,
             };
-            lint_accepted(alloc, own, &sheet, &read)
+            lint_accepted(alloc, own, sheet, &read)
         }
         Err(Stopped::Memory) => Err(Memory),
         Err(Stopped::Fault(fault)) => Ok(Linted {

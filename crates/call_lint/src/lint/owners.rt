@@ -13,8 +13,10 @@ pub fn place_of_owner(line: &Line, name: &[u8]) -> (&'static str, usize) {
 
 /// What stands before and behind the first dot.
 pub fn parted(name: &[u8]) -> (&[u8], &[u8]) {
-    match name.iter().position(|b| *b == b'.') {
-        Some(dot) => (&name[..dot], &name[dot + 1..]),
-        None => (name, b""),
+    for dot in 0..name.len() {
+        if name[dot] == b'.' {
+            return (&name[..dot], &name[dot + 1..]);
+        }
     }
+    (name, b"")
 }

@@ -38,7 +38,10 @@ pub fn refused_sweep(
     name: &str,
     fault: &StudySweepFault,
 ) -> Result<Vec<u8>, Memory> {
-    let at = place_of_item(alloc, bytes, b"fault", number_of(fault), b"name")?;
+    let number = match fault {
+        StudySweepFault::Refused(i, _, _) | StudySweepFault::Twice(i, _, _) => *i,
+    };
+    let at = place_of_item(alloc, bytes, b"fault", number, b"name")?;
     let spot = Spot { name, bytes, at };
     refused_text(
         alloc,
@@ -63,11 +66,4 @@ pub fn place_of_item(
     let number = digits.format(index).as_bytes();
     let path = joined(alloc, &[array, b"[", number, b"].", key])?;
     place_of_key(alloc, bytes, &path)
-}
-
-// The fault that has no scripts.
-fn number_of(fault: &StudySweepFault) -> usize {
-    match fault {
-        StudySweepFault::Refused(i, _, _) | StudySweepFault::Twice(i, _, _) => *i,
-    }
 }

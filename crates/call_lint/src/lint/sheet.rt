@@ -23,3 +23,8 @@ pub enum Sheet<'a> {
         hertz: Option<u32>,
     },
 }
+
+/// The number of the fault of a study that a script is of.
+pub fn fault_of(faults: &[usize], script: usize) -> usize {
+    faults.get(script).copied().unwrap_or(0)
+}

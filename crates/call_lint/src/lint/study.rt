@@ -40,7 +40,7 @@ fn lint_faults(alloc: Global, study: &Study, bytes: &[u8], name: &str) -> Result
                 faults: &numbers,
                 hertz: study.units.hertz,
             };
-            lint_accepted(alloc, &study.line, &sheet, &all.scripts)
+            lint_accepted(alloc, &study.line, sheet, &all.scripts)
         }
         Err(Stopped::Memory) => Err(Memory),
         Err(Stopped::Fault(fault)) => Ok(Linted {

@@ -4,7 +4,7 @@ ghost use Rattle.std.specs.Prelude.{◌≡◌, ◌≤◌, IfOk, IfSome, length};
 
 use crate::lint::owners::{parted, place_of_owner};
 use crate::lint::refused_study::place_of_item;
-use crate::lint::sheet::Sheet;
+use crate::lint::sheet::{Sheet, fault_of};
 use crate::lint::text::Spot;
 use crate::pieces::{joined, joint};
 use crate::warnings::{Warning, place_of_key, place_of_record, place_of_table};
@@ -21,7 +21,7 @@ pub enum Subject<'a> {
 }
 
 /// What the warning is about.
-pub fn subject_of<'a>(line: &'a Line, warning: &Warning) -> Subject<'a> {
+pub fn subject_of<'a>(line: &'a Line, warning: Warning) -> Subject<'a> {
     match warning {
         Warning::BelowTick(i)
         | Warning::Rounded(i)
@@ -29,18 +29,18 @@ pub fn subject_of<'a>(line: &'a Line, warning: &Warning) -> Subject<'a> {
         | Warning::ReachesHorizon(i)
         | Warning::Wide(i)
         | Warning::FixedDelay(i) => {
-            let (owner, key) = parted(name_of_parameter(line, *i));
+            let (owner, key) = parted(name_of_parameter(line, i));
             Subject::Owner(owner, key)
         }
         Warning::Unguarded(k) | Warning::Unechoed(k) => {
-            Subject::Owner(name_of_terminal(line, *k), b"")
+            Subject::Owner(name_of_terminal(line, k), b"")
         }
         Warning::Untimed(place) => Subject::Owner(
             name_of_terminal(line, place.terminal),
             element_word(place.element),
         ),
-        Warning::NothingChanges(s) | Warning::DueFirst(s) => Subject::Script(*s, b""),
-        Warning::NoCurrent(s, k) => Subject::Script(*s, name_of_terminal(line, *k)),
+        Warning::NothingChanges(s) | Warning::DueFirst(s) => Subject::Script(s, b""),
+        Warning::NoCurrent(s, k) => Subject::Script(s, name_of_terminal(line, k)),
     }
 }
 
@@ -67,94 +67,59 @@ fn name_of_script(scripts: &[Script], s: usize) -> &[u8] {
 /// The line in which it stands: that of its name, or of the table or key that it has there.
 pub fn spot_of<'a>(
     alloc: Global,
-    sheet: &Sheet<'a>,
+    sheet: Sheet<'a>,
     line: &Line,
     scripts: &[Script],
     subject: Subject<'_>,
 ) -> Result<Spot<'a>, Memory> {
-    match (sheet, subject) {
-        (
-            Sheet::Study {
-                bytes,
-                name,
-                faults,
-                ..
-            },
-            _,
-        ) => Ok(Spot {
-            name: *name,
-            bytes: *bytes,
-            at: place_in_study(alloc, bytes, faults, line, subject)?,
-        }),
-        (
-            Sheet::Files {
-                line: bytes,
-                names,
-                ..
-            },
-            Subject::Owner(name, key),
-        ) => Ok(Spot {
-            name: names.line,
-            bytes: *bytes,
-            at: place_in_line(alloc, bytes, line, name, key)?,
-        }),
-        (
-            Sheet::Files {
-                scripts: bytes,
-                names,
-                ..
-            },
-            Subject::Script(s, _),
-        ) => Ok(Spot {
-            name: names.scripts,
-            bytes: *bytes,
-            at: place_of_record(alloc, bytes, head_of(scripts, s))?,
-        }),
-    }
+    let (name, bytes) = match (sheet, subject) {
+        (Sheet::Study { name, bytes, .. }, _) => (name, bytes),
+        (Sheet::Files { names, line, .. }, Subject::Owner(_, _)) => (names.line, line),
+        (Sheet::Files { names, scripts, .. }, Subject::Script(_, _)) => (names.scripts, scripts),
+    };
+    Ok(Spot {
+        name,
+        bytes,
+        at: place_in(alloc, bytes, sheet, line, scripts, subject)?,
+    })
 }
 
 // The number of the record that is the script's head: the header is 1, and each script has its head
 // and a record for each span.
 fn head_of(scripts: &[Script], s: usize) -> u32 {
-    let mut number: u32 = 2;
-    for script in scripts.iter().take(s) {
-        let spans = u32::try_from(script.spans.len()).unwrap_or(u32::MAX);
-        number = number.saturating_add(1).saturating_add(spans);
+    let mut number: usize = 2;
+    for script in &scripts[..s.min(scripts.len())] {
+        number = number.saturating_add(script.spans.len()).saturating_add(1);
     }
-    number
+    u32::try_from(number).unwrap_or(u32::MAX)
 }
 
-fn place_in_line(
+// Where it stands in the bytes of its file.
+fn place_in(
     alloc: Global,
     bytes: &[u8],
+    sheet: Sheet<'_>,
     line: &Line,
-    name: &[u8],
-    key: &[u8],
-) -> Result<usize, Memory>
-    ensures { IfOk result (λ at. at ≤ length bytes.now) }
-{
-    let (kind, number) = place_of_owner(line, name);
-    let key = if key.is_empty() { b"name" } else { key };
-    place_of_item(alloc, bytes, kind.as_bytes(), number, key)
-}
-
-fn place_in_study(
-    alloc: Global,
-    bytes: &[u8],
-    faults: &[usize],
-    line: &Line,
+    scripts: &[Script],
     subject: Subject<'_>,
 ) -> Result<usize, Memory>
     ensures { IfOk result (λ at. at ≤ length bytes.now) }
 {
-    match subject {
-        Subject::Owner(name, key) => {
+    match (sheet, subject) {
+        (Sheet::Study { .. }, Subject::Owner(name, key)) => {
             let (kind, _) = place_of_owner(line, name);
             place_of_setting(alloc, bytes, kind.as_bytes(), name, parted(key).0)
         }
-        Subject::Script(s, _) => {
-            let number = faults.get(s).copied().unwrap_or(0);
-            place_of_item(alloc, bytes, b"fault", number, b"name")
+        (Sheet::Study { faults, .. }, Subject::Script(s, _)) => {
+            place_of_item(alloc, bytes, b"fault", fault_of(faults, s), b"name")
+        }
+        (Sheet::Files { .. }, Subject::Owner(name, key)) => {
+            let (kind, number) = place_of_owner(line, name);
+            let key = if key.is_empty() { b"name" } else { key };
+            place_of_item(alloc, bytes, kind.as_bytes(), number, key)
+        }
+        (Sheet::Files { .. }, Subject::Script(s, _)) => {
+            place_of_record(alloc, bytes, head_of(scripts, s))
         }
     }
 }

@@ -61,16 +61,12 @@ fn push_error(text: &mut Vec<u8>, spot: Spot<'_>, words: [&str; 3]) -> Result<()
 
 // Appends the first 80 bytes of a line, each that is no printable one as `?`.
 fn push_shown(text: &mut Vec<u8>, line: &[u8]) -> Result<(), Memory> {
-    for byte in line.iter().take(80) {
-        text.push(shown(*byte))?;
+    for byte in &line[..line.len().min(80)] {
+        text.push(match *byte {
+            b'\t' => b' ',
+            b' '..=b'~' => *byte,
+            _ => b'?',
+        })?;
     }
     Ok(())
-}
-
-fn shown(byte: u8) -> u8 {
-    match byte {
-        b'\t' => b' ',
-        b' '..=b'~' => byte,
-        _ => b'?',
-    }
 }

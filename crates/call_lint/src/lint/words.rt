@@ -3,7 +3,7 @@
 use crate::warnings::Warning;
 
 /// The words of a warning.
-pub fn warning_words(warning: &Warning) -> &'static str {
+pub fn warning_words(warning: Warning) -> &'static str {
     match warning {
         Warning::BelowTick(_) =>
             "less than one tick: are milliseconds written as microseconds? 2 ms are 2000",
@@ -31,7 +31,7 @@ pub fn warning_words(warning: &Warning) -> &'static str {
 }
 
 /// What a warning of a study says, whose times have units, where it is other than of a line file.
-pub fn study_words(warning: &Warning) -> &'static str {
+pub fn study_words(warning: Warning) -> &'static str {
     match warning {
         Warning::BelowTick(_) =>
             "less than one tick, and rounded outward: is its unit meant? A smaller tick_us keeps it",

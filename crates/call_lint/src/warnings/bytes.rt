@@ -1,23 +1,14 @@
 //! Lines and bytes.
 
 ghost use Rattle.std.specs.Prelude.{◌≡◌, ◌≤◌, ◌<◌, IfSome, length, position};
-ghost use Rattle.call_lint.specs.warnings.Mistakes.{first_line, has_byte, is_break, up_to};
+ghost use Rattle.call_lint.specs.warnings.Mistakes.{first_line, has_byte, is_break};
 
 /// The bytes before the first line break.
 pub fn first_line(bytes: &[u8]) -> &[u8]
     ensures is { result.now ≡ first_line bytes.now }
     ensures within { length result.now ≤ length bytes.now }
 {
-    up_to(break_in(bytes), bytes)
-}
-
-// The bytes before a place, or all.
-fn up_to(end: Option<usize>, bytes: &[u8]) -> &[u8]
-    requires { IfSome end (λ e. e < length bytes.now) }
-    ensures is { result.now ≡ up_to end bytes.now }
-    ensures within { length result.now ≤ length bytes.now }
-{
-    match end {
+    match break_in(bytes) {
         Some(end) => &bytes[..end],
         None => bytes,
     }
@@ -41,5 +32,5 @@ fn is_break(b: u8) -> bool
 pub fn has_byte(byte: u8, bytes: &[u8]) -> bool
     ensures { result ≡ has_byte byte bytes.now }
 {
-    bytes.iter().any(|b| *b == byte)
+    bytes.contains(&byte)
 }

@@ -3,13 +3,13 @@
 ghost use Rattle.std.specs.Prelude.{◌≡◌, ◌≤◌, IfOk, IfSome, length};
 
 use crate::warnings::bytes::first_line;
-use crate::warnings::path::{last_key, leads_to};
+use crate::warnings::path::{leads_to, parent_and_key};
 use crate::warnings::section::Section;
 use base_memory::Memory;
 use std::alloc::Global;
 
-// The line of a document that leads furthest to a path: where it begins, and how many bytes of the
-// path it has.
+// The first line of those of a document that lead furthest to a path: where it begins, and how many
+// bytes of the path it has.
 #[derive(Clone, Copy)]
 struct Lead {
     place: usize,
@@ -24,15 +24,15 @@ struct Lead {
 pub fn place_of_key(alloc: Global, bytes: &[u8], path: &[u8]) -> Result<usize, Memory>
     ensures { IfOk result (λ place. place ≤ length bytes.now) }
 {
-    let lead = lead_to(&mut Section::new(alloc), alloc, bytes, path)?;
-    Ok(place_of_word(bytes, lead.place, last_key(path)))
+    let lead = lead_to(alloc, bytes, path)?;
+    Ok(place_of_word(bytes, lead.place, parent_and_key(path).1))
 }
 
 /// Where a table or key of exactly this path stands.
 pub fn place_of_table(alloc: Global, bytes: &[u8], path: &[u8]) -> Result<Option<usize>, Memory>
     ensures { IfOk result (λ found. IfSome found (λ place. place ≤ length bytes.now)) }
 {
-    let lead = lead_to(&mut Section::new(alloc), alloc, bytes, path)?;
+    let lead = lead_to(alloc, bytes, path)?;
     if lead.depth == path.len() {
         Ok(Some(lead.place))
     } else {
@@ -40,17 +40,23 @@ pub fn place_of_table(alloc: Global, bytes: &[u8], path: &[u8]) -> Result<Option
     }
 }
 
-// The first of those that lead furthest, read with this section.
-fn lead_to(section: &mut Section, alloc: Global, bytes: &[u8], path: &[u8]) -> Result<Lead, Memory>
+fn lead_to(alloc: Global, bytes: &[u8], path: &[u8]) -> Result<Lead, Memory>
+    ensures { IfOk result (λ lead. lead.place ≤ length bytes.now) }
+{
+    lead_in(&mut Section::new(alloc), alloc, bytes, path)
+}
+
+// The same, read line by line with this section.
+fn lead_in(section: &mut Section, alloc: Global, bytes: &[u8], path: &[u8]) -> Result<Lead, Memory>
     ensures { IfOk result (λ lead. lead.place ≤ length bytes.now) }
 {
     let mut place = 0;
     let mut depth = 0;
     for i in 0..bytes.len() {
         if i == 0 || bytes[i - 1] == b'\n' {
-            let has_path = section.read(alloc, first_line(&bytes[i..]))?;
+            section.read(alloc, first_line(&bytes[i..]))?;
             let own = section.path();
-            if has_path && depth < own.len() && leads_to(own, path) {
+            if depth < own.len() && leads_to(own, path) {
                 place = i;
                 depth = own.len();
             }

@@ -2,7 +2,7 @@
 
 ghost use Rattle.std.specs.Prelude.{◌≡◌};
 ghost use Rattle.call_lint.specs.warnings.Mistakes.{is_utf16, has_mark, is_parted_by, records_mistake};
-ghost use Rattle.call_lint.specs.warnings.Mistakes.{document_mistake, mistake_within};
+ghost use Rattle.call_lint.specs.warnings.Mistakes.{document_mistake};
 ghost use Rattle.call_lint.specs.warnings.Mistakes.{mistake_of as mistake_in};
 
 use crate::warnings::bytes::{first_line, has_byte};
@@ -44,16 +44,10 @@ pub fn mistake_of(wanted: Wanted, bytes: &[u8]) -> Option<Mistake>
     } else if has_mark(bytes) {
         Some(Mistake::ByteOrderMark)
     } else {
-        mistake_within(wanted, bytes)
-    }
-}
-
-fn mistake_within(wanted: Wanted, bytes: &[u8]) -> Option<Mistake>
-    ensures { result ≡ mistake_within wanted bytes.now }
-{
-    match wanted {
-        Wanted::Records => records_mistake(bytes),
-        Wanted::Document => document_mistake(bytes),
+        match wanted {
+            Wanted::Records => records_mistake(bytes),
+            Wanted::Document => document_mistake(bytes),
+        }
     }
 }
 

@@ -1,24 +1,18 @@
 //! Paths of tables and keys, as bytes.
 
-ghost use Rattle.std.specs.Prelude.{◌≤◌, length};
-
 use crate::pieces::{joint, push_all};
 use base_memory::Memory;
 use itoa::Buffer;
 use std::alloc::Global;
 
 /// The bytes without the blanks before them.
-pub fn trimmed(line: &[u8]) -> &[u8]
-    ensures { length result.now ≤ length line.now }
-{
-    match line.iter().position(|b| !is_blank(*b)) {
-        Some(start) => &line[start..],
-        None => &[],
+pub fn trimmed(line: &[u8]) -> &[u8] {
+    for start in 0..line.len() {
+        if !matches!(line[start], b' ' | b'\t') {
+            return &line[start..];
+        }
     }
-}
-
-fn is_blank(b: u8) -> bool {
-    b == b' ' || b == b'\t'
+    &[]
 }
 
 /// The name that stands before a byte, without brackets, blanks and quotes.
@@ -26,9 +20,9 @@ pub fn plain(alloc: Global, line: &[u8], end: u8) -> Result<Vec<u8>, Memory> {
     let mut name = Vec::new(alloc);
     for b in line {
         if *b == end {
-            return Ok(name);
+            break;
         }
-        if !is_blank(*b) && *b != b'[' && *b != b'"' && *b != b'\'' {
+        if !matches!(*b, b' ' | b'\t' | b'[' | b'"' | b'\'') {
             name.push(*b)?;
         }
     }
@@ -40,20 +34,15 @@ pub fn has_key(line: &[u8]) -> bool {
     !line.starts_with(b"#") && line.contains(&b'=')
 }
 
-/// All keys of a name but the last.
-pub fn parent(name: &[u8]) -> &[u8] {
-    match name.iter().rposition(|b| *b == b'.') {
-        Some(dot) => &name[..dot],
-        None => &[],
+/// All keys of a name but the last, and the last.
+pub fn parent_and_key(name: &[u8]) -> (&[u8], &[u8]) {
+    let mut parted: (&[u8], &[u8]) = (b"", name);
+    for dot in 0..name.len() {
+        if name[dot] == b'.' {
+            parted = (&name[..dot], &name[dot + 1..]);
+        }
     }
-}
-
-/// The last key of a name.
-pub fn last_key(name: &[u8]) -> &[u8] {
-    match name.rsplit(|b| *b == b'.').next() {
-        Some(key) => key,
-        None => name,
-    }
+    parted
 }
 
 /// Appends a key of the table at the path; no key is none.

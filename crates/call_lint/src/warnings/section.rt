@@ -1,6 +1,6 @@
 //! The table of a TOML document to which its lines belong.
 
-use crate::warnings::path::{has_key, last_key, parent, plain, push_index, push_key, trimmed};
+use crate::warnings::path::{has_key, parent_and_key, plain, push_index, push_key, trimmed};
 use base_memory::Memory;
 use std::alloc::Global;
 
@@ -31,21 +31,24 @@ impl Section {
         }
     }
 
-    /// The path of the line that was read last: that of a header or of a key.
+    /// The path of the line that was read last: of a header or a key its own, else the table's.
     pub fn path(&self) -> &[u8] {
         &self.path
     }
 
-    /// Reads the next line: whether it is a header or has a key, of which there is a path then.
-    pub fn read(&mut self, alloc: Global, line: &[u8]) -> Result<bool, Memory> {
+    /// Reads the next line.
+    pub fn read(&mut self, alloc: Global, line: &[u8]) -> Result<(), Memory> {
+        self.path.truncate(self.table);
         let line = trimmed(line);
-        let is_header = line.starts_with(b"[");
-        if !is_header && !has_key(line) {
-            return Ok(false);
-        }
-        let name = plain(alloc, line, if is_header { b']' } else { b'=' })?;
-        self.enter(alloc, line, &name)?;
-        Ok(true)
+        let end = if line.starts_with(b"[") {
+            b']'
+        } else if has_key(line) {
+            b'='
+        } else {
+            return Ok(());
+        };
+        let name = plain(alloc, line, end)?;
+        self.enter(alloc, line, &name)
     }
 
     // Enters the table of this name or the next one of an array, as the line says, or adds a key.
@@ -55,7 +58,6 @@ impl Section {
         } else if line.starts_with(b"[") {
             self.push_table(name)?;
         } else {
-            self.path.truncate(self.table);
             return push_key(&mut self.path, name);
         }
         self.table = self.path.len();
@@ -64,8 +66,9 @@ impl Section {
 
     // The path of the next table of an array.
     fn push_next(&mut self, alloc: Global, name: &[u8]) -> Result<(), Memory> {
-        self.push_table(parent(name))?;
-        push_key(&mut self.path, last_key(name))?;
+        let (parent, key) = parent_and_key(name);
+        self.push_table(parent)?;
+        push_key(&mut self.path, key)?;
         let number = self.next(alloc)?;
         push_index(&mut self.path, number)
     }
