@@ -24,6 +24,12 @@ is_open Held = false
 is_open Fails = false
 is_open Open = true
 
+-- whether one stands so
+abbrev pub is_so : Standing → Standing → Bool
+is_so Held standing = is_held standing
+is_so Fails standing = is_failing standing
+is_so Open standing = is_open standing
+
 -- a sign and words behind it
 unfoldable pub mark_html : List ℕ → Sign → List ℕ → List ℕ
 mark_html class s words = classed_html tag.Span class (sign_text s ++ words_text words)

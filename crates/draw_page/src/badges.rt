@@ -1,24 +1,35 @@
 //! How obligations stand, by sign and words.
 
-ghost use Rattle.std.specs.Prelude.{◌≡◌, IfOk, count_by};
-ghost use Rattle.draw_page.specs.Badges.{badge_html, counted_said, is_failing as fails_one};
-ghost use Rattle.draw_page.specs.Badges.{is_held as held_one, is_open as open_one, mark_html};
+ghost use Rattle.std.specs.Prelude.{◌≡◌, ℕ, List, IfOk, count_by};
+ghost use Rattle.base_markup.specs.{html.Words.words_text};
+ghost use Rattle.draw_page.specs.Badges.{badge_html, counted_said, is_so, mark_html};
 ghost use Rattle.draw_page.specs.Badges.{fails_html, held_html, open_html, standing_html, worst_html};
 
-use crate::elements::classed;
 use crate::page::Standing;
+use crate::parts::{classed_around, joined, text_of};
 use crate::words::words_of;
 use base_markup::html::{Html, Sign, Tag};
 use itoa::Buffer;
 use std::alloc::{AllocError, Global};
 
-/// A sign and words behind it.
-#[tactic(auto, unfolding(crate::specs::Badges::mark_html))]
-pub fn mark(alloc: Global, class: &[u8], sign: Sign, words: &[u8]) -> Result<Html, AllocError>
+// A sign and words behind it.
+fn mark(
+    alloc: Global,
+    class: &[u8],
+    sign: Sign,
+    words: Result<Html, AllocError>,
+) -> Result<Html, AllocError>
+    ensures { (t : List ℕ) → IfOk words (λ html. html.text.items ≡ words_text t)
+        → IfOk result (λ html. html.text.items ≡ mark_html class.now sign t) }
+{
+    let inside = joined(Html::sign(alloc, sign), words);
+    classed_around(alloc, Tag::Span, class, inside)
+}
+
+fn words_mark(alloc: Global, class: &[u8], sign: Sign, words: &[u8]) -> Result<Html, AllocError>
     ensures { IfOk result (λ html. html.text.items ≡ mark_html class.now sign words.now) }
 {
-    let inside = Html::sign(alloc, sign)?.and(&Html::words(alloc, words)?)?;
-    classed(alloc, Tag::Span, class, &inside)
+    mark(alloc, class, sign, Html::words(alloc, words))
 }
 
 /// How one obligation stands.
@@ -27,9 +38,9 @@ pub fn standing_mark(alloc: Global, standing: Standing) -> Result<Html, AllocErr
     ensures { IfOk result (λ html. html.text.items ≡ standing_html standing) }
 {
     match standing {
-        Standing::Held => mark(alloc, b"mark yes", Sign::Check, b" held"),
-        Standing::Fails => mark(alloc, b"mark no", Sign::Cross, b" fails"),
-        Standing::Open => mark(alloc, b"mark unknown", Sign::Question, b" open"),
+        Standing::Held => words_mark(alloc, b"mark yes", Sign::Check, b" held"),
+        Standing::Fails => words_mark(alloc, b"mark no", Sign::Cross, b" fails"),
+        Standing::Open => words_mark(alloc, b"mark unknown", Sign::Question, b" open"),
     }
 }
 
@@ -38,28 +49,27 @@ pub fn standing_mark(alloc: Global, standing: Standing) -> Result<Html, AllocErr
 pub fn badge(alloc: Global, standings: &[Standing]) -> Result<Html, AllocError>
     ensures { IfOk result (λ html. html.text.items ≡ badge_html standings.now) }
 {
-    let fails = count_failing(standings);
-    let open = count_open(standings);
-    let held = count_held(standings);
+    let fails = count(standings, Standing::Fails);
+    let open = count(standings, Standing::Open);
+    let held = count(standings, Standing::Held);
     worst_badge(alloc, fails, open, held, standings.len())
 }
 
-fn count_failing(standings: &[Standing]) -> usize
-    ensures { result ≡ count_by fails_one standings.now }
+fn count(standings: &[Standing], state: Standing) -> usize
+    ensures { result ≡ count_by (is_so state) standings.now }
 {
-    standings.iter().filter(|s| is_failing(**s)).count()
+    standings.iter().filter(|s| stands_so(state, **s)).count()
 }
 
-fn count_open(standings: &[Standing]) -> usize
-    ensures { result ≡ count_by open_one standings.now }
+fn stands_so(state: Standing, standing: Standing) -> bool
+    ensures { result ≡ is_so state standing }
 {
-    standings.iter().filter(|s| is_open(**s)).count()
-}
-
-fn count_held(standings: &[Standing]) -> usize
-    ensures { result ≡ count_by held_one standings.now }
-{
-    standings.iter().filter(|s| is_held(**s)).count()
+    matches!(
+        (state, standing),
+        (Standing::Held, Standing::Held)
+            | (Standing::Fails, Standing::Fails)
+            | (Standing::Open, Standing::Open)
+    )
 }
 
 fn worst_badge(
@@ -80,28 +90,30 @@ fn worst_badge(
     }
 }
 
-#[tactic(auto, unfolding(crate::specs::Badges::fails_html))]
 fn fails_badge(alloc: Global, count: usize, all: usize) -> Result<Html, AllocError>
     ensures { IfOk result (λ html. html.text.items ≡ fails_html count all) }
 {
-    let words = counted_words(alloc, count, all, b" fails", b" fail")?;
-    mark(alloc, b"mark no", Sign::Cross, words.as_slice())
+    let words = counted_words(alloc, count, all, b" fails", b" fail");
+    mark(alloc, b"mark no", Sign::Cross, text_of(alloc, words))
 }
 
-#[tactic(auto, unfolding(crate::specs::Badges::open_html))]
 fn open_badge(alloc: Global, count: usize, all: usize) -> Result<Html, AllocError>
     ensures { IfOk result (λ html. html.text.items ≡ open_html count all) }
 {
-    let words = counted_words(alloc, count, all, b" open", b" open")?;
-    mark(alloc, b"mark unknown", Sign::Question, words.as_slice())
+    let words = counted_words(alloc, count, all, b" open", b" open");
+    mark(
+        alloc,
+        b"mark unknown",
+        Sign::Question,
+        text_of(alloc, words),
+    )
 }
 
-#[tactic(auto, unfolding(crate::specs::Badges::held_html))]
 fn held_badge(alloc: Global, count: usize, all: usize) -> Result<Html, AllocError>
     ensures { IfOk result (λ html. html.text.items ≡ held_html count all) }
 {
-    let words = counted_words(alloc, count, all, b" held", b" held")?;
-    mark(alloc, b"mark yes", Sign::Check, words.as_slice())
+    let words = counted_words(alloc, count, all, b" held", b" held");
+    mark(alloc, b"mark yes", Sign::Check, text_of(alloc, words))
 }
 
 // ` held` of one, ` 64 of 64 held` of more.
@@ -121,31 +133,4 @@ fn counted_words(
     let count = count_digits.format(count).as_bytes();
     let all = all_digits.format(all).as_bytes();
     words_of(alloc, &[b" ", count, b" of ", all, more])
-}
-
-pub fn is_held(standing: Standing) -> bool
-    ensures { result ≡ held_one standing }
-{
-    match standing {
-        Standing::Held => true,
-        Standing::Fails | Standing::Open => false,
-    }
-}
-
-pub fn is_failing(standing: Standing) -> bool
-    ensures { result ≡ fails_one standing }
-{
-    match standing {
-        Standing::Fails => true,
-        Standing::Held | Standing::Open => false,
-    }
-}
-
-pub fn is_open(standing: Standing) -> bool
-    ensures { result ≡ open_one standing }
-{
-    match standing {
-        Standing::Open => true,
-        Standing::Held | Standing::Fails => false,
-    }
 }

@@ -10,20 +10,19 @@ ghost use Rattle.draw_page.specs.Choices.{none_told_html, some_told_html, told_r
 
 use crate::anchor::Anchor;
 use crate::drawings::figure;
-use crate::elements::{columns, link, said_in, section, table, words_in};
+use crate::elements::{columns, link, number_in, row_head, said_in, section, table, words_in};
 use crate::page::{FailingChoice, Page, ToldStep, ToldTime};
-use crate::parts::{around, classed_around, joined, number_in, row_head};
+use crate::parts::{around, classed_around, joined};
 use crate::words::{interval_words, time_words};
 use base_markup::html::{Html, Tag};
 use std::alloc::{AllocError, Global};
 
 /// The section of the choices that fail.
-#[tactic(auto, unfolding(crate::specs::Choices::failing_html))]
 pub fn failing(alloc: Global, page: &Page) -> Result<Html, AllocError>
     ensures { IfOk result (λ html. html.text.items ≡ failing_html page.now) }
 {
-    let inside = some_failing(alloc, page.tick_us, page.failing.as_slice())?;
-    section(alloc, Anchor::Failing, b"Choices that fail", &inside)
+    let inside = some_failing(alloc, page.tick_us, page.failing.as_slice());
+    section(alloc, Anchor::Failing, b"Choices that fail", inside)
 }
 
 fn some_failing(alloc: Global, tick_us: u32, failing: &[FailingChoice]) -> Result<Html, AllocError>
@@ -46,11 +45,11 @@ fn choices(alloc: Global, tick_us: u32, failing: &[FailingChoice]) -> Result<Htm
     ensures { IfOk result (λ html. html.text.items
         ≡ flat_map (choice_html tick_us) failing.now) }
 {
-    let mut made = Html::new(alloc);
+    let mut made = Ok(Html::new(alloc));
     for choice in failing {
-        made = made.and(&one_choice(alloc, tick_us, choice)?)?;
+        made = joined(made, one_choice(alloc, tick_us, choice));
     }
-    Ok(made)
+    made
 }
 
 // A choice: its heading, its times and steps, and its play.
@@ -102,24 +101,22 @@ fn none_told(alloc: Global) -> Result<Html, AllocError>
     )
 }
 
-#[tactic(auto, unfolding(crate::specs::Choices::told_html))]
 fn told(alloc: Global, tick_us: u32, told: &[ToldTime]) -> Result<Html, AllocError>
     ensures { IfOk result (λ html. html.text.items ≡ told_html tick_us told.now) }
 {
-    let head = columns(alloc, &[b"Time that matters", b"here", b"declared"])?;
-    let rows = told_rows(alloc, tick_us, told)?;
-    table(alloc, b"told", &head, &rows)
+    let head = columns(alloc, &[b"Time that matters", b"here", b"declared"]);
+    table(alloc, b"told", head, told_rows(alloc, tick_us, told))
 }
 
 fn told_rows(alloc: Global, tick_us: u32, told: &[ToldTime]) -> Result<Html, AllocError>
     ensures { IfOk result (λ html. html.text.items
         ≡ flat_map (told_row_html tick_us) told.now) }
 {
-    let mut made = Html::new(alloc);
+    let mut made = Ok(Html::new(alloc));
     for time in told {
-        made = made.and(&told_row(alloc, tick_us, time)?)?;
+        made = joined(made, told_row(alloc, tick_us, time));
     }
-    Ok(made)
+    made
 }
 
 fn told_row(alloc: Global, tick_us: u32, time: &ToldTime) -> Result<Html, AllocError>
@@ -142,24 +139,22 @@ fn some_steps(alloc: Global, tick_us: u32, steps: &[ToldStep]) -> Result<Html, A
     }
 }
 
-#[tactic(auto, unfolding(crate::specs::Choices::steps_html))]
 fn step_table(alloc: Global, tick_us: u32, steps: &[ToldStep]) -> Result<Html, AllocError>
     ensures { IfOk result (λ html. html.text.items ≡ steps_html tick_us steps.now) }
 {
-    let head = columns(alloc, &[b"Delay that moves", b"from", b"is"])?;
-    let rows = step_rows(alloc, tick_us, steps)?;
-    table(alloc, b"told", &head, &rows)
+    let head = columns(alloc, &[b"Delay that moves", b"from", b"is"]);
+    table(alloc, b"told", head, step_rows(alloc, tick_us, steps))
 }
 
 fn step_rows(alloc: Global, tick_us: u32, steps: &[ToldStep]) -> Result<Html, AllocError>
     ensures { IfOk result (λ html. html.text.items
         ≡ flat_map (step_row_html tick_us) steps.now) }
 {
-    let mut made = Html::new(alloc);
+    let mut made = Ok(Html::new(alloc));
     for step in steps {
-        made = made.and(&step_row(alloc, tick_us, step)?)?;
+        made = joined(made, step_row(alloc, tick_us, step));
     }
-    Ok(made)
+    made
 }
 
 fn step_row(alloc: Global, tick_us: u32, step: &ToldStep) -> Result<Html, AllocError>
@@ -207,16 +202,15 @@ fn some_least(alloc: Global, least: &[Vec<u8>]) -> Result<Html, AllocError>
 fn least_names(alloc: Global, least: &[Vec<u8>]) -> Result<Html, AllocError>
     ensures { IfOk result (λ html. html.text.items ≡ flat_map least_name_html least.now) }
 {
-    let mut made = Html::new(alloc);
+    let mut made = Ok(Html::new(alloc));
     for name in least {
-        made = made.and(&least_name(alloc, name.as_slice())?)?;
+        made = joined(made, least_name(alloc, name.as_slice()));
     }
-    Ok(made)
+    made
 }
 
-#[tactic(auto, unfolding(crate::specs::Choices::name_html))]
 fn least_name(alloc: Global, name: &[u8]) -> Result<Html, AllocError>
     ensures { IfOk result (λ html. html.text.items ≡ name_html name.now) }
 {
-    Html::words(alloc, b" ")?.and(&words_in(alloc, Tag::Code, name)?)
+    joined(Html::words(alloc, b" "), words_in(alloc, Tag::Code, name))
 }

@@ -1,10 +1,10 @@
 //! Drawings within the page: their looks and hatchings stand in the page once.
 
-ghost use Rattle.std.specs.Prelude.{◌≡◌, IfOk};
+ghost use Rattle.std.specs.Prelude.{◌≡◌, ◌++◌, ℕ, List, IfOk};
 ghost use Rattle.draw_shapes.specs.Seen.{drawing_seen};
 ghost use Rattle.draw_page.specs.Figures.{drawing_html, drawn_inside, figure_html};
 
-use crate::elements::classed;
+use crate::parts::classed_around;
 use crate::words::words_of;
 use base_markup::html::{Html, Tag};
 use base_markup::svg::{Key, Markup, words};
@@ -13,12 +13,10 @@ use itoa::Buffer;
 use std::alloc::{AllocError, Global};
 
 /// A drawing as a figure.
-#[tactic(auto, unfolding(crate::specs::Figures::figure_html))]
 pub fn figure(alloc: Global, of: &Drawing) -> Result<Html, AllocError>
     ensures { IfOk result (λ html. html.text.items ≡ figure_html (drawing_seen of.now)) }
 {
-    let inside = drawing(alloc, of)?;
-    classed(alloc, Tag::Figure, b"drawing", &inside)
+    classed_around(alloc, Tag::Figure, b"drawing", drawing(alloc, of))
 }
 
 /// A drawing as one element.
@@ -48,7 +46,17 @@ fn inside(alloc: Global, of: &Drawing) -> Result<Markup, AllocError>
     ensures { IfOk result (λ markup.
         markup.text.items ≡ drawn_inside (drawing_seen of.now)) }
 {
-    Markup::line_end(alloc)?
-        .and(&title(alloc, of.title.as_slice())?)?
-        .and(&shapes(alloc, of.shapes.as_slice())?)
+    let title = behind(Markup::line_end(alloc), title(alloc, of.title.as_slice()));
+    behind(title, shapes(alloc, of.shapes.as_slice()))
+}
+
+fn behind(
+    first: Result<Markup, AllocError>,
+    second: Result<Markup, AllocError>,
+) -> Result<Markup, AllocError>
+    ensures { (t : List ℕ) → (u : List ℕ) → IfOk first (λ markup. markup.text.items ≡ t)
+        → IfOk second (λ markup. markup.text.items ≡ u)
+        → IfOk result (λ markup. markup.text.items ≡ t ++ u) }
+{
+    first?.and(&second?)
 }

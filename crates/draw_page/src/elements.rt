@@ -1,52 +1,32 @@
 //! Elements as the page uses them.
 
-ghost use Rattle.std.specs.Prelude.{◌≡◌, IfOk, map};
+ghost use Rattle.std.specs.Prelude.{◌≡◌, ◌∷◌, [], ℕ, List, IfOk, codes, map};
 ghost use Rattle.std.specs.List.{flat_map};
-ghost use Rattle.draw_page.specs.Elements.{cell_html, classed_html, column_html, columns_html};
+ghost use Rattle.base_markup.specs.declared.html.attribute.Key.TheVariants as key;
+ghost use Rattle.base_markup.specs.declared.html.tag.Tag.TheVariants as tag;
+ghost use Rattle.base_markup.specs.{html.Content.element_text};
+ghost use Rattle.draw_page.specs.Elements.{anchor_said, cell_html, column_html, columns_html};
 ghost use Rattle.draw_page.specs.Elements.{head_cell_html, link_html, table_html};
-ghost use Rattle.draw_page.specs.Elements.{number_cell_html, plain_html, said_in_html, section_html};
+ghost use Rattle.draw_page.specs.Elements.{number_cell_html, said_in_html, section_html};
 ghost use Rattle.draw_page.specs.Elements.{shown_html, words_in_html};
 
 use crate::anchor::{Anchor, anchor_words, target_words};
-use crate::parts::classed_around;
+use crate::parts::{around, classed_around, element, joined, named};
 use base_markup::html::{Attribute, Html, Key, Sign, Tag};
 use std::alloc::{AllocError, Global};
 
-/// An element without attributes.
-pub fn plain(alloc: Global, tag: Tag, inside: &Html) -> Result<Html, AllocError>
-    ensures { IfOk result (λ html. html.text.items ≡ plain_html tag inside.now.text.items) }
-{
-    Html::element(alloc, tag, &[], inside)
-}
-
-/// An element of a class.
-pub fn classed(alloc: Global, tag: Tag, class: &[u8], inside: &Html) -> Result<Html, AllocError>
-    ensures { IfOk result (λ html.
-        html.text.items ≡ classed_html tag class.now inside.now.text.items) }
-{
-    let class = Attribute {
-        key: Key::Class,
-        words: class,
-    };
-    Html::element(alloc, tag, &[class], inside)
-}
-
 /// An element with words in it.
-#[tactic(auto, unfolding(crate::specs::Elements::words_in_html))]
 pub fn words_in(alloc: Global, tag: Tag, words: &[u8]) -> Result<Html, AllocError>
     ensures { IfOk result (λ html. html.text.items ≡ words_in_html tag words.now) }
 {
-    let inside = Html::words(alloc, words)?;
-    plain(alloc, tag, &inside)
+    around(alloc, tag, Html::words(alloc, words))
 }
 
 /// An element of a class with words in it.
-#[tactic(auto, unfolding(crate::specs::Elements::said_in_html))]
 pub fn said_in(alloc: Global, tag: Tag, class: &[u8], words: &[u8]) -> Result<Html, AllocError>
     ensures { IfOk result (λ html. html.text.items ≡ said_in_html tag class.now words.now) }
 {
-    let inside = Html::words(alloc, words)?;
-    classed(alloc, tag, class, &inside)
+    classed_around(alloc, tag, class, Html::words(alloc, words))
 }
 
 /// These words; a dash where there are none.
@@ -61,89 +41,124 @@ pub fn shown(alloc: Global, words: &[u8]) -> Result<Html, AllocError>
 }
 
 /// A link within the page.
-#[tactic(auto, unfolding(crate::specs::Elements::link_html))]
 pub fn link(alloc: Global, anchor: Anchor, words: &[u8]) -> Result<Html, AllocError>
     ensures { IfOk result (λ html. html.text.items ≡ link_html anchor words.now) }
 {
-    let target = target_words(alloc, anchor)?;
-    let inside = Html::words(alloc, words)?;
-    let href = Attribute {
-        key: Key::Href,
-        words: target.as_slice(),
-    };
-    Html::element(alloc, Tag::Link, &[href], &inside)
+    let inside = Html::words(alloc, words);
+    named(
+        alloc,
+        Tag::Link,
+        Key::Href,
+        target_words(alloc, anchor),
+        inside,
+    )
+}
+
+/// A section that a link may lead to.
+pub fn section_at(
+    alloc: Global,
+    anchor: Anchor,
+    inside: Result<Html, AllocError>,
+) -> Result<Html, AllocError>
+    ensures { (t : List ℕ) → IfOk inside (λ html. html.text.items ≡ t)
+        → IfOk result (λ html. html.text.items
+        ≡ element_text tag.Section ((key.Id, anchor_said anchor) ∷ []) t) }
+{
+    named(
+        alloc,
+        Tag::Section,
+        Key::Id,
+        anchor_words(alloc, anchor),
+        inside,
+    )
 }
 
 /// A section that a link may lead to, with its heading.
-#[tactic(auto, unfolding(crate::specs::Elements::section_html))]
 pub fn section(
     alloc: Global,
     anchor: Anchor,
     heading: &[u8],
-    inside: &Html,
+    inside: Result<Html, AllocError>,
 ) -> Result<Html, AllocError>
-    ensures { IfOk result (λ html. html.text.items
-        ≡ section_html anchor heading.now inside.now.text.items) }
+    ensures { (t : List ℕ) → IfOk inside (λ html. html.text.items ≡ t)
+        → IfOk result (λ html. html.text.items ≡ section_html anchor heading.now t) }
 {
-    let words = anchor_words(alloc, anchor)?;
-    let all = words_in(alloc, Tag::Heading2, heading)?.and(inside)?;
-    let id = Attribute {
-        key: Key::Id,
-        words: words.as_slice(),
-    };
-    Html::element(alloc, Tag::Section, &[id], &all)
+    let heading = words_in(alloc, Tag::Heading2, heading);
+    section_at(alloc, anchor, joined(heading, inside))
 }
 
 /// The head of a row or of a column, by the scope.
-#[tactic(auto, unfolding(crate::specs::Elements::head_cell_html))]
-pub fn head_cell(alloc: Global, scope: &[u8], inside: &Html) -> Result<Html, AllocError>
-    ensures { IfOk result (λ html. html.text.items
-        ≡ head_cell_html scope.now inside.now.text.items) }
+pub fn head_cell(
+    alloc: Global,
+    scope: &[u8],
+    inside: Result<Html, AllocError>,
+) -> Result<Html, AllocError>
+    ensures { (t : List ℕ) → IfOk inside (λ html. html.text.items ≡ t)
+        → IfOk result (λ html. html.text.items ≡ head_cell_html scope.now t) }
 {
     let scope = Attribute {
         key: Key::Scope,
         words: scope,
     };
-    Html::element(alloc, Tag::HeadCell, &[scope], inside)
+    element(alloc, Tag::HeadCell, &[scope], inside)
+}
+
+/// The head of a row.
+pub fn row_head(alloc: Global, inside: Result<Html, AllocError>) -> Result<Html, AllocError>
+    ensures { (t : List ℕ) → IfOk inside (λ html. html.text.items ≡ t)
+        → IfOk result (λ html. html.text.items ≡ head_cell_html (codes "row") t) }
+{
+    head_cell(alloc, b"row", inside)
 }
 
 /// A cell of a class, with a label that is seen in a narrow window alone.
-#[tactic(auto, unfolding(crate::specs::Elements::cell_html))]
-pub fn cell(alloc: Global, class: &[u8], label: &[u8], inside: &Html) -> Result<Html, AllocError>
-    ensures { IfOk result (λ html. html.text.items
-        ≡ cell_html class.now label.now inside.now.text.items) }
+pub fn cell(
+    alloc: Global,
+    class: &[u8],
+    label: &[u8],
+    inside: Result<Html, AllocError>,
+) -> Result<Html, AllocError>
+    ensures { (t : List ℕ) → IfOk inside (λ html. html.text.items ≡ t)
+        → IfOk result (λ html. html.text.items ≡ cell_html class.now label.now t) }
 {
-    let all = said_in(alloc, Tag::Span, b"label", label)?.and(inside)?;
-    classed(alloc, Tag::Cell, class, &all)
+    let label = said_in(alloc, Tag::Span, b"label", label);
+    classed_around(alloc, Tag::Cell, class, joined(label, inside))
 }
 
 /// A cell with a number in words.
-#[tactic(auto, unfolding(crate::specs::Elements::number_cell_html))]
 pub fn number_cell(alloc: Global, label: &[u8], words: &[u8]) -> Result<Html, AllocError>
     ensures { IfOk result (λ html. html.text.items ≡ number_cell_html label.now words.now) }
 {
-    let inside = shown(alloc, words)?;
-    cell(alloc, b"number", label, &inside)
+    cell(alloc, b"number", label, shown(alloc, words))
+}
+
+/// A cell with these words as a number.
+pub fn number_in(
+    alloc: Global,
+    label: &[u8],
+    words: Result<Vec<u8>, AllocError>,
+) -> Result<Html, AllocError>
+    ensures { (t : List ℕ) → IfOk words (λ text. text.items ≡ t)
+        → IfOk result (λ html. html.text.items ≡ number_cell_html label.now t) }
+{
+    let words = words?;
+    number_cell(alloc, label, words.as_slice())
 }
 
 /// The head of a column.
-#[tactic(auto, unfolding(crate::specs::Elements::column_html))]
 pub fn column(alloc: Global, words: &[u8]) -> Result<Html, AllocError>
     ensures { IfOk result (λ html. html.text.items ≡ column_html words.now) }
 {
-    let inside = Html::words(alloc, words)?;
-    head_cell(alloc, b"col", &inside)
+    head_cell(alloc, b"col", Html::words(alloc, words))
 }
 
 /// The heads of the columns of a table.
-#[tactic(auto, unfolding(crate::specs::Elements::columns_html))]
 pub fn columns(alloc: Global, all: &[&[u8]]) -> Result<Html, AllocError>
     ensures { IfOk result (λ html. html.text.items
         ≡ columns_html (map (λ words. words.now) all.now)) }
 {
-    let heads = heads(alloc, all)?;
-    let row = plain(alloc, Tag::Row, &heads)?;
-    plain(alloc, Tag::TableHead, &row)
+    let row = around(alloc, Tag::Row, heads(alloc, all));
+    around(alloc, Tag::TableHead, row)
 }
 
 fn heads(alloc: Global, all: &[&[u8]]) -> Result<Html, AllocError>
@@ -158,13 +173,17 @@ fn heads(alloc: Global, all: &[&[u8]]) -> Result<Html, AllocError>
 }
 
 /// A table of a class: its head and its rows. It scrolls by itself where it is too wide.
-#[tactic(auto, unfolding(crate::specs::Elements::table_html))]
-pub fn table(alloc: Global, class: &[u8], head: &Html, rows: &Html) -> Result<Html, AllocError>
-    ensures { IfOk result (λ html. html.text.items
-        ≡ table_html class.now head.now.text.items rows.now.text.items) }
+pub fn table(
+    alloc: Global,
+    class: &[u8],
+    head: Result<Html, AllocError>,
+    rows: Result<Html, AllocError>,
+) -> Result<Html, AllocError>
+    ensures { (h r : List ℕ) → IfOk head (λ html. html.text.items ≡ h)
+        → IfOk rows (λ html. html.text.items ≡ r)
+        → IfOk result (λ html. html.text.items ≡ table_html class.now h r) }
 {
-    let body = plain(alloc, Tag::TableBody, rows)?;
-    let all = Html::new(alloc).and(head)?.and(&body);
+    let all = joined(head, around(alloc, Tag::TableBody, rows));
     let table = classed_around(alloc, Tag::Table, class, all);
     classed_around(alloc, Tag::Division, b"wide", table)
 }

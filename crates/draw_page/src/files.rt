@@ -1,77 +1,71 @@
 //! The files that were judged, and the digests of all.
 
-ghost use Rattle.std.specs.Prelude.{◌≡◌, IfOk, codes};
-ghost use Rattle.base_markup.specs.declared.html.tag.Tag.TheVariants as tag;
-ghost use Rattle.draw_page.specs.Bare.{bare_cell_html};
-ghost use Rattle.draw_page.specs.Elements.{words_in_html};
+ghost use Rattle.std.specs.Prelude.{◌≡◌, IfOk};
 ghost use Rattle.std.specs.List.{flat_map};
 ghost use Rattle.draw_page.specs.Filed.{digest_row_html, file_html, file_row_html, files_html};
 ghost use Rattle.draw_page.specs.Filed.{hash_row_html};
 
 use crate::anchor::Anchor;
 use crate::bare::bare_cell;
-use crate::elements::{columns, section, table, words_in};
+use crate::elements::{columns, row_head, section, table, words_in};
 use crate::page::{Digest, FileText, Page};
-use crate::parts::{around, joined, row_head};
+use crate::parts::{around, joined};
 use base_markup::html::{Html, Tag};
 use std::alloc::{AllocError, Global};
 
 /// The section of the files: the digests, and each file in a fold.
-#[tactic(auto, unfolding(crate::specs::Filed::files_html))]
 pub fn files(alloc: Global, page: &Page) -> Result<Html, AllocError>
     ensures { IfOk result (λ html. html.text.items ≡ files_html page.now) }
 {
-    let head = columns(alloc, &[b"File", b"SHA-256"])?;
+    let head = columns(alloc, &[b"File", b"SHA-256"]);
     let (files, digests) = (page.files.as_slice(), page.digests.as_slice());
-    let rows = joined(file_rows(alloc, files), digest_rows(alloc, digests))?;
-    let table = table(alloc, b"files", &head, &rows);
-    let inside = joined(table, folded(alloc, files))?;
-    section(alloc, Anchor::Files, b"Files", &inside)
+    let rows = joined(file_rows(alloc, files), digest_rows(alloc, digests));
+    let inside = joined(table(alloc, b"files", head, rows), folded(alloc, files));
+    section(alloc, Anchor::Files, b"Files", inside)
 }
 
 fn file_rows(alloc: Global, files: &[FileText]) -> Result<Html, AllocError>
     ensures { IfOk result (λ html. html.text.items ≡ flat_map file_row_html files.now) }
 {
-    let mut made = Html::new(alloc);
+    let mut made = Ok(Html::new(alloc));
     for file in files {
-        made = made.and(&hash_row(alloc, file.name.as_slice(), file.sha256.as_slice())?)?;
+        made = joined(
+            made,
+            hash_row(alloc, file.name.as_slice(), file.sha256.as_slice()),
+        );
     }
-    Ok(made)
+    made
 }
 
 fn digest_rows(alloc: Global, digests: &[Digest]) -> Result<Html, AllocError>
     ensures { IfOk result (λ html. html.text.items ≡ flat_map digest_row_html digests.now) }
 {
-    let mut made = Html::new(alloc);
+    let mut made = Ok(Html::new(alloc));
     for digest in digests {
-        made = made.and(&hash_row(alloc, digest.of.as_slice(), digest.sha256.as_slice())?)?;
+        made = joined(
+            made,
+            hash_row(alloc, digest.of.as_slice(), digest.sha256.as_slice()),
+        );
     }
-    Ok(made)
+    made
 }
 
 fn hash_row(alloc: Global, name: &[u8], sha256: &[u8]) -> Result<Html, AllocError>
     ensures { IfOk result (λ html. html.text.items ≡ hash_row_html name.now sha256.now) }
 {
     let name = row_head(alloc, Html::words(alloc, name));
-    around(alloc, Tag::Row, joined(name, hash_cell(alloc, sha256)))
-}
-
-fn hash_cell(alloc: Global, sha256: &[u8]) -> Result<Html, AllocError>
-    ensures { IfOk result (λ html. html.text.items
-        ≡ bare_cell_html (codes "hash") (words_in_html tag.Code sha256.now)) }
-{
-    let hash = words_in(alloc, Tag::Code, sha256)?;
-    bare_cell(alloc, b"hash", &hash)
+    let hash = bare_cell(alloc, b"hash", words_in(alloc, Tag::Code, sha256));
+    around(alloc, Tag::Row, joined(name, hash))
 }
 
 fn folded(alloc: Global, files: &[FileText]) -> Result<Html, AllocError>
     ensures { IfOk result (λ html. html.text.items ≡ flat_map file_html files.now) }
 {
-    let mut made = Html::new(alloc);
+    let mut made = Ok(Html::new(alloc));
     for file in files {
-        made = made.and(&one_file(alloc, file)?)?;
+        made = joined(made, one_file(alloc, file));
     }
-    Ok(made)
+    made
 }
 
 fn one_file(alloc: Global, file: &FileText) -> Result<Html, AllocError>

@@ -1,8 +1,9 @@
 //! The head of the page: what it is of, and the counts in large.
 
-ghost use Rattle.std.specs.Prelude.{◌≡◌, ◌++◌, IfOk, Some, codes};
+ghost use Rattle.std.specs.Prelude.{◌≡◌, ℕ, List, IfOk, Some, codes};
 ghost use Rattle.base_markup.specs.declared.html.tag.Tag.TheVariants as tag;
-ghost use Rattle.draw_page.specs.Elements.{plain_html, said_in_html};
+ghost use Rattle.base_markup.specs.{html.Words.words_text};
+ghost use Rattle.draw_page.specs.Elements.{said_in_html};
 ghost use Rattle.draw_page.specs.Headings.{answer_links_html, contents_html, count_html};
 ghost use Rattle.draw_page.specs.Headings.{counts_html, failing_html, header_html, held_html};
 ghost use Rattle.draw_page.specs.Headings.{least_html, link_item_html, meaning_html, notes_html};
@@ -10,9 +11,9 @@ ghost use Rattle.draw_page.specs.Headings.{other_links_html, subject_said, undec
 ghost use Rattle.draw_page.specs.Headings.{tile_class as class_of_tile, tile_html, zone_said};
 
 use crate::anchor::Anchor;
-use crate::elements::{link, plain, said_in, words_in};
+use crate::elements::{link, said_in, words_in};
 use crate::page::{Counts, LeastMargin, Page};
-use crate::parts::{around, classed_around, joined};
+use crate::parts::{around, classed_around, element, joined, text_of};
 use crate::words::{number_words, ticks_words, time_words, words_of};
 use base_markup::html::{Attribute, Html, Key, Tag};
 use itoa::Buffer;
@@ -37,8 +38,8 @@ fn subject(alloc: Global, page: &Page) -> Result<Html, AllocError>
     ensures { IfOk result (λ html. html.text.items
         ≡ said_in_html tag.Paragraph (codes "subject") (subject_said page.now)) }
 {
-    let subject = subject_words(alloc, page)?;
-    said_in(alloc, Tag::Paragraph, b"subject", subject.as_slice())
+    let words = text_of(alloc, subject_words(alloc, page));
+    classed_around(alloc, Tag::Paragraph, b"subject", words)
 }
 
 // The scheme, the terminals and the ticks.
@@ -117,8 +118,9 @@ fn tile(alloc: Global, class: &[u8], number: u32, words: &[u8]) -> Result<Html, 
     ensures { IfOk result (λ html. html.text.items
         ≡ count_html class.now number words.now) }
 {
-    let count = number_words(alloc, number as usize)?;
-    tile_of(alloc, tile_class(class, number), count.as_slice(), words)
+    let count = text_of(alloc, number_words(alloc, number as usize));
+    let words = Html::words(alloc, words);
+    tile_of(alloc, tile_class(class, number), count, words)
 }
 
 // Of nothing a quiet look.
@@ -128,12 +130,18 @@ fn tile_class<'a>(class: &'a [u8], number: u32) -> &'a [u8]
     if number == 0 { b"tile none" } else { class }
 }
 
-fn tile_of(alloc: Global, class: &[u8], number: &[u8], words: &[u8]) -> Result<Html, AllocError>
-    ensures { IfOk result (λ html. html.text.items
-        ≡ tile_html class.now number.now words.now) }
+fn tile_of(
+    alloc: Global,
+    class: &[u8],
+    number: Result<Html, AllocError>,
+    words: Result<Html, AllocError>,
+) -> Result<Html, AllocError>
+    ensures { (n w : List ℕ) → IfOk number (λ html. html.text.items ≡ words_text n)
+        → IfOk words (λ html. html.text.items ≡ words_text w)
+        → IfOk result (λ html. html.text.items ≡ tile_html class.now n w) }
 {
-    let number = words_in(alloc, Tag::Strong, number);
-    let inside = joined(number, words_in(alloc, Tag::Span, words));
+    let number = around(alloc, Tag::Strong, number);
+    let inside = joined(number, around(alloc, Tag::Span, words));
     classed_around(alloc, Tag::Division, class, inside)
 }
 
@@ -149,9 +157,9 @@ fn least_tile(alloc: Global, tick_us: u32, least: &Option<LeastMargin>) -> Resul
 fn some_least(alloc: Global, tick_us: u32, least: &LeastMargin) -> Result<Html, AllocError>
     ensures { IfOk result (λ html. html.text.items ≡ least_html tick_us (Some least.now)) }
 {
-    let number = time_words(alloc, tick_us, least.ticks)?;
-    let words = words_of(alloc, &[b"least margin by rule: ", least.at.as_slice()])?;
-    tile_of(alloc, b"tile", number.as_slice(), words.as_slice())
+    let number = text_of(alloc, time_words(alloc, tick_us, least.ticks));
+    let words = words_of(alloc, &[b"least margin by rule: ", least.at.as_slice()]);
+    tile_of(alloc, b"tile", number, text_of(alloc, words))
 }
 
 // What the three words mean.
@@ -171,32 +179,26 @@ fn meaning(alloc: Global) -> Result<Html, AllocError>
 fn notes(alloc: Global, notes: &[Vec<u8>]) -> Result<Html, AllocError>
     ensures { IfOk result (λ html. html.text.items ≡ notes_html notes.now) }
 {
-    let mut made = Html::new(alloc);
+    let mut made = Ok(Html::new(alloc));
     for note in notes {
-        made = made.and(&said_in(alloc, Tag::Paragraph, b"note", note.as_slice())?)?;
+        made = joined(
+            made,
+            said_in(alloc, Tag::Paragraph, b"note", note.as_slice()),
+        );
     }
-    Ok(made)
+    made
 }
 
 // Links to the sections.
-#[tactic(auto, unfolding(crate::specs::Headings::contents_html))]
 fn contents(alloc: Global) -> Result<Html, AllocError>
     ensures { IfOk result (λ html. html.text.items ≡ contents_html) }
 {
-    let list = links(alloc)?;
     let label = Attribute {
         key: Key::AriaLabel,
         words: b"Contents",
     };
-    Html::element(alloc, Tag::Nav, &[label], &list)
-}
-
-fn links(alloc: Global) -> Result<Html, AllocError>
-    ensures { IfOk result (λ html. html.text.items
-        ≡ plain_html tag.List (answer_links_html ++ other_links_html)) }
-{
     let items = joined(answer_links(alloc), other_links(alloc));
-    around(alloc, Tag::List, items)
+    element(alloc, Tag::Nav, &[label], around(alloc, Tag::List, items))
 }
 
 fn answer_links(alloc: Global) -> Result<Html, AllocError>
@@ -217,10 +219,8 @@ fn other_links(alloc: Global) -> Result<Html, AllocError>
     joined(files, link_item(alloc, Anchor::Signature, b"Signature"))
 }
 
-#[tactic(auto, unfolding(crate::specs::Headings::link_item_html))]
 fn link_item(alloc: Global, anchor: Anchor, words: &[u8]) -> Result<Html, AllocError>
     ensures { IfOk result (λ html. html.text.items ≡ link_item_html anchor words.now) }
 {
-    let inside = link(alloc, anchor, words)?;
-    plain(alloc, Tag::Item, &inside)
+    around(alloc, Tag::Item, link(alloc, anchor, words))
 }

@@ -9,22 +9,21 @@ ghost use Rattle.draw_page.specs.Matrices.{three_heads_html, verdict_cells_html}
 
 use crate::anchor::Anchor;
 use crate::badges::badge;
-use crate::elements::{column, link, section, table};
+use crate::elements::{cell, column, link, number_in, row_head, section, table};
 use crate::page::{Fault, Page, Verdict};
-use crate::parts::{around, cell_around, joined, number_in, row_head};
+use crate::parts::{around, element, joined};
 use crate::words::{kind_words, margin_words, trip_words};
 use base_markup::html::{Attribute, Html, Key, Tag};
 use std::alloc::{AllocError, Global};
 
 /// The section with the matrix: a row for each fault, three cells for each terminal.
-#[tactic(auto, unfolding(crate::specs::Matrices::matrix_html))]
 pub fn matrix(alloc: Global, page: &Page) -> Result<Html, AllocError>
     ensures { IfOk result (λ html. html.text.items ≡ matrix_html page.now) }
 {
-    let head = matrix_head(alloc, page.terminals.as_slice())?;
-    let rows = fault_rows(alloc, page.tick_us, page.faults.as_slice())?;
-    let table = table(alloc, b"matrix", &head, &rows)?;
-    section(alloc, Anchor::Verdicts, b"Verdicts", &table)
+    let head = matrix_head(alloc, page.terminals.as_slice());
+    let rows = fault_rows(alloc, page.tick_us, page.faults.as_slice());
+    let table = table(alloc, b"matrix", head, rows);
+    section(alloc, Anchor::Verdicts, b"Verdicts", table)
 }
 
 // Two rows: the terminals, and below each its three columns.
@@ -39,11 +38,9 @@ fn matrix_head(alloc: Global, terminals: &[Vec<u8>]) -> Result<Html, AllocError>
 }
 
 // The head of a column, beside both rows.
-#[tactic(auto, unfolding(crate::specs::Matrices::corner_html))]
 fn corner(alloc: Global, words: &[u8]) -> Result<Html, AllocError>
     ensures { IfOk result (λ html. html.text.items ≡ corner_html words.now) }
 {
-    let inside = Html::words(alloc, words)?;
     let scope = Attribute {
         key: Key::Scope,
         words: b"col",
@@ -52,15 +49,14 @@ fn corner(alloc: Global, words: &[u8]) -> Result<Html, AllocError>
         key: Key::Rowspan,
         words: b"2",
     };
-    Html::element(alloc, Tag::HeadCell, &[scope, both], &inside)
+    let inside = Html::words(alloc, words);
+    element(alloc, Tag::HeadCell, &[scope, both], inside)
 }
 
 // A terminal, over its three columns.
-#[tactic(auto, unfolding(crate::specs::Matrices::over_html))]
 fn over(alloc: Global, terminal: &[u8]) -> Result<Html, AllocError>
     ensures { IfOk result (λ html. html.text.items ≡ over_html terminal.now) }
 {
-    let inside = Html::words(alloc, terminal)?;
     let scope = Attribute {
         key: Key::Scope,
         words: b"colgroup",
@@ -69,28 +65,29 @@ fn over(alloc: Global, terminal: &[u8]) -> Result<Html, AllocError>
         key: Key::Colspan,
         words: b"3",
     };
-    Html::element(alloc, Tag::HeadCell, &[scope, three], &inside)
+    let inside = Html::words(alloc, terminal);
+    element(alloc, Tag::HeadCell, &[scope, three], inside)
 }
 
 fn terminal_heads(alloc: Global, terminals: &[Vec<u8>]) -> Result<Html, AllocError>
     ensures { IfOk result (λ html. html.text.items ≡ terminal_heads_html terminals.now) }
 {
-    let mut made = Html::new(alloc);
+    let mut made = Ok(Html::new(alloc));
     for terminal in terminals {
-        made = made.and(&over(alloc, terminal.as_slice())?)?;
+        made = joined(made, over(alloc, terminal.as_slice()));
     }
-    Ok(made)
+    made
 }
 
 fn three_heads(alloc: Global, terminals: &[Vec<u8>]) -> Result<Html, AllocError>
     ensures { IfOk result (λ html. html.text.items
         ≡ flat_map (λ terminal. three_heads_html) terminals.now) }
 {
-    let mut made = Html::new(alloc);
+    let mut made = Ok(Html::new(alloc));
     for _terminal in terminals {
-        made = made.and(&three_columns(alloc)?)?;
+        made = joined(made, three_columns(alloc));
     }
-    Ok(made)
+    made
 }
 
 fn three_columns(alloc: Global) -> Result<Html, AllocError>
@@ -104,11 +101,11 @@ fn fault_rows(alloc: Global, tick_us: u32, faults: &[Fault]) -> Result<Html, All
     ensures { IfOk result (λ html. html.text.items
         ≡ numbered (fault_row_html tick_us) 0 faults.now) }
 {
-    let mut made = Html::new(alloc);
+    let mut made = Ok(Html::new(alloc));
     for place in 0..faults.len() {
-        made = made.and(&fault_row(alloc, tick_us, place, &faults[place])?)?;
+        made = joined(made, fault_row(alloc, tick_us, place, &faults[place]));
     }
-    Ok(made)
+    made
 }
 
 fn fault_row(alloc: Global, tick_us: u32, place: usize, fault: &Fault) -> Result<Html, AllocError>
@@ -117,7 +114,7 @@ fn fault_row(alloc: Global, tick_us: u32, place: usize, fault: &Fault) -> Result
     let to = Anchor::Fault(place);
     let name = row_head(alloc, link(alloc, to, fault.name.as_slice()));
     let kind = Html::words(alloc, kind_words(fault.kind));
-    let named = joined(name, cell_around(alloc, b"kind", b"kind", kind));
+    let named = joined(name, cell(alloc, b"kind", b"kind", kind));
     let verdicts = verdict_cells(alloc, tick_us, fault.verdicts.as_slice());
     around(alloc, Tag::Row, joined(named, verdicts))
 }
@@ -126,11 +123,11 @@ fn verdict_cells(alloc: Global, tick_us: u32, verdicts: &[Verdict]) -> Result<Ht
     ensures { IfOk result (λ html. html.text.items
         ≡ flat_map (verdict_cells_html tick_us) verdicts.now) }
 {
-    let mut made = Html::new(alloc);
+    let mut made = Ok(Html::new(alloc));
     for verdict in verdicts {
-        made = made.and(&three_cells(alloc, tick_us, verdict)?)?;
+        made = joined(made, three_cells(alloc, tick_us, verdict));
     }
-    Ok(made)
+    made
 }
 
 // How a fault stands at a terminal, its first trip and its margin.
@@ -138,7 +135,7 @@ fn three_cells(alloc: Global, tick_us: u32, verdict: &Verdict) -> Result<Html, A
     ensures { IfOk result (λ html. html.text.items ≡ verdict_cells_html tick_us verdict.now) }
 {
     let badge = badge(alloc, verdict.standings.as_slice());
-    let state = cell_around(alloc, b"state", verdict.terminal.as_slice(), badge);
+    let state = cell(alloc, b"state", verdict.terminal.as_slice(), badge);
     let words = trip_words(alloc, tick_us, verdict.may, verdict.must);
     let trip = joined(state, number_in(alloc, b"first trip", words));
     let words = margin_words(alloc, tick_us, verdict.deadline, verdict.must);

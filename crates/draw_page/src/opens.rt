@@ -6,20 +6,19 @@ ghost use Rattle.draw_page.specs.Opens.{none_open_html, open_html, open_row_html
 ghost use Rattle.draw_page.specs.Opens.{some_open_html};
 
 use crate::anchor::Anchor;
-use crate::elements::{columns, link, number_cell, section, table, words_in};
+use crate::elements::{columns, link, number_cell, number_in, row_head, section, table, words_in};
 use crate::page::{Page, Undecided};
-use crate::parts::{around, joined, number_in, row_head};
+use crate::parts::{around, joined};
 use crate::words::number_words;
 use base_markup::html::{Html, Tag};
 use std::alloc::{AllocError, Global};
 
 /// The section of what is open.
-#[tactic(auto, unfolding(crate::specs::Opens::open_html))]
 pub fn undecided(alloc: Global, page: &Page) -> Result<Html, AllocError>
     ensures { IfOk result (λ html. html.text.items ≡ open_html page.now) }
 {
-    let inside = some_open(alloc, page.undecided.as_slice())?;
-    section(alloc, Anchor::Open, b"Open obligations", &inside)
+    let inside = some_open(alloc, page.undecided.as_slice());
+    section(alloc, Anchor::Open, b"Open obligations", inside)
 }
 
 fn some_open(alloc: Global, all: &[Undecided]) -> Result<Html, AllocError>
@@ -38,23 +37,21 @@ fn none_open(alloc: Global) -> Result<Html, AllocError>
     words_in(alloc, Tag::Paragraph, b"No obligation is open.")
 }
 
-#[tactic(auto, unfolding(crate::specs::Opens::open_table_html))]
 fn open_table(alloc: Global, all: &[Undecided]) -> Result<Html, AllocError>
     ensures { IfOk result (λ html. html.text.items ≡ open_table_html all.now) }
 {
-    let head = columns(alloc, &[b"Script", b"terminal", b"analyses tried"])?;
-    let rows = open_rows(alloc, all)?;
-    table(alloc, b"told", &head, &rows)
+    let head = columns(alloc, &[b"Script", b"terminal", b"analyses tried"]);
+    table(alloc, b"told", head, open_rows(alloc, all))
 }
 
 fn open_rows(alloc: Global, all: &[Undecided]) -> Result<Html, AllocError>
     ensures { IfOk result (λ html. html.text.items ≡ flat_map open_row_html all.now) }
 {
-    let mut made = Html::new(alloc);
+    let mut made = Ok(Html::new(alloc));
     for one in all {
-        made = made.and(&open_row(alloc, one)?)?;
+        made = joined(made, open_row(alloc, one));
     }
-    Ok(made)
+    made
 }
 
 fn open_row(alloc: Global, one: &Undecided) -> Result<Html, AllocError>

@@ -7,15 +7,14 @@ ghost use Rattle.draw_page.specs.Sweeps.{case_cells_html, case_row_html, script_
 ghost use Rattle.draw_page.specs.Sweeps.{standing_at, state_html, value_html, values_cell_html};
 
 use crate::badges::standing_mark;
-use crate::elements::{cell, column, table, words_in};
+use crate::elements::{cell, column, number_in, row_head, table, words_in};
 use crate::page::{Case, Standing, Verdict};
-use crate::parts::{around, joined, number_in, row_head};
+use crate::parts::{around, joined, text_of};
 use crate::words::{deadline_words, time_words};
 use base_markup::html::{Html, Tag};
 use std::alloc::{AllocError, Global};
 
 /// The table of all scripts, folded.
-#[tactic(auto, unfolding(crate::specs::Sweeps::scripts_html))]
 pub fn scripts(
     alloc: Global,
     tick_us: u32,
@@ -25,9 +24,9 @@ pub fn scripts(
     ensures { IfOk result (λ html. html.text.items
         ≡ scripts_html tick_us cases.now verdicts.now) }
 {
-    let head = scripts_head(alloc, verdicts)?;
-    let rows = case_rows(alloc, tick_us, verdicts, cases)?;
-    let table = table(alloc, b"scripts", &head, &rows);
+    let head = scripts_head(alloc, verdicts);
+    let rows = case_rows(alloc, tick_us, verdicts, cases);
+    let table = table(alloc, b"scripts", head, rows);
     let summary = words_in(alloc, Tag::Summary, b"All scripts of the sweep");
     around(alloc, Tag::Details, joined(summary, table))
 }
@@ -50,11 +49,11 @@ fn terminal_heads(alloc: Global, verdicts: &[Verdict]) -> Result<Html, AllocErro
     ensures { IfOk result (λ html. html.text.items
         ≡ flat_map (λ v. column_html v.terminal.items) verdicts.now) }
 {
-    let mut made = Html::new(alloc);
+    let mut made = Ok(Html::new(alloc));
     for verdict in verdicts {
-        made = made.and(&column(alloc, verdict.terminal.as_slice())?)?;
+        made = joined(made, column(alloc, verdict.terminal.as_slice()));
     }
-    Ok(made)
+    made
 }
 
 fn case_rows(
@@ -66,11 +65,14 @@ fn case_rows(
     ensures { IfOk result (λ html. html.text.items
         ≡ numbered (case_row_html tick_us verdicts.now) 0 cases.now) }
 {
-    let mut made = Html::new(alloc);
+    let mut made = Ok(Html::new(alloc));
     for place in 0..cases.len() {
-        made = made.and(&case_row(alloc, tick_us, verdicts, place, &cases[place])?)?;
+        made = joined(
+            made,
+            case_row(alloc, tick_us, verdicts, place, &cases[place]),
+        );
     }
-    Ok(made)
+    made
 }
 
 fn case_row(
@@ -100,12 +102,11 @@ fn case_cells(alloc: Global, tick_us: u32, case: &Case) -> Result<Html, AllocErr
     joined(values, number_in(alloc, b"deadline", words))
 }
 
-#[tactic(auto, unfolding(crate::specs::Sweeps::values_cell_html))]
 fn values_cell(alloc: Global, tick_us: u32, swept: &[u32]) -> Result<Html, AllocError>
     ensures { IfOk result (λ html. html.text.items ≡ values_cell_html tick_us swept.now) }
 {
-    let inside = values(alloc, tick_us, swept)?;
-    cell(alloc, b"number", b"swept times", &inside)
+    let inside = values(alloc, tick_us, swept);
+    cell(alloc, b"number", b"swept times", inside)
 }
 
 fn values(alloc: Global, tick_us: u32, swept: &[u32]) -> Result<Html, AllocError>
@@ -119,12 +120,11 @@ fn values(alloc: Global, tick_us: u32, swept: &[u32]) -> Result<Html, AllocError
     Ok(made)
 }
 
-#[tactic(auto, unfolding(crate::specs::Sweeps::value_html))]
 fn value_of(alloc: Global, tick_us: u32, value: u32) -> Result<Html, AllocError>
     ensures { IfOk result (λ html. html.text.items ≡ value_html tick_us value) }
 {
-    let words = time_words(alloc, tick_us, value)?;
-    words_in(alloc, Tag::Span, words.as_slice())
+    let words = text_of(alloc, time_words(alloc, tick_us, value));
+    around(alloc, Tag::Span, words)
 }
 
 // How a script stands at each terminal.
@@ -132,19 +132,18 @@ fn states(alloc: Global, place: usize, verdicts: &[Verdict]) -> Result<Html, All
     ensures { IfOk result (λ html. html.text.items
         ≡ flat_map (state_html place) verdicts.now) }
 {
-    let mut made = Html::new(alloc);
+    let mut made = Ok(Html::new(alloc));
     for verdict in verdicts {
-        made = made.and(&state(alloc, place, verdict)?)?;
+        made = joined(made, state(alloc, place, verdict));
     }
-    Ok(made)
+    made
 }
 
-#[tactic(auto, unfolding(crate::specs::Sweeps::state_html))]
 fn state(alloc: Global, place: usize, verdict: &Verdict) -> Result<Html, AllocError>
     ensures { IfOk result (λ html. html.text.items ≡ state_html place verdict.now) }
 {
-    let inside = standing_in(alloc, place, verdict.standings.as_slice())?;
-    cell(alloc, b"state", verdict.terminal.as_slice(), &inside)
+    let inside = standing_in(alloc, place, verdict.standings.as_slice());
+    cell(alloc, b"state", verdict.terminal.as_slice(), inside)
 }
 
 fn standing_in(alloc: Global, place: usize, standings: &[Standing]) -> Result<Html, AllocError>

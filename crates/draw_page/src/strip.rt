@@ -8,7 +8,7 @@ ghost use Rattle.draw_page.specs.Sweeps.{spot_html, spot_sign as sign_of_spot, s
 
 use crate::elements::words_in;
 use crate::page::{Case, Standing, Verdict};
-use crate::parts::joined;
+use crate::parts::{element, hidden, joined};
 use base_markup::html::{Attribute, Html, Key, Sign, Tag};
 use std::alloc::{AllocError, Global};
 
@@ -16,28 +16,19 @@ use std::alloc::{AllocError, Global};
 pub fn strips(alloc: Global, cases: &[Case], verdicts: &[Verdict]) -> Result<Html, AllocError>
     ensures { IfOk result (λ html. html.text.items ≡ strips_html cases.now verdicts.now) }
 {
-    let mut made = Html::new(alloc);
+    let mut made = Ok(Html::new(alloc));
     for verdict in verdicts {
-        made = made.and(&strip(alloc, cases, verdict)?)?;
+        made = joined(made, strip(alloc, cases, verdict));
     }
-    Ok(made)
+    made
 }
 
-#[tactic(auto, unfolding(crate::specs::Sweeps::strip_html))]
 fn strip(alloc: Global, cases: &[Case], verdict: &Verdict) -> Result<Html, AllocError>
     ensures { IfOk result (λ html. html.text.items ≡ strip_html cases.now verdict.now) }
 {
     let name = words_in(alloc, Tag::Strong, verdict.terminal.as_slice());
-    let inside = joined(name, spots(alloc, cases, verdict.standings.as_slice()))?;
-    let class = Attribute {
-        key: Key::Class,
-        words: b"strip",
-    };
-    let hidden = Attribute {
-        key: Key::AriaHidden,
-        words: b"true",
-    };
-    Html::element(alloc, Tag::Division, &[class, hidden], &inside)
+    let spots = spots(alloc, cases, verdict.standings.as_slice());
+    hidden(alloc, b"strip", joined(name, spots))
 }
 
 fn spots(alloc: Global, cases: &[Case], standings: &[Standing]) -> Result<Html, AllocError>
@@ -52,7 +43,6 @@ fn spots(alloc: Global, cases: &[Case], standings: &[Standing]) -> Result<Html, 
 }
 
 // A spot, which says its script to a pointer.
-#[tactic(auto, unfolding(crate::specs::Sweeps::spot_html))]
 fn spot(alloc: Global, cases: &[Case], place: usize, standing: Standing) -> Result<Html, AllocError>
     ensures { IfOk result (λ html. html.text.items ≡ spot_html cases.now place standing) }
 {
@@ -64,8 +54,8 @@ fn spot(alloc: Global, cases: &[Case], place: usize, standing: Standing) -> Resu
         key: Key::Title,
         words: name_at(cases, place),
     };
-    let sign = Html::sign(alloc, spot_sign(standing))?;
-    Html::element(alloc, Tag::Span, &[class, title], &sign)
+    let sign = Html::sign(alloc, spot_sign(standing));
+    element(alloc, Tag::Span, &[class, title], sign)
 }
 
 fn spot_class(standing: Standing) -> &'static [u8]

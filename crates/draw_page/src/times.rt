@@ -1,6 +1,6 @@
 //! The table of times.
 
-ghost use Rattle.std.specs.Prelude.{◌≡◌, ◌≤◌, IfOk};
+ghost use Rattle.std.specs.Prelude.{◌≡◌, ◌≤◌, ◌++◌, IfOk};
 ghost use Rattle.std.specs.List.{flat_map};
 ghost use Rattle.draw_page.specs.Elements.{column_html};
 ghost use Rattle.draw_page.specs.Times.{lost_html, margin_columns_html, no_times_html, reach_said, slack_html};
@@ -12,20 +12,21 @@ use crate::anchor::Anchor;
 use crate::bar::{bar, reach};
 use crate::bare::bare_cell;
 use crate::drawings::drawing;
-use crate::elements::{cell, column, said_in, section, table, words_in};
+use crate::elements::{
+    cell, column, head_cell, number_in, row_head, said_in, section, table, words_in,
+};
 use crate::page::{Page, Slack, Time};
-use crate::parts::{around, joined, number_in, row_head};
-use crate::words::{interval_words, push_ticks, time_words};
+use crate::parts::{around, joined, text_of};
+use crate::words::{interval_words, time_words, timed_words};
 use base_markup::html::{Html, Tag};
 use std::alloc::{AllocError, Global};
 
 /// The section of the times and their margins.
-#[tactic(auto, unfolding(crate::specs::Times::times_html))]
 pub fn times(alloc: Global, page: &Page) -> Result<Html, AllocError>
     ensures { IfOk result (λ html. html.text.items ≡ times_html page.now) }
 {
-    let inside = some_times(alloc, page.tick_us, page.times.as_slice())?;
-    section(alloc, Anchor::Times, b"Times and margins", &inside)
+    let inside = some_times(alloc, page.tick_us, page.times.as_slice());
+    section(alloc, Anchor::Times, b"Times and margins", inside)
 }
 
 fn some_times(alloc: Global, tick_us: u32, times: &[Time]) -> Result<Html, AllocError>
@@ -33,7 +34,7 @@ fn some_times(alloc: Global, tick_us: u32, times: &[Time]) -> Result<Html, Alloc
 {
     match times {
         [] => no_times(alloc),
-        [_, ..] => meaning(alloc)?.and(&times_table(alloc, tick_us, times)?),
+        [_, ..] => times_table(alloc, tick_us, times),
     }
 }
 
@@ -56,14 +57,15 @@ fn meaning(alloc: Global) -> Result<Html, AllocError>
     )
 }
 
-#[tactic(auto, unfolding(crate::specs::Times::times_table_html))]
+// What the columns mean, and the table.
 fn times_table(alloc: Global, tick_us: u32, times: &[Time]) -> Result<Html, AllocError>
-    ensures { IfOk result (λ html. html.text.items ≡ times_table_html tick_us times.now) }
+    ensures { IfOk result (λ html. html.text.items
+        ≡ times_meaning ++ times_table_html tick_us times.now) }
 {
     let reach = reach(times);
-    let head = times_head(alloc, tick_us, reach)?;
-    let rows = time_rows(alloc, tick_us, reach, times)?;
-    table(alloc, b"times", &head, &rows)
+    let head = times_head(alloc, tick_us, reach);
+    let rows = time_rows(alloc, tick_us, reach, times);
+    joined(meaning(alloc), table(alloc, b"times", head, rows))
 }
 
 fn times_head(alloc: Global, tick_us: u32, reach: u32) -> Result<Html, AllocError>
@@ -73,11 +75,12 @@ fn times_head(alloc: Global, tick_us: u32, reach: u32) -> Result<Html, AllocErro
     around(alloc, Tag::TableHead, around(alloc, Tag::Row, cells))
 }
 
+// From where to where the bars go.
 fn reach_column(alloc: Global, tick_us: u32, reach: u32) -> Result<Html, AllocError>
     ensures { IfOk result (λ html. html.text.items ≡ column_html (reach_said tick_us reach)) }
 {
-    let to = reach_words(alloc, tick_us, reach)?;
-    column(alloc, to.as_slice())
+    let words = timed_words(alloc, b"0 to ", tick_us, reach);
+    head_cell(alloc, b"col", text_of(alloc, words))
 }
 
 fn margin_columns(alloc: Global) -> Result<Html, AllocError>
@@ -88,26 +91,16 @@ fn margin_columns(alloc: Global) -> Result<Html, AllocError>
     joined(three, column(alloc, b"to spare above"))
 }
 
-// From where to where the bars go.
-fn reach_words(alloc: Global, tick_us: u32, reach: u32) -> Result<Vec<u8>, AllocError>
-    ensures { IfOk result (λ text. text.items ≡ reach_said tick_us reach) }
-{
-    let mut text = Vec::from_slice(alloc, b"0 to ")?;
-    push_ticks(&mut text, tick_us, reach)?;
-    text.extend_from_slice(b" ms")?;
-    Ok(text)
-}
-
 fn time_rows(alloc: Global, tick_us: u32, reach: u32, times: &[Time]) -> Result<Html, AllocError>
     requires { 1 ≤ reach }
     ensures { IfOk result (λ html. html.text.items
         ≡ flat_map (time_row_html tick_us reach) times.now) }
 {
-    let mut made = Html::new(alloc);
+    let mut made = Ok(Html::new(alloc));
     for time in times {
-        made = made.and(&time_row(alloc, tick_us, reach, time)?)?;
+        made = joined(made, time_row(alloc, tick_us, reach, time));
     }
-    Ok(made)
+    made
 }
 
 fn time_row(alloc: Global, tick_us: u32, reach: u32, time: &Time) -> Result<Html, AllocError>
@@ -133,23 +126,19 @@ fn time_cells(alloc: Global, tick_us: u32, time: &Time) -> Result<Html, AllocErr
     joined(joined(declared, below), above)
 }
 
-#[tactic(auto, unfolding(crate::specs::Times::bar_cell_html))]
 fn bar_cell(alloc: Global, tick_us: u32, reach: u32, time: &Time) -> Result<Html, AllocError>
     requires { 1 ≤ reach }
     ensures { IfOk result (λ html. html.text.items ≡ bar_cell_html tick_us reach time.now) }
 {
     let of = bar(alloc, tick_us, reach, time)?;
-    let drawn = drawing(alloc, &of)?;
-    bare_cell(alloc, b"bar", &drawn)
+    bare_cell(alloc, b"bar", drawing(alloc, &of))
 }
 
-#[tactic(auto, unfolding(crate::specs::Times::slack_cell_html))]
 fn slack_cell(alloc: Global, tick_us: u32, label: &[u8], of: &Slack) -> Result<Html, AllocError>
     ensures { IfOk result (λ html. html.text.items
         ≡ slack_cell_html tick_us label.now of.now) }
 {
-    let inside = slack(alloc, tick_us, of)?;
-    cell(alloc, b"number", label, &inside)
+    cell(alloc, b"number", label, slack(alloc, tick_us, of))
 }
 
 // How far an end can move, and what is lost first beyond.
@@ -162,10 +151,9 @@ fn slack(alloc: Global, tick_us: u32, slack: &Slack) -> Result<Html, AllocError>
     }
 }
 
-#[tactic(auto, unfolding(crate::specs::Times::lost_html))]
 fn bounded(alloc: Global, tick_us: u32, ticks: u32, lost: &[u8]) -> Result<Html, AllocError>
     ensures { IfOk result (λ html. html.text.items ≡ lost_html tick_us ticks lost.now) }
 {
-    let spare = time_words(alloc, tick_us, ticks)?;
-    Html::words(alloc, spare.as_slice())?.and(&said_in(alloc, Tag::Span, b"lost", lost)?)
+    let spare = text_of(alloc, time_words(alloc, tick_us, ticks));
+    joined(spare, said_in(alloc, Tag::Span, b"lost", lost))
 }

@@ -1,6 +1,6 @@
 //! Times and answers in words.
 
-ghost use Rattle.std.specs.Prelude.{◌≡◌, ◌++◌, [], IfOk, OnOk, codes, map};
+ghost use Rattle.std.specs.Prelude.{◌≡◌, ◌++◌, [], IfOk, OnOk, map};
 ghost use Rattle.draw_page.specs.Words.{by_said, deadline_said, interval_said, kind_said};
 ghost use Rattle.draw_page.specs.Words.{margin_of, margin_said, number_said, ticks_text, time_said};
 ghost use Rattle.draw_page.specs.Words.{trip_said, with_pieces};
@@ -29,9 +29,9 @@ pub fn number_words(alloc: Global, number: usize) -> Result<Vec<u8>, AllocError>
     Vec::from_slice(alloc, Buffer::new().format(number).as_bytes())
 }
 
-/// Appends ticks in milliseconds.
+// Appends ticks in milliseconds.
 #[tactic(auto, unfolding(crate::specs::Words::ticks_text))]
-pub fn push_ticks(text: &mut Vec<u8>, tick_us: u32, t: u32) -> Result<(), AllocError>
+fn push_ticks(text: &mut Vec<u8>, tick_us: u32, t: u32) -> Result<(), AllocError>
     ensures { OnOk result (text.new.items ≡ text.old.items ++ ticks_text tick_us t) }
 {
     base_text::lines::push_ticks(text, tick_us, t)
@@ -46,14 +46,28 @@ pub fn ticks_words(alloc: Global, tick_us: u32, t: u32) -> Result<Vec<u8>, Alloc
     Ok(text)
 }
 
+// Appends a time.
+fn put_time(text: &mut Vec<u8>, tick_us: u32, t: u32) -> Result<(), AllocError>
+    ensures { OnOk result (text.new.items ≡ text.old.items ++ time_said tick_us t) }
+{
+    push_ticks(text, tick_us, t)?;
+    text.extend_from_slice(b" ms")
+}
+
+/// Words and a time behind them, as `from 12.25 ms`.
+pub fn timed_words(alloc: Global, words: &[u8], tick_us: u32, t: u32) -> Result<Vec<u8>, AllocError>
+    ensures { IfOk result (λ text. text.items ≡ words.now ++ time_said tick_us t) }
+{
+    let mut text = Vec::from_slice(alloc, words)?;
+    put_time(&mut text, tick_us, t)?;
+    Ok(text)
+}
+
 /// A time, as `12.25 ms`.
 pub fn time_words(alloc: Global, tick_us: u32, t: u32) -> Result<Vec<u8>, AllocError>
     ensures { IfOk result (λ text. text.items ≡ time_said tick_us t) }
 {
-    let mut text = Vec::new(alloc);
-    push_ticks(&mut text, tick_us, t)?;
-    text.extend_from_slice(b" ms")?;
-    Ok(text)
+    timed_words(alloc, b"", tick_us, t)
 }
 
 /// An interval, as `8 to 16 ms`; one time where both ends are the same.
@@ -68,11 +82,9 @@ pub fn interval_words(
     if low == high {
         return time_words(alloc, tick_us, low);
     }
-    let mut text = Vec::new(alloc);
-    push_ticks(&mut text, tick_us, low)?;
+    let mut text = ticks_words(alloc, tick_us, low)?;
     text.extend_from_slice(b" to ")?;
-    push_ticks(&mut text, tick_us, high)?;
-    text.extend_from_slice(b" ms")?;
+    put_time(&mut text, tick_us, high)?;
     Ok(text)
 }
 
@@ -87,18 +99,9 @@ pub fn trip_words(
 {
     match (may, must) {
         (None, _) => Vec::from_slice(alloc, b"none"),
-        (Some(may), None) => from_words(alloc, tick_us, may),
+        (Some(may), None) => timed_words(alloc, b"from ", tick_us, may),
         (Some(may), Some(must)) => interval_words(alloc, tick_us, may, must),
     }
-}
-
-fn from_words(alloc: Global, tick_us: u32, t: u32) -> Result<Vec<u8>, AllocError>
-    ensures { IfOk result (λ text. text.items ≡ codes "from " ++ time_said tick_us t) }
-{
-    let mut text = Vec::from_slice(alloc, b"from ")?;
-    push_ticks(&mut text, tick_us, t)?;
-    text.extend_from_slice(b" ms")?;
-    Ok(text)
 }
 
 /// The deadline less the tick at which the trip must have come; nothing where there are not both.
@@ -123,10 +126,7 @@ fn margin(alloc: Global, tick_us: u32, deadline: u32, must: u32) -> Result<Vec<u
     if must <= deadline {
         return time_words(alloc, tick_us, deadline - must);
     }
-    let mut text = Vec::from_slice(alloc, b"-")?;
-    push_ticks(&mut text, tick_us, must - deadline)?;
-    text.extend_from_slice(b" ms")?;
-    Ok(text)
+    timed_words(alloc, b"-", tick_us, must - deadline)
 }
 
 /// A deadline; `never` where there is none.

@@ -4,5 +4,6 @@ use Rattle.draw_page.proofs.elements.table.Goals as goal
 pub returns : goal.returns
 unfolding table_html
 returns c =
+    λ h r head rows.
     c.classed_around.ensures _ (c.classed_around-table.ensures _
-    (rw (c.in_ok-and.ensures, c.new.ensures, c.in_ok-body.ensures) at c.and-all.ensures))
+    (c.joined-all.ensures _ _ head (c.around.ensures _ rows)))

@@ -5,5 +5,5 @@ pub returns : goal.returns
 unfolding about_html
 returns c =
     c.around.ensures _ (c.joined.ensures _ _
-    (rw (c.as_slice.ensures.value, c.in_ok-words.ensures) at c.words-words.ensures)
-    (rw c.as_slice-2.ensures.value at c.swept_items-swept.ensures))
+    (c.text_of-words.ensures _ c.subject_words.ensures)
+    (rw c.as_slice.ensures.value at c.swept_items-swept.ensures))

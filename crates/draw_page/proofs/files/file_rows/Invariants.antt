@@ -1,8 +1,9 @@
-use Rattle.std.proofs.Common.{◌≡◌, take}
+use Rattle.std.proofs.Common.{◌≡◌, IfOk, take}
 use Rattle.std.specs.List.{flat_map}
 use Rattle.draw_page.specs.Filed.{file_row_html}
 use Rattle.draw_page.proofs.files.file_rows.Given as goal
 
 abbrev pub invariant-loop-file : goal.invariant-loop-file
 invariant-loop-file l =
-    l.made.text.items ≡ flat_map file_row_html (take l.file-index l.files)
+    IfOk l.made (λ html. html.text.items
+    ≡ flat_map file_row_html (take l.file-index l.files))

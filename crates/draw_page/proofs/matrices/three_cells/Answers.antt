@@ -5,7 +5,7 @@ pub returns : goal.returns
 unfolding verdict_cells_html
 returns c =
     let badge = rw c.as_slice.ensures.value at c.badge-badge.ensures in
-    let state = c.cell_around-state.ensures _ badge in
+    let state = c.cell-state.ensures _ badge in
     let named = rw c.as_slice-2.ensures.value at state in
     c.joined.ensures _ _ (c.joined-trip.ensures _ _ named
     (c.number_in.ensures _ c.trip_words-words.ensures))

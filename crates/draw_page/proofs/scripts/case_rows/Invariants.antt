@@ -1,9 +1,9 @@
-use Rattle.std.proofs.Common.{◌≡◌, ◌++◌, drop}
+use Rattle.std.proofs.Common.{◌≡◌, IfOk, take}
 use Rattle.draw_page.specs.Elements.{numbered}
 use Rattle.draw_page.specs.Sweeps.{case_row_html}
 use Rattle.draw_page.proofs.scripts.case_rows.Given as goal
 
 abbrev pub invariant-loop-place : goal.invariant-loop-place
 invariant-loop-place l =
-    l.made.text.items ++ numbered (case_row_html l.tick_us l.verdicts) l.place (drop l.place l.cases)
-    ≡ numbered (case_row_html l.tick_us l.verdicts) 0 l.cases
+    IfOk l.made (λ html. html.text.items
+    ≡ numbered (case_row_html l.tick_us l.verdicts) 0 (take l.place l.cases))

@@ -5,4 +5,4 @@ pub returns : goal.returns
 unfolding scripts_html
 returns c =
     c.around.ensures _ (c.joined.ensures _ _ c.words_in-summary.ensures
-    (rw (c.in_ok-head.ensures, c.in_ok-rows.ensures) at c.table-table.ensures))
+    (c.table-table.ensures _ _ c.scripts_head-head.ensures c.case_rows-rows.ensures))

@@ -4,8 +4,6 @@ use Rattle.draw_page.proofs.strip.strip.Goals as goal
 pub returns : goal.returns
 unfolding strip_html
 returns c =
-    rw (
-      c.in_ok-inside.ensures _ _ c.words_in-name.ensures c.spots.ensures,
-      c.as_slice.ensures.value,
-      c.as_slice-2.ensures.value,
-    ) at c.element.ensures
+    c.hidden.ensures _ (c.joined.ensures _ _
+    (rw c.as_slice.ensures.value at c.words_in-name.ensures)
+    (rw c.as_slice-2.ensures.value at c.spots-spots.ensures))

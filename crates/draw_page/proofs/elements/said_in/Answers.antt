@@ -1,0 +1,7 @@
+use Rattle.draw_page.specs.Elements.{said_in_html}
+use Rattle.draw_page.proofs.elements.said_in.Goals as goal
+
+pub returns : goal.returns
+unfolding said_in_html
+returns c =
+    c.classed_around.ensures _ c.words.ensures

@@ -1,0 +1,7 @@
+use Rattle.draw_page.specs.Elements.{words_in_html}
+use Rattle.draw_page.proofs.elements.words_in.Goals as goal
+
+pub returns : goal.returns
+unfolding words_in_html
+returns c =
+    c.around.ensures _ c.words.ensures
