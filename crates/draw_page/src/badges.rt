@@ -26,6 +26,7 @@ fn mark(
     classed_around(alloc, Tag::Span, class, inside)
 }
 
+// The same, of words as they are.
 fn words_mark(alloc: Global, class: &[u8], sign: Sign, words: &[u8]) -> Result<Html, AllocError>
     ensures { IfOk result (λ html. html.text.items ≡ mark_html class.now sign words.now) }
 {
@@ -55,6 +56,7 @@ pub fn badge(alloc: Global, standings: &[Standing]) -> Result<Html, AllocError>
     worst_badge(alloc, fails, open, held, standings.len())
 }
 
+// How many stand so.
 fn count(standings: &[Standing], state: Standing) -> usize
     ensures { result ≡ count_by (is_so state) standings.now }
 {

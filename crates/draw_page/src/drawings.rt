@@ -50,6 +50,7 @@ fn inside(alloc: Global, of: &Drawing) -> Result<Markup, AllocError>
     behind(title, shapes(alloc, of.shapes.as_slice()))
 }
 
+// One, and the other behind it.
 fn behind(
     first: Result<Markup, AllocError>,
     second: Result<Markup, AllocError>,

@@ -180,6 +180,7 @@ fn swept(alloc: Global, tick_us: u32, fault: &Fault) -> Result<Html, AllocError>
     sweep(alloc, tick_us, cases, verdicts)
 }
 
+// A strip for each terminal, and all scripts as a table.
 fn sweep(
     alloc: Global,
     tick_us: u32,

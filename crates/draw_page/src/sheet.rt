@@ -39,6 +39,7 @@ fn words(alloc: Global) -> Result<Vec<u8>, AllocError>
     )
 }
 
+// A rule for each look.
 fn looks(alloc: Global, classes: &[Class]) -> Result<Vec<u8>, AllocError>
     ensures { IfOk result (λ text. text.items ≡ flat_map look_rule classes.now) }
 {
