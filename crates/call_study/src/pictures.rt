@@ -6,8 +6,8 @@ ghost use Rattle.call_study.specs.Pictures.{IsBandsText, IsDataText, IsDumpText,
 ghost use Rattle.base_markup.specs.svg.Content.{IsContent};
 ghost use Rattle.model_timing.specs.{Inside.IsTimingInside, NamedValues.values_of};
 
-use draw_run::diagram::{every_choice_waves, history_diagram, play_diagram};
 use draw_gates::dump::{play_waves, vcd_text};
+use draw_run::diagram::{every_choice_waves, history_diagram, play_diagram};
 use draw_run::layout::{Subject, draw};
 use draw_shapes::{Rows, svg};
 use file_records::recorded::data_text;
