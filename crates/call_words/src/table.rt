@@ -13,13 +13,15 @@ pub const PROGRAM: &[u8] = b"study 0.25.0";
 
 pub const KIT: &[u8] = b"Rattle, logic dac8208d650f15bf";
 
-// A command: its word, what it is for, its files, and its options beside `-o`.
+// A command: its word, what it is for, its files, its options beside `-o`, and whether it writes three
+// files.
 #[derive(Clone, Copy)]
 struct Word {
     name: &'static str,
     about: &'static str,
     files: Files,
     options: &'static [Opt],
+    in_three: bool,
 }
 
 // From how many files to how many a command takes, how its help calls them, and what they are.
@@ -191,60 +193,70 @@ const ANSWERS: &[Word] = &[
         about: "The line as a line file for `pilot` (TOML, in ticks)",
         files: STUDY,
         options: &[],
+        in_three: false,
     },
     Word {
         name: "scripts",
         about: "The scripts as a scripts file for `pilot` (CSV), 64 at most",
         files: STUDY,
         options: &[PART],
+        in_three: false,
     },
     Word {
         name: "verdicts",
         about: "Whether each fault is met at each terminal, script by script, in milliseconds (CSV)",
         files: STUDY,
         options: &[FAULTS, ANALYSES],
+        in_three: false,
     },
     Word {
         name: "lint",
         about: "What is suspicious in the files, or where and why one is refused",
         files: STUDY,
         options: &[],
+        in_three: false,
     },
     Word {
         name: "settle",
         about: "An answer to each obligation, also where the interval rules leave it open (CSV)",
         files: STUDY,
         options: SETTLE,
+        in_three: false,
     },
     Word {
         name: "recheck",
         about: "Whether the trees of `settle --trees` are so, without trusting who made them",
         files: TREES,
         options: &[],
+        in_three: false,
     },
     Word {
         name: "margins",
         about: "How far each end of each interval can move with all held that is held today (CSV)",
         files: STUDY,
         options: &[],
+        in_three: false,
     },
     Word {
         name: "map",
         about: "Where all obligations are held as one setting or two move (SVG)",
         files: AXES,
         options: &[CELLS],
+        in_three: false,
     },
     Word {
         name: "page",
         about: "The whole study as one page (HTML), to print and to sign",
         files: STUDY,
         options: &[ANALYSES],
+        in_three: false,
     },
     Word {
         name: "explain",
         about: "A timing whose play is what the field recorded, each change within some ticks; or that there is none",
         files: RECORD,
         options: EXPLAIN,
+        in_three: false,
     },
 ];
 
@@ -255,28 +267,30 @@ const RECORDS: &[Word] = &[
         about: "What the relays saw, as a scripts file for `pilot` with one script",
         files: MAP,
         options: &[],
+        in_three: false,
     },
     Word {
         name: "record",
         about: "What the relays keyed and when they tripped, as a record file for `pilot match` and `explain`",
         files: MAP,
         options: &[],
+        in_three: false,
     },
     Word {
         name: "show",
         about: "One record for each channel that the map names: its signal, and when it first changes (CSV)",
         files: MAP,
         options: &[],
+        in_three: false,
+    },
+    Word {
+        name: "export",
+        about: "A play as a record: NAME.cfg, NAME.dat, and NAME.toml, the map that reads them back",
+        files: TIMINGS,
+        options: &[TIMING, SCRIPT],
+        in_three: true,
     },
 ];
-
-// A play as a record.
-const EXPORT: Word = Word {
-    name: "export",
-    about: "A play as a record: NAME.cfg, NAME.dat, and NAME.toml, the map that reads them back",
-    files: TIMINGS,
-    options: &[TIMING, SCRIPT],
-};
 
 // Those behind them: pictures.
 const PICTURES: &[Word] = &[
@@ -285,96 +299,68 @@ const PICTURES: &[Word] = &[
         about: "Every choice of delays at once as a timing diagram (SVG)",
         files: STUDY,
         options: &[SCRIPT, ALL_ROWS],
+        in_three: false,
     },
     Word {
         name: "run",
         about: "A play as a timing diagram (SVG): the script under one timing",
         files: TIMINGS,
         options: &[TIMING, SCRIPT, ALL_ROWS],
+        in_three: false,
     },
     Word {
         name: "vcd",
         about: "A play as a value change dump (VCD) of every gate, for a waveform viewer",
         files: TIMINGS,
         options: &[TIMING, SCRIPT],
+        in_three: false,
     },
 ];
 
 /// The command line: a word for each command, with files and names.
 pub fn command<'a>(alloc: Global) -> Result<Command<'a>, AllocError> {
-    let study = Command::new(alloc, "study")
+    let mut commands = Vec::new(alloc);
+    push_words(alloc, ANSWERS, &mut commands)?;
+    commands.push(comtrade(alloc)?)?;
+    push_words(alloc, PICTURES, &mut commands)?;
+    Command::new(alloc, "study")
         .about("A line and its fault scripts: answers and pictures.")
         .version(VERSION)
         .subcommand_required(true)
-        .arg_required_else_help(true);
-    let study = with_words(alloc, Ok(study), ANSWERS);
-    with_words(alloc, with(study, comtrade(alloc)), PICTURES)
+        .arg_required_else_help(true)
+        .subcommands(commands)
 }
 
 fn comtrade<'a>(alloc: Global) -> Result<Command<'a>, AllocError> {
-    let records = Command::new(alloc, "comtrade")
+    let mut commands = Vec::new(alloc);
+    push_words(alloc, RECORDS, &mut commands)?;
+    Command::new(alloc, "comtrade")
         .about("Records of relays (COMTRADE), in and out")
         .subcommand_required(true)
-        .arg_required_else_help(true);
-    with(with_words(alloc, Ok(records), RECORDS), export(alloc))
+        .arg_required_else_help(true)
+        .subcommands(commands)
 }
 
-// A command with those of a table below it.
-fn with_words<'a>(
+// Pushes the commands of a table.
+fn push_words<'a>(
     alloc: Global,
-    command: Result<Command<'a>, AllocError>,
     words: &'static [Word],
-) -> Result<Command<'a>, AllocError> {
-    let mut command = command;
+    commands: &mut Vec<Command<'a>>,
+) -> Result<(), AllocError> {
     for word in words {
-        command = with(command, written(alloc, *word));
+        commands.push(written(alloc, *word)?)?;
     }
-    command
+    Ok(())
 }
 
-// A command with another below it.
-fn with<'a>(
-    command: Result<Command<'a>, AllocError>,
-    other: Result<Command<'a>, AllocError>,
-) -> Result<Command<'a>, AllocError> {
-    command?.subcommand(other?)
-}
-
-// A command of the table, whose text goes to standard output or to a file.
+// A command of the table, with its files and options, and what it writes.
 fn written<'a>(alloc: Global, word: Word) -> Result<Command<'a>, AllocError> {
-    let output = Arg::new(alloc, "output")
-        .short('o')
-        .value_name("FILE")
-        .help("The file to write; standard output without it");
-    with_arg(given(alloc, word), output)
-}
-
-// The one that writes three files.
-fn export<'a>(alloc: Global) -> Result<Command<'a>, AllocError> {
-    let output = Arg::new(alloc, "output")
-        .short('o')
-        .required(true)
-        .value_name("NAME")
-        .help("What the names of the three files begin with");
-    with_arg(given(alloc, EXPORT), output)
-}
-
-// A command with its files and options.
-fn given<'a>(alloc: Global, word: Word) -> Result<Command<'a>, AllocError> {
     let command = Command::new(alloc, word.name).about(word.about);
-    let mut command = with_arg(Ok(command), files_of(alloc, word.files));
+    let mut command = command.arg(files_of(alloc, word.files))?;
     for opt in word.options {
-        command = with_arg(command, option_of(alloc, *opt));
+        command = command.arg(option_of(alloc, *opt))?;
     }
-    command
-}
-
-// A command with an argument more.
-fn with_arg<'a>(
-    command: Result<Command<'a>, AllocError>,
-    arg: Arg<'a>,
-) -> Result<Command<'a>, AllocError> {
-    command?.arg(arg)
+    command.arg(output_of(alloc, word.in_three))
 }
 
 fn files_of<'a>(alloc: Global, files: Files) -> Arg<'a> {
@@ -390,5 +376,19 @@ fn option_of<'a>(alloc: Global, opt: Opt) -> Arg<'a> {
     match opt.value {
         Some(value) => arg.required(opt.required).value_name(value),
         None => arg.action(ArgAction::SetTrue),
+    }
+}
+
+// Where the text of a command goes: to standard output or to a file; or to three files.
+fn output_of<'a>(alloc: Global, in_three: bool) -> Arg<'a> {
+    let output = Arg::new(alloc, "output").short('o').required(in_three);
+    if in_three {
+        output
+            .value_name("NAME")
+            .help("What the names of the three files begin with")
+    } else {
+        output
+            .value_name("FILE")
+            .help("The file to write; standard output without it")
     }
 }

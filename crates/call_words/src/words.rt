@@ -43,23 +43,10 @@ const TRIES: u32 = 20_000;
 /// What the words say.
 pub fn words_of<'a>(matches: &ArgMatches<'a>) -> Option<Words<'a>> {
     let (name, own) = matches.subcommand()?;
-    if name == "comtrade" {
-        return comtrade_of(own);
-    }
-    Some(Words {
-        call: Call::Study(study_of(name, own)?),
-        output: own.get_str("output"),
-    })
-}
-
-// Records of relays, in and out.
-fn comtrade_of<'a>(matches: &ArgMatches<'a>) -> Option<Words<'a>> {
-    let (name, own) = matches.subcommand()?;
-    let call = match name {
-        "scripts" => records_of(own, RecordsWork::Scripts),
-        "record" => records_of(own, RecordsWork::Record),
-        "show" => records_of(own, RecordsWork::Show),
-        _ => event_of(own),
+    // Only `comtrade` has commands below it.
+    let (call, own) = match own.subcommand() {
+        Some((name, own)) => (comtrade_of(name, own), own),
+        None => (study_of(name, own), own),
     };
     Some(Words {
         call: call?,
@@ -67,9 +54,16 @@ fn comtrade_of<'a>(matches: &ArgMatches<'a>) -> Option<Words<'a>> {
     })
 }
 
-// What relays recorded, of a line and a map.
-fn records_of<'a>(own: &ArgMatches<'a>, work: RecordsWork) -> Option<Call<'a>> {
-    let [line, map, ..] = own.get_strs("files")? else {
+// Records of relays, in and out: what they recorded, of a line and a map, or a play as a record.
+fn comtrade_of<'a>(name: &str, own: &ArgMatches<'a>) -> Option<Call<'a>> {
+    let files = own.get_strs("files")?;
+    let work = match name {
+        "scripts" => RecordsWork::Scripts,
+        "record" => RecordsWork::Record,
+        "show" => RecordsWork::Show,
+        _ => return event_of(own, files),
+    };
+    let [line, map, ..] = files else {
         return None;
     };
     Some(Call::Records(RecordsAsk {
@@ -79,129 +73,117 @@ fn records_of<'a>(own: &ArgMatches<'a>, work: RecordsWork) -> Option<Call<'a>> {
     }))
 }
 
-// A play as a record of files whose names begin as the output is called.
-fn event_of<'a>(own: &ArgMatches<'a>) -> Option<Call<'a>> {
-    let name = last_part(own.get_str("output")?);
+// A play as a record of files whose names begin as the output is called: what stands there behind the
+// last slash.
+fn event_of<'a>(own: &ArgMatches<'a>, files: &[&'a str]) -> Option<Call<'a>> {
+    let output = own.get_str("output")?;
+    let (_, name) = output.rsplit_once("/").unwrap_or(("", output));
     if !is_quotable(name) {
         return None;
     }
+    let last = *files.last()?;
+    let ask = ask_of(played(own, last, Form::Config), own, files)?;
     Some(Call::Event(Event {
-        config: play_of(own, Form::Config)?,
-        samples: play_of(own, Form::Data)?,
-        map: play_of(own, Form::Map { name })?,
+        config: ask,
+        samples: Ask {
+            work: played(own, last, Form::Data),
+            ..ask
+        },
+        map: Ask {
+            work: played(own, last, Form::Map { name }),
+            ..ask
+        },
     }))
-}
-
-// A play in this form.
-fn play_of<'a>(own: &ArgMatches<'a>, form: Form<'a>) -> Option<Ask<'a>> {
-    ask_of(played(own, form)?, own)
-}
-
-// What stands behind the last slash.
-fn last_part(name: &str) -> &str {
-    match name.rsplit_once("/") {
-        Some((_, last)) => last,
-        None => name,
-    }
 }
 
 // Whether a name can stand between quotes as it is: it is not empty, and has no quote, no backslash
 // and nothing but printable characters.
 fn is_quotable(name: &str) -> bool {
+    for byte in name.as_bytes() {
+        if *byte < 32 || *byte == 34 || *byte == 92 || *byte == 127 {
+            return false;
+        }
+    }
     !name.is_empty()
-        && name.as_bytes().iter().all(|byte| *byte >= 32
-            && *byte != 34
-            && *byte != 92
-            && *byte != 127)
 }
 
 // Work over a line and its scripts.
-fn study_of<'a>(name: &str, own: &ArgMatches<'a>) -> Option<Ask<'a>> {
-    ask_of(work_of(name, own)?, own)
+fn study_of<'a>(name: &str, own: &ArgMatches<'a>) -> Option<Call<'a>> {
+    let files = own.get_strs("files")?;
+    let work = work_of(name, own, files)?;
+    Some(Call::Study(ask_of(work, own, files)?))
 }
 
-// Which work.
-fn work_of<'a>(name: &str, own: &ArgMatches<'a>) -> Option<Work<'a>> {
+// Which work. The last file is the further one, where there is one.
+fn work_of<'a>(name: &str, own: &ArgMatches<'a>, files: &[&'a str]) -> Option<Work<'a>> {
+    let last = *files.last()?;
+    let most = if name == "explain" { TRIES } else { ANALYSES };
+    let analyses = count_of(own, "analyses", most)?;
     match name {
         "lines" => Some(Work::Table(Table::Line)),
-        "scripts" => part_of(own),
-        "settle" => settled(own),
+        "scripts" => Some(Work::Table(Table::Part(count_of(own, "part", 1)?))),
+        "settle" => Some(settled(own, analyses)),
         "lint" => Some(Work::Lint),
-        "verdicts" => verdicts_of(own),
-        "explain" => explained(own),
-        "map" => map_of(own),
-        "page" => page_of(own),
-        "recheck" => rechecked(own),
+        "verdicts" => Some(Work::Table(verdicts_of(own, analyses))),
+        "explain" => explained(own, last, analyses),
+        "map" => map_of(own, files),
+        "page" => Some(Work::Page {
+            analyses,
+            program: PROGRAM,
+            kit: KIT,
+        }),
+        "recheck" => Some(Work::Recheck { trees: last }),
         "margins" => Some(Work::Table(Table::Margins)),
-        "run" => played(own, Form::Diagram { rows: rows_of(own) }),
-        "vcd" => played(own, Form::Dump),
+        "run" => Some(played(own, last, Form::Diagram { rows: rows_of(own) })),
+        "vcd" => Some(played(own, last, Form::Dump)),
         _ => Some(Work::Bands { rows: rows_of(own) }),
     }
 }
 
-// A part of the scripts, the first where none is told.
-fn part_of<'a>(own: &ArgMatches<'a>) -> Option<Work<'a>> {
-    Some(Work::Table(Table::Part(count_of(own, "part", 1)?)))
-}
-
-// The page of the study, with what made it.
-fn page_of<'a>(own: &ArgMatches<'a>) -> Option<Work<'a>> {
-    Some(Work::Page {
-        analyses: count_of(own, "analyses", ANALYSES)?,
-        program: PROGRAM,
-        kit: KIT,
-    })
-}
-
-// The check of the trees of the further file.
-fn rechecked<'a>(own: &ArgMatches<'a>) -> Option<Work<'a>> {
-    Some(Work::Recheck {
-        trees: *own.get_strs("files")?.last()?,
-    })
-}
-
-// The work over the files of these words.
-fn ask_of<'a>(work: Work<'a>, own: &ArgMatches<'a>) -> Option<Ask<'a>> {
+// The work over these files. A table is over all scripts.
+fn ask_of<'a>(work: Work<'a>, own: &ArgMatches<'a>, files: &[&'a str]) -> Option<Ask<'a>> {
     Some(Ask {
-        source: source_of(work, own.get_strs("files")?)?,
-        script: script_of(work, own),
+        source: source_of(work, files)?,
+        script: if let Work::Table(_) = work {
+            None
+        } else {
+            own.get_str("script")
+        },
         work,
     })
 }
 
-// Where the line and its scripts stand: all files but the further one.
+// Where the line and its scripts stand: all files but the further one, or those before the axes.
 fn source_of<'a>(work: Work<'_>, files: &[&'a str]) -> Option<Source<'a>> {
     let own = match work {
         Work::Play { .. } | Work::Recheck { .. } | Work::Explain { .. } => {
             files.len().checked_sub(1)?
         }
-        Work::Map(_) => files.iter().take_while(|word| !is_axis(word)).count(),
+        Work::Map(_) => before_axes(files),
         Work::Bands { .. }
         | Work::Table(_)
         | Work::Timings { .. }
         | Work::Lint
         | Work::Page { .. } => files.len(),
     };
-    let first = *files.first()?;
-    match own {
-        1 => Some(Source::Study(first)),
-        2 => Some(Source::Files {
-            line: first,
-            scripts: *files.get(1)?,
+    match files.get(..own)? {
+        [study] => Some(Source::Study(*study)),
+        [line, scripts] => Some(Source::Files {
+            line: *line,
+            scripts: *scripts,
         }),
         _ => None,
     }
 }
 
-// A table, and trees, are over all scripts.
-fn script_of<'a>(work: Work<'_>, own: &ArgMatches<'a>) -> Option<&'a str> {
-    match work {
-        Work::Table(_) | Work::Recheck { .. } | Work::Lint | Work::Map(_) | Work::Page { .. } =>
-            None,
-        Work::Bands { .. } | Work::Play { .. } | Work::Timings { .. } | Work::Explain { .. } => {
-            own.get_str("script")
+// How many files stand before the first axis: a word that has an equals sign is one, and no file.
+fn before_axes(files: &[&str]) -> usize {
+    for (place, word) in files.iter().enumerate() {
+        if word.as_bytes().contains(&b'=') {
+            return place;
         }
     }
+    files.len()
 }
 
 // The rows that change, or all.
@@ -214,27 +196,24 @@ fn rows_of(own: &ArgMatches<'_>) -> Rows {
 }
 
 // Verdicts script by script, or fault by fault.
-fn verdicts_of<'a>(own: &ArgMatches<'a>) -> Option<Work<'a>> {
-    let analyses = count_of(own, "analyses", ANALYSES)?;
-    Some(Work::Table(if own.get_flag("faults") {
+fn verdicts_of(own: &ArgMatches<'_>, analyses: u32) -> Table {
+    if own.get_flag("faults") {
         Table::Faults { analyses }
     } else {
         Table::Verdicts { analyses }
-    }))
+    }
 }
 
-// A map over the words that have an equals sign: one or two, after those of the source.
-fn map_of<'a>(own: &ArgMatches<'a>) -> Option<Work<'a>> {
-    let words = own.get_strs("files")?;
-    let mut axes = words.iter().skip_while(|word| !is_axis(word));
-    let x = axes.next()?;
-    let y = axes.next();
-    if axes.next().is_some() {
-        return None;
-    }
+// A map over the words from the first axis on: one or two.
+fn map_of<'a>(own: &ArgMatches<'a>, files: &[&'a str]) -> Option<Work<'a>> {
+    let (x, y) = match files.get(before_axes(files)..)? {
+        [x] => (*x, None),
+        [x, y] => (*x, Some(y.as_bytes())),
+        _ => return None,
+    };
     Some(Work::Map(MapAsk {
         x: x.as_bytes(),
-        y: y.map(|word| word.as_bytes()),
+        y,
         form: if own.get_flag("csv") {
             MapForm::Records
         } else {
@@ -243,22 +222,15 @@ fn map_of<'a>(own: &ArgMatches<'a>) -> Option<Work<'a>> {
     }))
 }
 
-// Whether a word is an axis and no file: it has an equals sign.
-fn is_axis(word: &str) -> bool {
-    word.as_bytes().contains(&b'=')
-}
-
 // Settled obligations: as a table, as trees, or as the timings that fail.
-fn settled<'a>(own: &ArgMatches<'a>) -> Option<Work<'a>> {
-    let analyses = count_of(own, "analyses", ANALYSES)?;
+fn settled<'a>(own: &ArgMatches<'a>, analyses: u32) -> Work<'a> {
     if own.get_flag("timings") {
-        return Some(Work::Timings { analyses });
-    }
-    Some(Work::Table(if own.get_flag("trees") {
-        Table::Trees { analyses }
+        Work::Timings { analyses }
+    } else if own.get_flag("trees") {
+        Work::Table(Table::Trees { analyses })
     } else {
-        Table::Settled { analyses }
-    }))
+        Work::Table(Table::Settled { analyses })
+    }
 }
 
 // The number of a word; the other one where there is no such word.
@@ -269,12 +241,12 @@ fn count_of(own: &ArgMatches<'_>, word: &str, other: u32) -> Option<u32> {
     }
 }
 
-// What explains the record of the further file.
-fn explained<'a>(own: &ArgMatches<'a>) -> Option<Work<'a>> {
+// What explains a record.
+fn explained<'a>(own: &ArgMatches<'a>, record: &'a str, analyses: u32) -> Option<Work<'a>> {
     Some(Work::Explain {
-        record: *own.get_strs("files")?.last()?,
+        record,
         within: number(own.get_str("within")?.as_bytes())?,
-        analyses: count_of(own, "analyses", TRIES)?,
+        analyses,
         form: if own.get_flag("timings") {
             ExplainForm::Timings
         } else {
@@ -283,10 +255,11 @@ fn explained<'a>(own: &ArgMatches<'a>) -> Option<Work<'a>> {
     })
 }
 
-fn played<'a>(own: &ArgMatches<'a>, form: Form<'a>) -> Option<Work<'a>> {
-    Some(Work::Play {
+// A play of a timing, in this form.
+fn played<'a>(own: &ArgMatches<'a>, timings: &'a str, form: Form<'a>) -> Work<'a> {
+    Work::Play {
         form,
-        timings: *own.get_strs("files")?.last()?,
+        timings,
         timing: own.get_str("timing"),
-    })
+    }
 }
