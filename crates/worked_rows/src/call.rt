@@ -1,11 +1,11 @@
 //! A call of a program over files, and how it ends.
 
-use crate::change::{Change, changed};
-use crate::failing::{Failing, Failings, failing_sink, failing_store};
+use crate::change::{Change, make_change};
+use crate::failing::{Failings, fail_sink, fail_store};
 use crate::fault::Fault;
 use crate::programs::call;
 use base_memory::Stopped;
-use base_text::store::{FetchFault, MemoryStore, Sink, Store, fetch, put_all};
+use base_text::store::{FetchFault, MemorySink, MemoryStore, Sink, Store, fetch, put_all};
 use itoa::Buffer;
 use std::alloc::{AllocError, Global};
 
@@ -18,42 +18,61 @@ const LONGEST_TEXT: u32 = 65_536;
 // More than any line on standard error has.
 const LONGEST_MESSAGE: u32 = 400;
 
-/// The words that a line has behind `$`, of which the first names a program, and `''` is the empty
-/// one; or None where the line is no call.
-pub fn read_words(alloc: Global, line: &str) -> Result<Option<Vec<String>>, AllocError> {
+/// A call: its words, of which the first names a program, and what was said of it.
+#[derive(Drop)]
+pub struct Call<'a> {
+    pub words: Vec<String>,
+    pub changes: Vec<Change<'a>>,
+    pub failing: Failings,
+    /// Whether anything was said of it.
+    pub is_said: bool,
+}
+
+/// Reads the words that a line has behind `$`, where `''` is the empty one, and answers whether the
+/// line is a call.
+pub fn read_words(alloc: Global, line: &str, words: &mut Vec<String>) -> Result<bool, AllocError> {
     let mut spelled = line.split_whitespace();
     if spelled.next() != Some("$") {
-        return Ok(None);
+        return Ok(false);
     }
-    let mut words = Vec::new(alloc);
     for word in spelled {
         let word = if word == "''" { "" } else { word };
         words.push(String::from_str(alloc, word)?)?;
     }
-    Ok(Some(words))
+    Ok(true)
 }
 
 /// Makes the call over the files, as the changes make them, with a store and sinks that fail so: its
 /// text goes to `out`, and then its line on standard error, behind `err: `, and its status.
 pub fn make_call<F: Store, O: Sink>(
     alloc: Global,
-    words: &[String],
-    changes: &[Change],
-    failing: Failings,
+    made: &Call<'_>,
     files: &mut F,
     out: &mut O,
 ) -> Result<(), Fault> {
-    let mut store = store_of(alloc, words, changes, failing.store, files)?;
-    let mut text = failing_sink(alloc, LONGEST_TEXT, failing.out)?;
-    let mut err = failing_sink(alloc, LONGEST_MESSAGE, failing.err)?;
-    let status = call(alloc, words, &mut store, &mut text, &mut err)?;
-    put_end(out, text.written(), err.written(), status)
+    let mut text = MemorySink::new(alloc, LONGEST_TEXT)?;
+    let mut err = MemorySink::new(alloc, LONGEST_MESSAGE)?;
+    let mut store = MemoryStore::new(alloc);
+    put_call(alloc, made, files, &mut store, &mut text, &mut err, out)
 }
 
-// Puts how a call ended.
-fn put_end<O: Sink>(out: &mut O, text: &[u8], err: &[u8], status: u8) -> Result<(), Fault> {
-    put_lines(out, b"", text)?;
-    put_lines(out, b"err: ", err)?;
+// Makes the call over a store, a text and a line that are empty, and puts how it ended.
+fn put_call<F: Store, O: Sink>(
+    alloc: Global,
+    made: &Call<'_>,
+    files: &mut F,
+    store: &mut MemoryStore,
+    text: &mut MemorySink,
+    err: &mut MemorySink,
+    out: &mut O,
+) -> Result<(), Fault> {
+    fail_store(store, made.failing.store)?;
+    fail_sink(text, made.failing.out)?;
+    fail_sink(err, made.failing.err)?;
+    hold_files(alloc, made, files, store)?;
+    let status = call(alloc, made.words.as_slice(), store, text, err)?;
+    put_lines(out, b"", text.written())?;
+    put_lines(out, b"err: ", err.written())?;
     put_lines(out, b"status ", Buffer::new().format(status).as_bytes())
 }
 
@@ -71,46 +90,71 @@ fn put_lines<O: Sink>(out: &mut O, words: &[u8], written: &[u8]) -> Result<(), F
     Ok(())
 }
 
-// The files that the words behind the program and its command name, as the changes make them, in a
-// store that fails so.
-fn store_of<F: Store>(
+// Holds the files that the words behind the program and its command name, as the changes make them.
+fn hold_files<F: Store>(
     alloc: Global,
-    words: &[String],
-    changes: &[Change],
-    failing: Failing,
+    made: &Call<'_>,
     files: &mut F,
-) -> Result<MemoryStore, Fault> {
-    let mut store = failing_store(alloc, failing)?;
-    for change in changes {
-        if !words.contains(&change.file) {
+    store: &mut MemoryStore,
+) -> Result<(), Fault> {
+    for change in made.changes.as_slice() {
+        if !has_word(made.words.as_slice(), change.file) {
             return Err(Fault::File);
         }
     }
-    for word in words.iter().skip(2) {
-        hold_file(alloc, word.as_str(), changes, files, &mut store)?;
+    for word in made.words.iter().skip(2) {
+        hold_file(alloc, word.as_str(), made.changes.as_slice(), files, store)?;
     }
-    Ok(store)
+    Ok(())
+}
+
+fn has_word(words: &[String], wanted: &str) -> bool {
+    for word in words {
+        if word.as_str() == wanted {
+            return true;
+        }
+    }
+    false
 }
 
 // Holds the file of that name, if there is one, as the changes make it.
 fn hold_file<F: Store>(
     alloc: Global,
     name: &str,
-    changes: &[Change],
+    changes: &[Change<'_>],
     files: &mut F,
     store: &mut MemoryStore,
 ) -> Result<(), Fault> {
-    let is_changed = changes.iter().any(|change| change.file.as_str() == name);
-    let mut bytes = match fetch(alloc, files, name, LONGEST) {
-        Ok(bytes) => bytes,
-        Err(Stopped::Fault(FetchFault::Failed)) if !is_changed => return Ok(()),
-        Err(why) => return Err(why.into()),
-    };
+    match fetch(alloc, files, name, LONGEST) {
+        Ok(bytes) => hold_changed(alloc, name, changes, bytes, store),
+        Err(Stopped::Fault(FetchFault::Failed)) if !is_changed(changes, name) => Ok(()),
+        Err(why) => Err(why.into()),
+    }
+}
+
+fn is_changed(changes: &[Change<'_>], name: &str) -> bool {
     for change in changes {
-        if change.file.as_str() == name {
-            bytes = changed(alloc, change, bytes)?;
+        if change.file == name {
+            return true;
         }
     }
-    store.hold(name, &bytes)?;
+    false
+}
+
+// Holds the bytes, as the changes of the file make them.
+fn hold_changed(
+    alloc: Global,
+    name: &str,
+    changes: &[Change<'_>],
+    bytes: Vec<u8>,
+    store: &mut MemoryStore,
+) -> Result<(), Fault> {
+    let mut bytes = bytes;
+    for change in changes {
+        if change.file == name {
+            make_change(alloc, *change, &mut bytes)?;
+        }
+    }
+    store.hold(name, bytes.as_slice())?;
     Ok(())
 }

@@ -6,13 +6,14 @@ use std::alloc::{AllocError, Global};
 /// What is changed in a file: `in FILE: OLD -> NEW`, `throughout FILE: OLD -> NEW` or
 /// `fill FILE: BYTE -> LENGTH`. In OLD, NEW and BYTE a line end is written `\n`, a carriage return
 /// `\r` and a tab `\t`.
-#[derive(Drop)]
-pub struct Change {
+#[derive(Clone, Copy)]
+pub struct Change<'a> {
     /// The file's name.
-    pub file: String,
+    pub file: &'a str,
     how: How,
-    old: String,
-    new: String,
+    // Both texts as they are written.
+    old: &'a str,
+    new: &'a str,
 }
 
 #[derive(Clone, Copy)]
@@ -25,81 +26,78 @@ enum How {
     Fill,
 }
 
+// How a line end, a carriage return and a tab are written.
+const SIGNS: &[(&str, &str)] = &[("\\n", "\n"), ("\\r", "\r"), ("\\t", "\t")];
+
 /// The change that the line says, or None where it says none.
-pub fn read_change(alloc: Global, line: &str) -> Result<Option<Change>, AllocError> {
-    let Some((word, rest)) = line.split_once(' ') else {
-        return Ok(None);
-    };
+pub fn read_change<'a>(line: &'a str) -> Option<Change<'a>> {
+    let (word, rest) = line.split_once(' ')?;
     let how = match word {
         "in" => How::Once,
         "throughout" => How::Throughout,
         "fill" => How::Fill,
-        _ => return Ok(None),
+        _ => return None,
     };
-    let Some((file, texts)) = rest.split_once(": ") else {
-        return Ok(None);
-    };
-    let Some((old, new)) = texts.split_once(" ->") else {
-        return Ok(None);
-    };
-    Ok(Some(Change {
-        file: String::from_str(alloc, file)?,
+    let (file, texts) = rest.split_once(": ")?;
+    let (old, new) = texts.split_once(" ->")?;
+    Some(Change {
+        file,
         how,
-        old: written_out(alloc, old)?,
-        new: written_out(alloc, new.strip_prefix(' ').unwrap_or(new))?,
-    }))
+        old,
+        new: new.strip_prefix(' ').unwrap_or(new),
+    })
+}
+
+/// Changes the bytes of the file.
+pub fn make_change(alloc: Global, change: Change<'_>, bytes: &mut Vec<u8>) -> Result<(), Fault> {
+    let old = written_out(alloc, change.old)?;
+    let new = written_out(alloc, change.new)?;
+    match change.how {
+        How::Once => replace(alloc, old.as_str(), new.as_str(), true, bytes),
+        How::Throughout => replace(alloc, old.as_str(), new.as_str(), false, bytes),
+        How::Fill => fill(old.as_bytes(), new.as_str(), bytes),
+    }
 }
 
 // The text with each sign of a line end, a carriage return and a tab as what it stands for.
 fn written_out(alloc: Global, text: &str) -> Result<String, AllocError> {
-    let text = text.replace(alloc, "\\n", "\n")?;
-    let text = text.as_str().replace(alloc, "\\r", "\r")?;
-    text.as_str().replace(alloc, "\\t", "\t")
-}
-
-/// The bytes of the file, changed.
-pub fn changed(alloc: Global, change: &Change, bytes: Vec<u8>) -> Result<Vec<u8>, Fault> {
-    match change.how {
-        How::Once => changed_once(alloc, change, &bytes),
-        How::Throughout => changed_throughout(alloc, change, &bytes),
-        How::Fill => filled(change, bytes),
+    let mut text = String::from_str(alloc, text)?;
+    for (sign, meant) in SIGNS {
+        text = text.as_str().replace(alloc, *sign, *meant)?;
     }
+    Ok(text)
 }
 
-fn changed_once(alloc: Global, change: &Change, bytes: &[u8]) -> Result<Vec<u8>, Fault> {
-    let old = change.old.as_str();
-    let text = std::str::from_utf8(bytes).map_err(|_| Fault::Text)?;
-    let Some((front, rest)) = text.split_once(old) else {
+// Puts the new text where the old one stands, which may be once alone.
+fn replace(
+    alloc: Global,
+    old: &str,
+    new: &str,
+    is_once: bool,
+    bytes: &mut Vec<u8>,
+) -> Result<(), Fault> {
+    let Ok(text) = std::str::from_utf8(bytes.as_slice()) else {
+        return Err(Fault::Text);
+    };
+    let Some((_, rest)) = text.split_once(old) else {
         return Err(Fault::Absent);
     };
-    if rest.contains(old) {
+    if is_once && rest.contains(old) {
         return Err(Fault::Twice);
     }
-    let new = change.new.as_str();
-    let text = format!(in alloc; "{front}{new}{rest}")?;
-    Ok(text.into_bytes())
+    let text = text.replace(alloc, old, new)?;
+    *bytes = text.into_bytes();
+    Ok(())
 }
 
-fn changed_throughout(alloc: Global, change: &Change, bytes: &[u8]) -> Result<Vec<u8>, Fault> {
-    let old = change.old.as_str();
-    let text = std::str::from_utf8(bytes).map_err(|_| Fault::Text)?;
-    if !text.contains(old) {
-        return Err(Fault::Absent);
-    }
-    let text = text.replace(alloc, old, change.new.as_str())?;
-    Ok(text.into_bytes())
-}
-
-fn filled(change: &Change, mut bytes: Vec<u8>) -> Result<Vec<u8>, Fault> {
-    let [fill] = change.old.as_bytes() else {
-        return Err(Fault::Fill);
-    };
-    let Ok(length) = change.new.as_str().parse::<usize>() else {
+// Fills the bytes up to this length with the one byte.
+fn fill(byte: &[u8], length: &str, bytes: &mut Vec<u8>) -> Result<(), Fault> {
+    let ([byte], Ok(length)) = (byte, length.parse::<usize>()) else {
         return Err(Fault::Fill);
     };
     if length < bytes.len() || length > 4_194_305 {
         return Err(Fault::Fill);
     }
-    bytes.resize(length, *fill)?;
-    Ok(bytes)
+    bytes.resize(length, *byte)?;
+    Ok(())
 }

@@ -1,8 +1,7 @@
 //! How the store and the sinks of a call fail.
 
-use crate::fault::Fault;
+use base_memory::Memory;
 use base_text::store::{MemorySink, MemoryStore};
-use std::alloc::Global;
 
 /// How a store or a sink fails: at the pull or push of which number, from 1 on, and how many bytes of
 /// one it moves at most. A number of 0 is none.
@@ -43,55 +42,42 @@ pub fn read_failing(line: &str, all: Failings) -> Option<Failings> {
     let (words, number) = line.split_once(": ")?;
     let (how, what) = words.split_once(' ')?;
     let number = number.parse::<u32>().ok()?;
-    match what {
-        "store" => Some(Failings {
-            store: with(how, number, all.store)?,
-            ..all
-        }),
-        "out" => Some(Failings {
-            out: with(how, number, all.out)?,
-            ..all
-        }),
-        "err" => Some(Failings {
-            err: with(how, number, all.err)?,
-            ..all
-        }),
-        _ => None,
-    }
+    let mut all = all;
+    let is_read = match what {
+        "store" => set(how, number, &mut all.store),
+        "out" => set(how, number, &mut all.out),
+        "err" => set(how, number, &mut all.err),
+        _ => false,
+    };
+    if is_read { Some(all) } else { None }
 }
 
-fn with(how: &str, number: u32, old: Failing) -> Option<Failing> {
+// Sets the number of one that fails so, and answers whether there is such a word.
+fn set(how: &str, number: u32, failing: &mut Failing) -> bool {
     match how {
-        "fail" => Some(Failing { at: number, ..old }),
-        "refuse" => Some(Failing {
-            takes_none_at: number,
-            ..old
-        }),
-        "slow" => Some(Failing {
-            most: number,
-            ..old
-        }),
-        _ => None,
+        "fail" => failing.at = number,
+        "refuse" => failing.takes_none_at = number,
+        "slow" => failing.most = number,
+        _ => return false,
     }
+    true
 }
 
-/// An empty store, which fails so.
-pub fn failing_store(alloc: Global, failing: Failing) -> Result<MemoryStore, Fault> {
-    let mut store = MemoryStore::new(alloc);
+/// Lets a store fail so.
+pub fn fail_store(store: &mut MemoryStore, failing: Failing) -> Result<(), Memory> {
     store.fail_at(failing.at as u64)?;
     if failing.most > 0 {
         store.give_at_most(failing.most);
     }
-    Ok(store)
+    Ok(())
 }
 
-/// A sink with memory for so many bytes, which fails so.
-pub fn failing_sink(alloc: Global, room: u32, failing: Failing) -> Result<MemorySink, Fault> {
-    let mut sink = MemorySink::new(alloc, room)?;
+/// Lets a sink fail so.
+pub fn fail_sink(sink: &mut MemorySink, failing: Failing) -> Result<(), Memory> {
     sink.fail_at(failing.at as u64)?;
     sink.take_none_at(failing.takes_none_at as u64)?;
     if failing.most > 0 {
         sink.take_at_most(failing.most);
     }
-    Ok(sink)
+    Ok(())
 }

@@ -37,20 +37,23 @@ pub fn call(
 
 // What is said of the files that the words name.
 fn linted_of(alloc: Global, words: &[String], store: &mut MemoryStore) -> Result<Linted, Fault> {
-    let (Some(command), Some(first)) = (words.first(), words.get(1)) else {
+    let [command, first, ..] = words else {
         return Err(Fault::Line);
     };
     if command.as_str() != "lint" {
         return Err(Fault::Line);
     }
     let line = fetch(alloc, store, first.as_str(), LONGEST)?;
-    let Some(second) = words.get(2) else {
-        return Ok(lint_study(alloc, line.as_slice(), first.as_str())?);
+    let linted = match words.get(2) {
+        None => lint_study(alloc, line.as_slice(), first.as_str()),
+        Some(second) => {
+            let scripts = fetch(alloc, store, second.as_str(), LONGEST)?;
+            let names = Names {
+                line: first.as_str(),
+                scripts: second.as_str(),
+            };
+            lint_line(alloc, line.as_slice(), scripts.as_slice(), names)
+        }
     };
-    let scripts = fetch(alloc, store, second.as_str(), LONGEST)?;
-    let names = Names {
-        line: first.as_str(),
-        scripts: second.as_str(),
-    };
-    Ok(lint_line(alloc, line.as_slice(), scripts.as_slice(), names)?)
+    Ok(linted?)
 }
