@@ -117,7 +117,10 @@ fn study_of<'a>(name: &str, own: &ArgMatches<'a>) -> Option<Call<'a>> {
 // Which work. The last file is the further one, where there is one.
 fn work_of<'a>(name: &str, own: &ArgMatches<'a>, files: &[&'a str]) -> Option<Work<'a>> {
     let last = *files.last()?;
-    let most = if name == "explain" { TRIES } else { ANALYSES };
+    let most = match name {
+        "explain" => TRIES,
+        _ => ANALYSES,
+    };
     let analyses = count_of(own, "analyses", most)?;
     match name {
         "lines" => Some(Work::Table(Table::Line)),
