@@ -1,10 +1,13 @@
 //! A choice of delays that fails an obligation.
 
-ghost use Rattle.std.specs.Prelude.{◌≡◌, ◌<◌, ◌^◌, IfOk, length};
+ghost use Rattle.std.specs.Prelude.{◌≡◌, ◌<◌, ◌^◌, List, Some, IfOk, length, slice_get};
 ghost use Rattle.model_line.specs.{Fits.Fits, Parameters.terminal_count};
-ghost use Rattle.judge_settle.specs.settle.Trees.{IsFailing};
+ghost use Rattle.model_line.specs.NamesByNumber.{terminal_name};
+ghost use Rattle.model_line.specs.declared.script.Script.{Script as ScriptOf};
+ghost use Rattle.model_timing.specs.{Inside.IsTimingInside, Timing.TimingValues};
+ghost use Rattle.judge_settle.specs.{corner.Cuts.IsCut, settle.Trees.IsFailing};
 ghost use Rattle.call_answer.specs.Study.{IsAnyStudy};
-ghost use Rattle.call_page.specs.Choices.{IsChoiceFor, IsChoiceOf};
+ghost use Rattle.call_page.specs.Choices.{IsChoiceOf};
 ghost use Rattle.call_facts.specs.Lists.{At};
 
 use crate::known::{name_of, script_at};
@@ -14,7 +17,7 @@ use call_facts::{least_times, play, told_steps, told_times};
 use call_tables::Row;
 use draw_page::FailingChoice;
 use judge_settle::corner::{Obligation, cut};
-use model_line::{Memory, name_of_terminal};
+use model_line::{Memory, Script, name_of_terminal};
 use model_timing::{NamedTiming, Timing};
 use net_gates::Compiled;
 use std::alloc::Global;
@@ -40,7 +43,6 @@ pub fn choice(
         line: &study.line,
         net: &study.net,
     };
-    let line = &study.line;
     let of_script = script_at(study, row.script);
     let of = Obligation {
         compiled,
@@ -48,16 +50,39 @@ pub fn choice(
         terminal: row.terminal,
     };
     let cut = cut(alloc, &of, timing)?;
-    let told = told_times(alloc, line, &cut)?;
-    let least = least_times(alloc, line, &cut)?;
-    let moves = cut.steps();
-    let steps = told_steps(alloc, line, moves)?;
-    let name = name_of(line, row.terminal);
+    let name = name_of(&study.line, row.terminal);
     let named = NamedTiming { name, timing: cut };
-    let play = play(alloc, &compiled, of_script, &named)?;
-    let fault = part_of_script(parts, row.script as usize);
-    let script = Vec::from_slice(alloc, of_script.name.bytes())?;
+    choice_of(alloc, &compiled, parts, row, of_script, &named)
+}
+
+// The choice that is this timing, named after the terminal.
+fn choice_of(
+    alloc: Global,
+    compiled: &Compiled<'_>,
+    parts: &[Part],
+    row: &Row,
+    of: &Script,
+    named: &NamedTiming,
+) -> Result<FailingChoice, Memory>
+    requires few { length parts.now < 2 ^ 32 }
+    requires fits { Fits compiled.now.line.now of.now }
+    requires inside { IsTimingInside compiled.now.line.now named.now.timing }
+    requires name { named.now.name ≡ terminal_name compiled.now.line.now row.now.terminal }
+    ensures { (whole : TimingValues)
+        → IsCut compiled.now.line.now of.now row.now.terminal whole named.now.timing
+        → (scripts : List ScriptOf) → slice_get scripts row.now.script ≡ Some of.now
+        → IfOk result (IsChoiceOf compiled.now.line.now scripts parts.now row.now) }
+{
+    let line = compiled.line;
+    let timing = &named.timing;
+    let script = Vec::from_slice(alloc, of.name.bytes())?;
     let terminal = Vec::from_slice(alloc, name_of_terminal(line, row.terminal))?;
+    let told = told_times(alloc, line, timing)?;
+    let moves = timing.steps();
+    let steps = told_steps(alloc, line, moves)?;
+    let least = least_times(alloc, line, timing)?;
+    let play = play(alloc, compiled, of, named)?;
+    let fault = part_of_script(parts, row.script as usize);
     Ok(FailingChoice {
         fault,
         script,

@@ -10,6 +10,7 @@ use crate::known::Known;
 use crate::parts::{Part, name_from};
 use crate::verdict::verdicts;
 use crate::worst::shown;
+use call_answer::text_of;
 use call_facts::bands;
 use draw_page::Fault;
 use itoa::Buffer;
@@ -45,16 +46,16 @@ fn fault(alloc: Global, known: &Known<'_>, part: Part) -> Result<Fault, Memory>
     let study = known.study;
     let scripts = study.scripts.as_slice();
     let name = name_from(alloc, known.groups, scripts, part.start as u32)?;
+    let worst = &scripts[part.start + shown(known, part)];
+    let shown = Vec::from_slice(alloc, worst.name.bytes())?;
     let cases = cases(alloc, known, part)?;
     let verdicts = verdicts(alloc, known, part)?;
-    let worst = &scripts[part.start + shown(known, part)];
+    let swept = swept_words(alloc, cases[0].swept.len())?;
     let compiled = Compiled {
         line: &study.line,
         net: &study.net,
     };
     let bands = bands(alloc, &compiled, worst)?;
-    let shown = Vec::from_slice(alloc, worst.name.bytes())?;
-    let swept = swept_words(alloc, cases[0].swept.len())?;
     Ok(Fault {
         name,
         kind: scripts[part.start].kind,
@@ -70,9 +71,9 @@ fn fault(alloc: Global, known: &Known<'_>, part: Part) -> Result<Fault, Memory>
 fn swept_words(alloc: Global, count: usize) -> Result<Vec<Vec<u8>>, Memory> {
     let mut words = Vec::new(alloc);
     for i in 0..count {
-        let mut word = Vec::from_slice(alloc, b"swept time ")?;
-        word.extend_from_slice(Buffer::new().format(i as u64 + 1).as_bytes())?;
-        words.push(word)?;
+        let mut digits = Buffer::new();
+        let number = digits.format(i as u64 + 1).as_bytes();
+        words.push(text_of(alloc, &[b"swept time ", number])?)?;
     }
     Ok(words)
 }

@@ -4,11 +4,12 @@ ghost use Rattle.std.specs.Prelude.{◌≡◌, ◌≤◌, ◌<◌, ◌+◌, ◌�
 ghost use Rattle.file_tables.specs.script.SoFar.{AreOnce};
 ghost use Rattle.file_study.specs.{sweeps.Studies.script_names, sweeps.Parts.parts_of};
 ghost use Rattle.call_answer.specs.Study.{IsStudy};
-ghost use Rattle.call_tables.specs.Rows.{AreRows};
+ghost use Rattle.call_tables.specs.{Rows.AreRows, Written.trees_text};
 ghost use Rattle.call_answer.specs.Study.{IsAnyStudy};
+ghost use Rattle.call_facts.specs.Hashes.{IsHashOf};
 ghost use Rattle.call_page.specs.Files.{AreDigests, AreFiles, IsLineFile, IsScriptsFile};
 
-use call_answer::Study;
+use call_answer::{Study, text_of};
 use call_facts::hash_of;
 use call_tables::{Row, settle_trees};
 use draw_page::{Digest, FileText};
@@ -63,13 +64,12 @@ fn scripts_file(alloc: Global, study: &Study, n: usize) -> Result<FileText, Memo
 fn scripts_name(alloc: Global, count: usize, n: usize) -> Result<Vec<u8>, Memory>
     requires { n < count }
 {
-    let mut name = Vec::from_slice(alloc, b"scripts")?;
     if count > 1 {
-        name.extend_from_slice(b".")?;
-        name.extend_from_slice(Buffer::new().format(n as u64 + 1).as_bytes())?;
+        let mut digits = Buffer::new();
+        let number = digits.format(n as u64 + 1).as_bytes();
+        return text_of(alloc, &[b"scripts.", number, b".csv"]);
     }
-    name.extend_from_slice(b".csv")?;
-    Ok(name)
+    text_of(alloc, &[b"scripts.csv"])
 }
 
 /// The hash of the trees and timings by which the obligations are settled.
@@ -79,10 +79,19 @@ pub fn digests(alloc: Global, study: &Study, rows: &[Row]) -> Result<Vec<Digest>
     ensures { IfOk result (λ digests.
         AreDigests study.now.line study.now.scripts.items rows.now digests.items) }
 {
-    let trees = settle_trees(alloc, study, rows)?;
-    let sha256 = hash_of(alloc, trees.as_slice())?;
-    let of = Vec::from_slice(alloc, b"settled trees (study settle --trees)")?;
     let mut digests = Vec::new(alloc);
+    let of = Vec::from_slice(alloc, b"settled trees (study settle --trees)")?;
+    let sha256 = hash_of_trees(alloc, study, rows)?;
     digests.push(Digest { of, sha256 })?;
     Ok(digests)
+}
+
+fn hash_of_trees(alloc: Global, study: &Study, rows: &[Row]) -> Result<Vec<u8>, Memory>
+    requires study { IsStudy study.now }
+    requires rows { AreRows study.now.line study.now.scripts.items rows.now }
+    ensures { IfOk result (λ hash.
+        IsHashOf (trees_text study.now.line study.now.scripts.items rows.now) hash.items) }
+{
+    let trees = settle_trees(alloc, study, rows)?;
+    hash_of(alloc, trees.as_slice())
 }

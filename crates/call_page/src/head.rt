@@ -4,6 +4,7 @@ ghost use Rattle.std.specs.Prelude.{◌≡◌, IfOk, map};
 ghost use Rattle.draw_run.specs.layout.Drawings.{scheme_said};
 
 use crate::said::Asked;
+use call_answer::text_of;
 use itoa::Buffer;
 use model_line::{Line, Memory, Scheme};
 use std::alloc::Global;
@@ -28,9 +29,9 @@ pub fn head(alloc: Global, line: &Line, asked: &Asked<'_>) -> Result<HeadWords, 
 {
     let title = Vec::from_slice(alloc, asked.title)?;
     let scheme = Vec::from_slice(alloc, scheme_words(line.scheme))?;
-    let terminals = terminal_names(alloc, line)?;
     let program = Vec::from_slice(alloc, asked.program)?;
     let kit = Vec::from_slice(alloc, asked.kit)?;
+    let terminals = terminal_names(alloc, line)?;
     Ok(HeadWords {
         title,
         scheme,
@@ -70,15 +71,14 @@ fn terminal_names(alloc: Global, line: &Line) -> Result<Vec<Vec<u8>>, Memory>
 pub fn notes(alloc: Global, scripts: usize) -> Result<Vec<Vec<u8>>, Memory> {
     let mut notes = Vec::new(alloc);
     if scripts > 64 {
-        let mut words = Vec::from_slice(alloc, b"The study comes to ")?;
-        words.extend_from_slice(Buffer::new().format(scripts as u64).as_bytes())?;
-        words.extend_from_slice(
+        let mut digits = Buffer::new();
+        let pieces: [&[u8]; 4] = [
+            b"The study comes to ",
+            digits.format(scripts as u64).as_bytes(),
             b" scripts. How far times may move, and the digest of the settled trees, ",
-        )?;
-        words.extend_from_slice(
             b"are worked out for at most 64, as `study scripts --part` gives them.",
-        )?;
-        notes.push(words)?;
+        ];
+        notes.push(text_of(alloc, &pieces)?)?;
     }
     Ok(notes)
 }

@@ -37,11 +37,29 @@ pub fn page(alloc: Global, known: &Known<'_>, asked: &Asked<'_>) -> Result<Page,
     ensures { IfOk result (IsPageOf known.now.study.now.line known.now.study.now.scripts.items
         known.now.groups.now asked.now.title.now known.now.rows.now known.now.firsts.now) }
 {
+    let parts = parts(alloc, known.groups, known.study.scripts.len())?;
+    page_of(alloc, known, parts.as_slice(), asked)
+}
+
+// The page with these parts.
+fn page_of(
+    alloc: Global,
+    known: &Known<'_>,
+    parts: &[Part],
+    asked: &Asked<'_>,
+) -> Result<Page, Memory>
+    requires known { AreKnown known.now }
+    requires once { AreOnce (script_names known.now.study.now.scripts.items) }
+    requires parts { AreParts known.now.groups.now
+        (length known.now.study.now.scripts.items) parts.now }
+    requires few { length parts.now < 2 ^ 32 }
+    ensures { IfOk result (IsPageOf known.now.study.now.line known.now.study.now.scripts.items
+        known.now.groups.now asked.now.title.now known.now.rows.now known.now.firsts.now) }
+{
     let study = known.study;
     let line = &study.line;
-    let parts = parts(alloc, known.groups, study.scripts.len())?;
-    let found = found(alloc, known, parts.as_slice())?;
     let few = found_of_few(alloc, study, known.rows)?;
+    let found = found(alloc, known, parts)?;
     let told = told(alloc, study, asked)?;
     let choices = found.choices;
     let head = told.head;
@@ -172,9 +190,9 @@ fn told(alloc: Global, study: &Study, asked: &Asked<'_>) -> Result<Words, Memory
     ensures files { IfOk result (λ told.
         AreFiles study.now.line study.now.scripts.items told.files.items) }
 {
-    let head = head(alloc, &study.line, asked)?;
-    let notes = notes(alloc, study.scripts.len())?;
     let files = files(alloc, study)?;
+    let notes = notes(alloc, study.scripts.len())?;
+    let head = head(alloc, &study.line, asked)?;
     Ok(Words { head, notes, files })
 }
 

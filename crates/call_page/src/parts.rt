@@ -82,14 +82,9 @@ pub fn name_from(
 ) -> Result<Vec<u8>, Memory>
     ensures { IfOk result (λ name. name.items ≡ fault_name groups.now scripts.now start) }
 {
-    match place_of_script(groups, start as usize) {
-        Some(place) => {
-            let name = Vec::from_slice(alloc, place.group.name.bytes())?;
-            Ok(name)
-        }
-        None => {
-            let name = Vec::from_slice(alloc, name_of_script(scripts, start))?;
-            Ok(name)
-        }
-    }
+    let name = match place_of_script(groups, start as usize) {
+        Some(place) => place.group.name.bytes(),
+        None => name_of_script(scripts, start),
+    };
+    Ok(Vec::from_slice(alloc, name)?)
 }

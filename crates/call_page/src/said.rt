@@ -8,16 +8,15 @@ ghost use Rattle.call_answer.specs.{Answers.Says, Answers.status_by};
 ghost use Rattle.call_tables.specs.Rows.{AreRows};
 ghost use Rattle.call_answer.specs.Study.{IsAnyStudy};
 ghost use Rattle.call_tables.specs.Table.{is_failing as row_fails, is_open as row_is_open};
-ghost use Rattle.call_page.specs.{Pages.IsPageOf, Pages.page_answer};
-ghost use Rattle.call_facts.specs.FirstTicks.{AreFirsts};
+ghost use Rattle.call_page.specs.{Pages.IsPageText, Pages.page_answer};
 
 use crate::known::Known;
 use crate::page::page;
 use crate::undecided::is_open;
 use call_answer::{Done, Said, Study};
-use call_facts::{Firsts, find_firsts};
+use call_facts::find_firsts;
 use call_tables::{Row, settle_all};
-use draw_page::{Page, page_text};
+use draw_page::page_text;
 use file_study::sweeps::Group;
 use judge_settle::settle::Answer;
 use model_line::Memory;
@@ -47,38 +46,39 @@ pub fn page_said(
         asked.now.title.now)) }
 {
     let rows = settle_all(alloc, study, asked.analyses)?;
-    let firsts = find_firsts(alloc, study)?;
     let all = rows.as_slice();
-    let ticks = firsts.as_slice();
-    let page = page_of(alloc, study, groups, all, ticks, asked)?;
-    let text = page_text(alloc, &page)?;
+    let text = text_of_rows(alloc, study, groups, all, asked)?;
     let status = status_of(all);
     Ok(Said { status, text })
 }
 
-// The page of these answers and first ticks.
-fn page_of<'a>(
+// The text of the page of these answers.
+fn text_of_rows(
     alloc: Global,
-    study: &'a Study,
-    groups: &'a [Group],
-    rows: &'a [Row],
-    firsts: &'a [Firsts],
+    study: &Study,
+    groups: &[Group],
+    rows: &[Row],
     asked: &Asked<'_>,
-) -> Result<Page, Memory>
+) -> Result<Vec<u8>, Memory>
     requires study { IsAnyStudy study.now }
     requires once { AreOnce (script_names study.now.scripts.items) }
     requires rows { AreRows study.now.line study.now.scripts.items rows.now }
-    requires firsts { AreFirsts study.now.line study.now.scripts.items firsts.now }
-    ensures { IfOk result (IsPageOf study.now.line study.now.scripts.items groups.now
-        asked.now.title.now rows.now firsts.now) }
+    ensures { IfOk result (λ text. IsPageText study.now.line study.now.scripts.items groups.now
+        asked.now.title.now (status_by (list_any row_fails rows.now) (list_any row_is_open rows.now))
+        text.items) }
 {
+    let firsts = find_firsts(alloc, study)?;
     let known = Known {
         study,
         groups,
         rows,
-        firsts,
+        firsts: firsts.as_slice(),
     };
-    page(alloc, &known, asked)
+    let text = {
+        let page = page(alloc, &known, asked)?;
+        page_text(alloc, &page)
+    };
+    Ok(text?)
 }
 
 fn status_of(rows: &[Row]) -> Done
