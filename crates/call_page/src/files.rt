@@ -25,8 +25,8 @@ pub fn files(alloc: Global, study: &Study) -> Result<Vec<FileText>, Memory>
     requires once { AreOnce (script_names study.now.scripts.items) }
     ensures { IfOk result (λ files. AreFiles study.now.line study.now.scripts.items files.items) }
 {
-    let mut files = Vec::new(alloc);
     let first = line_file(alloc, study)?;
+    let mut files = Vec::new(alloc);
     files.push(first)?;
     for n in 0..part_count(study.scripts.as_slice()) {
         let file = scripts_file(alloc, study, n)?;
@@ -79,9 +79,9 @@ pub fn digests(alloc: Global, study: &Study, rows: &[Row]) -> Result<Vec<Digest>
     ensures { IfOk result (λ digests.
         AreDigests study.now.line study.now.scripts.items rows.now digests.items) }
 {
-    let mut digests = Vec::new(alloc);
     let of = Vec::from_slice(alloc, b"settled trees (study settle --trees)")?;
     let sha256 = hash_of_trees(alloc, study, rows)?;
+    let mut digests = Vec::new(alloc);
     digests.push(Digest { of, sha256 })?;
     Ok(digests)
 }
