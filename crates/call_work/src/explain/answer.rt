@@ -8,7 +8,7 @@ ghost use Rattle.call_work.specs.explain.Table.{answer_status, answer_text, none
 ghost use Rattle.call_work.specs.explain.Table.{timing_text as text_of_timing};
 
 use crate::explain::fields::changes_text;
-use call_answer::{Done, Said};
+use call_answer::{Done, Said, text_of};
 use call_ask::ExplainForm;
 use file_tables::timing::print_timings;
 use itoa::Buffer;
@@ -29,28 +29,39 @@ pub fn said_of(
     ensures status { IfOk result (λ said. said.status ≡ answer_status explanation) }
     ensures text { IfOk result (λ said. said.text.items ≡ answer_text line.now form explanation) }
 {
+    let status = status_of(&explanation);
+    let text = text_in(alloc, line, form, explanation)?;
+    Ok(Said { status, text })
+}
+
+fn status_of(explanation: &Explanation) -> Done
+    ensures { result ≡ answer_status explanation.now }
+{
     match explanation {
-        Explanation::Explained { timing, rows } => {
-            let text = match form {
-                ExplainForm::Changes => changes_text(alloc, line, &rows)?,
-                ExplainForm::Timings => timing_text(alloc, line, timing)?,
-            };
-            Ok(Said::good(text))
-        }
-        Explanation::Impossible { parts, .. } => {
-            let text = none_text(alloc, parts)?;
-            Ok(Said {
-                status: Done::SomeNo,
-                text,
-            })
-        }
-        Explanation::Open => {
-            let text = Vec::from_slice(alloc, b"open\n")?;
-            Ok(Said {
-                status: Done::SomeUndecided,
-                text,
-            })
-        }
+        Explanation::Explained { .. } => Done::Good,
+        Explanation::Impossible { .. } => Done::SomeNo,
+        Explanation::Open => Done::SomeUndecided,
+    }
+}
+
+// The text of an answer in the form that is asked for.
+fn text_in(
+    alloc: Global,
+    line: &Line,
+    form: ExplainForm,
+    explanation: Explanation,
+) -> Result<Vec<u8>, Memory>
+    requires { (timing : TimingValues) (rows : _) → explanation ≡ Explained timing rows →
+        IsTimingInside line.now timing × (timing.steps ≡ []) }
+    ensures { IfOk result (λ text. text.items ≡ answer_text line.now form explanation) }
+{
+    match explanation {
+        Explanation::Explained { timing, rows } => match form {
+            ExplainForm::Changes => changes_text(alloc, line, &rows),
+            ExplainForm::Timings => timing_text(alloc, line, timing),
+        },
+        Explanation::Impossible { parts, .. } => none_text(alloc, parts),
+        Explanation::Open => text_of(alloc, &[b"open\n"]),
     }
 }
 
@@ -70,9 +81,7 @@ fn timing_text(alloc: Global, line: &Line, timing: Timing) -> Result<Vec<u8>, Me
 fn none_text(alloc: Global, parts: usize) -> Result<Vec<u8>, Memory>
     ensures { IfOk result (λ text. text.items ≡ none_said parts) }
 {
-    let mut text = Vec::from_slice(alloc, b"no timing, in ")?;
     let mut digits = Buffer::new();
-    text.extend_from_slice(digits.format(parts).as_bytes())?;
-    text.extend_from_slice(b" parts\n")?;
-    Ok(text)
+    let parts = digits.format(parts).as_bytes();
+    text_of(alloc, &[b"no timing, in ", parts, b" parts\n"])
 }

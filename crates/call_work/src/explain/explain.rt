@@ -1,8 +1,11 @@
 //! What is said of a record.
 
-ghost use Rattle.std.specs.Prelude.{MatchResult};
+ghost use Rattle.std.specs.Prelude.{◌≡◌, ◌<◌, MatchResult, Ok, length, map};
+ghost use Rattle.std.specs.List.{All};
 ghost use Rattle.call_answer.specs.Answers.{Says};
 ghost use Rattle.base_memory.specs.Gives.{OfFault};
+ghost use Rattle.judge_match.specs.matching.Seen.{AreSeen};
+ghost use Rattle.judge_match.specs.matching.Waves.{records_said, seen_values};
 ghost use Rattle.call_work.specs.explain.Explain.{IsAsked, IsExplainFault, explain_answer};
 
 use crate::explain::answer::said_of;
@@ -12,7 +15,7 @@ use crate::explain::pick::pick;
 use base_memory::Stopped;
 use call_answer::Said;
 use judge_match::explain::explain;
-use judge_match::matching::read_seen;
+use judge_match::matching::{Seen, read_seen};
 use std::alloc::Global;
 
 /// What is said of a record: the changes of a timing that explains it, or the timing as a file, with
@@ -33,7 +36,22 @@ pub fn explain_said(alloc: Global, asked: &Asked) -> Result<Said, Stopped<Explai
         Err(Stopped::Fault(fault)) => return Err(Stopped::Fault(ExplainFault::Record(fault))),
         Err(Stopped::Memory) => return Err(Stopped::Memory),
     };
-    let seen = match pick(asked.script, &records) {
+    said_among(alloc, asked, &records)
+}
+
+// What is said of one of these records.
+fn said_among(alloc: Global, asked: &Asked, records: &[Seen]) -> Result<Said, Stopped<ExplainFault>>
+    requires seen { All (λ s. AreSeen asked.now.compiled.line.now s) records.now }
+    requires named { All (λ s. s.script < length asked.now.scripts.now) records.now }
+    requires said { records_said asked.now.compiled.line.now asked.now.scripts.now
+        asked.now.record.now ≡ Ok (map seen_values records.now) }
+    ensures { MatchResult result
+        (Says (explain_answer asked.now.compiled.line.now asked.now.scripts.now asked.now.record.now
+        asked.now.script asked.now.within asked.now.form))
+        (OfFault (IsExplainFault asked.now.compiled.line.now asked.now.scripts.now asked.now.record.now
+        asked.now.script)) }
+{
+    let seen = match pick(asked.script, records) {
         Ok(seen) => seen,
         Err(why) => return Err(Stopped::Fault(ExplainFault::Unpicked(why))),
     };

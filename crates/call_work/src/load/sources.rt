@@ -43,9 +43,9 @@ fn load_files(alloc: Global, line: &[u8], scripts: &[u8]) -> Result<Loaded, Halt
     ensures { Loads (of_files line.now scripts.now) (FilesSay line.now scripts.now) result }
 {
     a_file_says_scripts_of_one_file();
+    let title = untitled(alloc)?;
     let study = read_study(alloc, line, scripts)?;
     let groups = groups_of_scripts(alloc, study.scripts.as_slice())?;
-    let title = untitled(alloc)?;
     Ok(Loaded {
         title,
         study,

@@ -6,6 +6,7 @@ ghost use Rattle.base_markup.specs.svg.Content.{IsContent};
 ghost use Rattle.judge_margins.specs.map.Axes.{AreAxes, CanMoveBoth};
 ghost use Rattle.judge_margins.specs.map.Cells.{AreCells};
 ghost use Rattle.draw_map.specs.Maps.{IsSmallSecond};
+ghost use Rattle.draw_shapes.specs.{Drawings.drawing_of, Scale.IsGrid, Svg.svg_of};
 ghost use Rattle.file_study.specs.times.Parts.{names_of as names_for};
 ghost use Rattle.call_answer.specs.Answers.{Says};
 ghost use Rattle.call_work.specs.map.Answers.{IsDrawingText, IsTextOver, map_answer, second_names as second_for};
@@ -20,7 +21,7 @@ use base_memory::Stopped;
 use call_answer::{Said, Study};
 use call_ask::{MapAsk, MapForm};
 use draw_map::{Map, grid_of};
-use draw_shapes::{draw, svg};
+use draw_shapes::{Grid, draw, svg};
 use file_study::times::names_of;
 use judge_margins::map::{Axes, Cell, cells, map_text};
 use model_line::Memory;
@@ -93,7 +94,16 @@ fn drawing_text(
         y: second_names(ask.y),
     };
     let grid = grid_of(alloc, &map)?;
-    let drawn = draw(alloc, &grid)?;
+    grid_text(alloc, &grid)
+}
+
+// The drawing of this grid.
+fn grid_text(alloc: Global, grid: &Grid) -> Result<Vec<u8>, Memory>
+    requires { IsGrid grid.now }
+    ensures well_formed { IfOk result (λ text. ∥ IsContent text.items ∥₁) }
+    ensures drawn { IfOk result (λ text. text.items ≡ svg_of (drawing_of grid.now)) }
+{
+    let drawn = draw(alloc, grid)?;
     let markup = svg(alloc, &drawn)?;
     Ok(markup.text)
 }

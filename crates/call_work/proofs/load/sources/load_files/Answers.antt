@@ -5,7 +5,8 @@ use Rattle.call_work.proofs.load.sources.load_files.Goals as goal
 
 pub returns-in_err-study : goal.returns-in_err-study
 returns-in_err-study c =
-    let p = err_from_is_err_and c.from_residual.result c.from_residual.ensures.1 in
+    let p = err_from_is_err_and c.from_residual-in_err-study.result
+    c.from_residual-in_err-study.ensures.1 in
     let line = c.args.line.now in
     let scripts = c.args.scripts.now in
     rw (p.1, p.2) (files_halt line scripts (FilesSay line scripts) c.in_err-study.field-0.0

@@ -1,4 +1,4 @@
-use Rattle.call_work.proofs.explain.answer.said_of.Goals as goal
+use Rattle.call_work.proofs.explain.answer.text_in.Goals as goal
 
 pub timing_text-requires-clause-inside : goal.timing_text-requires-clause-inside
 timing_text-requires-clause-inside c =
