@@ -8,10 +8,12 @@ ghost use Rattle.call_verdicts.specs.Faults.{faults_from, faults_text as text_of
 ghost use Rattle.call_verdicts.specs.Faults.{findings_of};
 
 use crate::cases::Cases;
-use crate::fault_fields::{kind_of, worst_text};
+use crate::fault_fields::{kind_of, told_at};
+use crate::fields::number_words;
 use crate::finding::Finding;
 use crate::stretches::{places_text, values_text};
 use crate::verdict::{Verdict, failing_count, held_count, open_count, verdicts_of};
+use crate::worst::{number_at, worst_place};
 use base_records::push_record;
 use file_study::sweeps::Group;
 use itoa::Buffer;
@@ -125,9 +127,11 @@ fn push_verdicts(
     let (fault, name) = (group.name, line.terminals[terminal].name);
     let (mut scripts, mut held) = (Buffer::new(), Buffer::new());
     let (mut failing, mut open) = (Buffer::new(), Buffer::new());
-    let worst = worst_text(alloc, line, verdicts)?;
+    let worst = worst_place(line.horizon, verdicts);
+    let mut place = Buffer::new();
     let places = places_text(alloc, verdicts)?;
     let values = values_text(alloc, line.tick_us, group, verdicts)?;
+    let told = told_at(alloc, line.tick_us, verdicts, worst)?;
     push_record(
         alloc,
         text,
@@ -139,9 +143,9 @@ fn push_verdicts(
             held.format(held_count(verdicts)).as_bytes(),
             failing.format(failing_count(verdicts)).as_bytes(),
             open.format(open_count(verdicts)).as_bytes(),
-            worst.place.as_slice(),
-            worst.trip.as_slice(),
-            worst.margin.as_slice(),
+            number_words(&mut place, number_at(verdicts, worst)),
+            told.trip.as_slice(),
+            told.margin.as_slice(),
             places.as_slice(),
             values.as_slice(),
         ],

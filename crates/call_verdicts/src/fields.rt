@@ -1,6 +1,6 @@
 //! The fields of a record of the table.
 
-ghost use Rattle.std.specs.Prelude.{◌≡◌, ◌++◌, ◌∷◌, IfOk, OnOk, Some};
+ghost use Rattle.std.specs.Prelude.{◌≡◌, ◌++◌, ◌∷◌, [], IfOk, IfSome, None, OnOk, Some, decimal};
 ghost use Rattle.model_line.specs.declared.script.Kind.TheVariants.{Internal};
 ghost use Rattle.judge_report.specs.ReportText.{kind_word as word_of_kind};
 ghost use Rattle.base_text.specs.lines.Milliseconds.{ticks_text};
@@ -10,6 +10,7 @@ ghost use Rattle.call_verdicts.specs.Records.{trip_text as trip_text_of};
 
 use crate::finding::Standing;
 use base_text::lines::push_ticks;
+use itoa::Buffer;
 use model_line::{Kind, Memory};
 use std::alloc::Global;
 
@@ -39,19 +40,42 @@ fn push_more(text: &mut Vec<u8>, tick_us: u32, t: u32) -> Result<(), Memory>
     Ok(())
 }
 
-/// When the trip must have come; nothing where it need not come.
-pub fn trip_text(alloc: Global, tick_us: u32, first: Option<u32>) -> Result<Vec<u8>, Memory>
-    ensures { IfOk result (λ text. text.items ≡ trip_text_of tick_us first) }
-{
-    let mut text = Vec::new(alloc);
-    if let Some(first) = first {
-        push_ticks(&mut text, tick_us, first)?;
-    }
-    Ok(text)
+/// When a trip must have come, and how long before its deadline that is.
+#[derive(Drop)]
+pub struct TripText {
+    pub trip: Vec<u8>,
+    pub margin: Vec<u8>,
 }
 
-/// The deadline less that; nothing where there are not both.
-pub fn margin_text(
+/// What is told of the first tick by which a trip must have come.
+pub fn told_of_trip(
+    alloc: Global,
+    tick_us: u32,
+    kind: Kind,
+    deadline: u32,
+    first: Option<u32>,
+) -> Result<TripText, Memory>
+    ensures trip { IfOk result (λ t. t.trip.items ≡ trip_text_of tick_us first) }
+    ensures margin { IfOk result (λ t.
+        t.margin.items ≡ margin_text_of tick_us kind deadline first) }
+{
+    let trip = trip_text(alloc, tick_us, first)?;
+    let margin = margin_text(alloc, tick_us, kind, deadline, first)?;
+    Ok(TripText { trip, margin })
+}
+
+// When the trip must have come; nothing where it need not come.
+fn trip_text(alloc: Global, tick_us: u32, first: Option<u32>) -> Result<Vec<u8>, Memory>
+    ensures { IfOk result (λ text. text.items ≡ trip_text_of tick_us first) }
+{
+    match first {
+        Some(first) => ticks_behind(alloc, b"", tick_us, first),
+        None => Ok(Vec::new(alloc)),
+    }
+}
+
+// The deadline less that; nothing where there are not both.
+fn margin_text(
     alloc: Global,
     tick_us: u32,
     kind: Kind,
@@ -72,14 +96,31 @@ fn margin(alloc: Global, tick_us: u32, deadline: u32, first: u32) -> Result<Vec<
     ensures { IfOk result (λ text.
         text.items ≡ margin_text_of tick_us Internal deadline (Some first)) }
 {
-    let mut text = Vec::new(alloc);
     if first <= deadline {
-        push_ticks(&mut text, tick_us, deadline - first)?;
-        return Ok(text);
+        ticks_behind(alloc, b"", tick_us, deadline - first)
+    } else {
+        ticks_behind(alloc, b"-", tick_us, first - deadline)
     }
-    text.push(b'-')?;
-    push_ticks(&mut text, tick_us, first - deadline)?;
+}
+
+// A time behind a sign.
+fn ticks_behind(alloc: Global, sign: &[u8], tick_us: u32, t: u32) -> Result<Vec<u8>, Memory>
+    ensures { IfOk result (λ text. text.items ≡ sign.now ++ ticks_text tick_us t) }
+{
+    let mut text = Vec::from_slice(alloc, sign)?;
+    push_ticks(&mut text, tick_us, t)?;
     Ok(text)
+}
+
+/// A number in digits, which stand there; nothing where there is none.
+pub fn number_words<'a>(digits: &'a mut Buffer, number: Option<usize>) -> &'a [u8]
+    ensures some { IfSome number (λ n. result.now ≡ decimal n) }
+    ensures none { number ≡ None → result.now ≡ [] }
+{
+    match number {
+        Some(number) => digits.format(number).as_bytes(),
+        None => b"",
+    }
 }
 
 /// `internal` or `external`.

@@ -74,8 +74,34 @@ fn push_script(
         found.new.items) }
 {
     let waves = analyse(alloc, &cases.compiled, &cases.scripts[i])?;
+    push_under(alloc, cases, &waves, i, analyses, found)
+}
+
+// Adds what is found of script i, whose history this is.
+fn push_under(
+    alloc: Global,
+    cases: &Cases,
+    waves: &PairWaves,
+    i: usize,
+    analyses: u32,
+    found: &mut Vec<Finding>,
+) -> Result<(), Memory>
+    requires cases { IsCases cases.now }
+    requires exists { i < length cases.now.scripts.now }
+    requires before { OneEach (IsFinding cases.now.compiled.line.now cases.now.scripts.now)
+        (i * terminal_count cases.now.compiled.line.now) found.old.items }
+    requires terminals { waves.now.terminals ≡ terminal_count cases.now.compiled.line.now }
+    requires horizon { waves.now.horizon ≡ cases.now.compiled.line.now.horizon }
+    requires history { (script : Script) → slice_get cases.now.scripts.now i ≡ Some script →
+        IsTheHistory cases.now.compiled.line.now script (declared_box cases.now.compiled.line.now)
+        (pair_history waves.now) }
+    ensures { OnOk result (OneEach (IsFinding cases.now.compiled.line.now cases.now.scripts.now)
+        (i * terminal_count cases.now.compiled.line.now + terminal_count
+        cases.now.compiled.line.now)
+        found.new.items) }
+{
     for k in 0..cases.compiled.line.terminals.len() {
-        let one = find(alloc, cases, &waves, i, k as u32, analyses)?;
+        let one = find(alloc, cases, waves, i, k as u32, analyses)?;
         found.push(one)?;
     }
     Ok(())

@@ -72,14 +72,14 @@ fn values(alloc: Global, tick_us: u32, group: &Group, p: usize) -> Result<Vec<u8
 fn push_mark(text: &mut Vec<u8>, mark: Mark, label: &[u8]) -> Result<(), Memory>
     ensures { OnOk result (text.new.items ≡ text.old.items ++ mark_text mark label.now) }
 {
-    match mark {
-        Mark::First => {}
-        Mark::Next => text.push(b';')?,
-        Mark::Last => text.extend_from_slice(b"..")?,
+    let before: &[u8] = match mark {
+        Mark::First => b"",
+        Mark::Next => b";",
+        Mark::Last => b"..",
         Mark::Inside => return Ok(()),
-    }
-    text.extend_from_slice(label)?;
-    Ok(())
+    };
+    text.extend_from_slice(before)?;
+    Ok(text.extend_from_slice(label)?)
 }
 
 fn mark_at(verdicts: &[Verdict], p: usize) -> Mark

@@ -7,10 +7,12 @@ ghost use Rattle.call_verdicts.specs.Findings.{AreFindings};
 ghost use Rattle.call_verdicts.specs.Records.{finding_record, header_record, verdicts_text};
 
 use crate::cases::Cases;
-use crate::fields::{answer_word, kind_word, margin_text, trip_text};
+use crate::fields::{answer_word, kind_word, number_words, told_of_trip};
 use crate::finding::Finding;
-use crate::told::told_of;
+use crate::told::{fault_name, number_in, swept_text};
 use base_records::push_record;
+use file_study::sweeps::place_of_script;
+use itoa::Buffer;
 use judge_settle::settle::by_word;
 use model_line::Memory;
 use std::alloc::Global;
@@ -54,10 +56,10 @@ fn push_header(alloc: Global, text: &mut Vec<u8>) -> Result<(), Memory>
 
 // Appends the record of a finding.
 #[tactic(auto, unfolding(crate::specs::Records::finding_record))]
-fn push_finding(
+fn push_finding<'a>(
     alloc: Global,
     text: &mut Vec<u8>,
-    cases: &Cases,
+    cases: &Cases<'a>,
     found: &Finding,
 ) -> Result<(), Memory>
     requires script { found.now.script < length cases.now.scripts.now }
@@ -70,23 +72,28 @@ fn push_finding(
     let script = &cases.scripts[found.script as usize];
     let (name, kind, deadline) = (script.name, script.kind, script.deadline);
     let terminal = cases.compiled.line.terminals[found.terminal as usize].name;
-    let told = told_of(alloc, tick_us, cases.groups, found.script as usize)?;
-    let trip = trip_text(alloc, tick_us, found.first_must)?;
-    let margin = margin_text(alloc, tick_us, kind, deadline, found.first_must)?;
+    let place = place_of_script(cases.groups, found.script as usize);
+    let mut digits = Buffer::new();
+    let swept = swept_text(alloc, tick_us, place)?;
+    let told = told_of_trip(alloc, tick_us, kind, deadline, found.first_must)?;
+    let fault: &'a [u8] = fault_name(place);
+    let kind_said: &'a [u8] = kind_word(kind);
+    let answer: &'a [u8] = answer_word(found.standing);
+    let by: &'a [u8] = by_word(found.by);
     push_record(
         alloc,
         text,
         &[
-            told.fault.as_slice(),
-            told.number.as_slice(),
+            fault,
+            number_words(&mut digits, number_in(place)),
             name.bytes(),
             terminal.bytes(),
-            kind_word(kind),
-            answer_word(found.standing),
-            by_word(found.by),
-            told.swept.as_slice(),
-            trip.as_slice(),
-            margin.as_slice(),
+            kind_said,
+            answer,
+            by,
+            swept.as_slice(),
+            told.trip.as_slice(),
+            told.margin.as_slice(),
         ],
     )
 }

@@ -70,21 +70,39 @@ fn verdict_of(scripts: &[Script], terminal: u32, found: &Finding) -> Option<Verd
 pub fn held_count(verdicts: &[Verdict]) -> usize
     ensures { result ≡ count_by verdict_is_held verdicts.now }
 {
-    verdicts.iter().filter(|one| is_held(one)).count()
+    let mut count = 0;
+    for one in verdicts {
+        if is_held(one) {
+            count += 1;
+        }
+    }
+    count
 }
 
 /// How many fail.
 pub fn failing_count(verdicts: &[Verdict]) -> usize
     ensures { result ≡ count_by (λ v. fails_so v.standing) verdicts.now }
 {
-    verdicts.iter().filter(|one| fails(one.standing)).count()
+    let mut count = 0;
+    for one in verdicts {
+        if fails(one.standing) {
+            count += 1;
+        }
+    }
+    count
 }
 
 /// How many are open.
 pub fn open_count(verdicts: &[Verdict]) -> usize
     ensures { result ≡ count_by (λ v. is_left v.standing) verdicts.now }
 {
-    verdicts.iter().filter(|one| is_open(one.standing)).count()
+    let mut count = 0;
+    for one in verdicts {
+        if is_open(one.standing) {
+            count += 1;
+        }
+    }
+    count
 }
 
 pub fn is_held(verdict: &Verdict) -> bool

@@ -1,13 +1,11 @@
 //! The worst place of a fault at a terminal.
 
-ghost use Rattle.std.specs.Prelude.{◌≡◌, ◌<◌, ◌+◌, ◌^◌, IfOk};
-ghost use Rattle.call_verdicts.specs.Worst.{number_of, room as room_in};
+ghost use Rattle.std.specs.Prelude.{◌≡◌, [], IfSome, None, decimal};
+ghost use Rattle.call_verdicts.specs.Worst.{place_text, room as room_in};
 ghost use Rattle.call_verdicts.specs.Worst.{worst_place as first_worst};
 
 use crate::verdict::Verdict;
-use itoa::Buffer;
-use model_line::{Kind, Memory};
-use std::alloc::Global;
+use model_line::Kind;
 
 /// The place at which a fault is tripped with the least margin, or not at all; of an external fault
 /// the one that has to be tripped first. Where there are several it is the first of them, counted
@@ -38,17 +36,14 @@ fn room(horizon: u32, verdict: &Verdict) -> u64
 }
 
 /// The number of the worst place, counted from 1; none of an external fault that need not be
-/// tripped.
-pub fn number_text(alloc: Global, verdict: &Verdict, place: usize) -> Result<Vec<u8>, Memory>
-    requires { place + 1 < 2 ^ 64 }
-    ensures { IfOk result (λ text.
-        text.items ≡ number_of verdict.now.kind verdict.now.first_must place) }
+/// tripped, and where there is no such place.
+pub fn number_at(verdicts: &[Verdict], place: usize) -> Option<usize>
+    ensures some { IfSome result (λ n. place_text verdicts.now place ≡ decimal n) }
+    ensures none { result ≡ None → place_text verdicts.now place ≡ [] }
 {
-    match (verdict.kind, verdict.first_must) {
-        (Kind::External, None) => Ok(Vec::new(alloc)),
-        _ => {
-            let text = Vec::from_slice(alloc, Buffer::new().format(place + 1).as_bytes())?;
-            Ok(text)
-        }
+    let one = verdicts.get(place)?;
+    match (one.kind, one.first_must) {
+        (Kind::External, None) => None,
+        _ => Some(place + 1),
     }
 }

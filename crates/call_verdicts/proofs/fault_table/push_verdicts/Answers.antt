@@ -1,7 +1,7 @@
 use Rattle.std.proofs.Common.{◌≡◌, ◌<◌, ◌++◌, ℕ, List, [], ◌∷◌, length, map, get_or, sym, ◌∙◌, ap}
-use Rattle.std.proofs.Common.{subst}
+use Rattle.std.proofs.Common.{refl, subst}
 use Rattle.std.proofs.lemmas.List.{get_or-map}
-use Rattle.std.specs.Prelude.{OnOk, decimal}
+use Rattle.std.specs.Prelude.{IfSome, None, OnOk, Option, Some, decimal}
 use Rattle.std.specs.List.{count_by}
 use Rattle.csv.specs.Writing.{row_text, default_writer}
 use Rattle.model_line.specs.declared.line.Line.{Line}
@@ -47,17 +47,26 @@ name_there line k one within is =
     ap (λ (t : Terminal). t.name) is
     ∙ sym (get_or-map (λ (t : Terminal). t.name) line.terminals.items k one [] within)
 
+-- the words of a number that a text is
+said_by : (number : Option ℕ) (said text : List ℕ) → IfSome number (λ n. said ≡ decimal n)
+    → (number ≡ None → said ≡ []) → IfSome number (λ n. text ≡ decimal n)
+    → (number ≡ None → text ≡ []) → said ≡ text
+said_by None said text some none is is_none = none refl ∙ sym (is_none refl)
+said_by (Some n) said text some none is is_none = some ∙ sym is
+
 pub returns : goal.returns
 returns c =
     let line : Line = c.args.line.now in
     let k : ℕ = c.args.terminal in
     let vs : List Verdict = c.args.verdicts.now in
+    let worst : c.worst_place-worst.result ≡ worst_place line.horizon vs =
+    c.worst_place-worst.ensures in
     subst (λ (said : List (List ℕ)). OnOk c.push_record.result
     (c.push_record.new.text.items ≡ c.args.text.now.items ++ row_text default_writer said))
     (record_of line c.args.group.now k vs c.bytes.result.now c.bytes-2.result.now
     c.kind_of.result.now c.as_bytes.result.now c.as_bytes-2.result.now c.as_bytes-3.result.now
-    c.as_bytes-4.result.now c.as_slice.result.now c.as_slice-2.result.now c.as_slice-3.result.now
-    c.as_slice-4.result.now c.as_slice-5.result.now
+    c.as_bytes-4.result.now c.number_words.result.now c.as_slice.result.now c.as_slice-2.result.now
+    c.as_slice-3.result.now c.as_slice-4.result.now
     c.bytes.ensures.same
     (c.bytes-2.ensures.same ∙ name_there line k c.index.result.now c.requires c.index.ensures)
     c.kind_of.ensures
@@ -65,9 +74,12 @@ returns c =
     (c.as_bytes-2.ensures.value ∙ c.format-2.ensures.text ∙ ap decimal c.held_count.ensures)
     (c.as_bytes-3.ensures.value ∙ c.format-3.ensures.text ∙ ap decimal c.failing_count.ensures)
     (c.as_bytes-4.ensures.value ∙ c.format-4.ensures.text ∙ ap decimal c.open_count.ensures)
-    (c.as_slice.ensures.value ∙ c.in_ok-worst.ensures.place)
-    (c.as_slice-2.ensures.value ∙ c.in_ok-worst.ensures.trip)
-    (c.as_slice-3.ensures.value ∙ c.in_ok-worst.ensures.margin)
-    (c.as_slice-4.ensures.value ∙ c.in_ok-places.ensures)
-    (c.as_slice-5.ensures.value ∙ c.in_ok-values.ensures))
+    (said_by c.number_at.result c.number_words.result.now (place_text vs c.worst_place-worst.result)
+    c.number_words.ensures.some c.number_words.ensures.none c.number_at.ensures.some
+    c.number_at.ensures.none
+    ∙ ap (place_text vs) worst)
+    (c.as_slice.ensures.value ∙ (rw worst at c.in_ok-told.ensures.trip))
+    (c.as_slice-2.ensures.value ∙ (rw worst at c.in_ok-told.ensures.margin))
+    (c.as_slice-3.ensures.value ∙ c.in_ok-places.ensures)
+    (c.as_slice-4.ensures.value ∙ c.in_ok-values.ensures))
     c.push_record.ensures

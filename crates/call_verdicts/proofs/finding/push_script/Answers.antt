@@ -1,49 +1,17 @@
-use Rattle.std.proofs.Common.{◌*◌, ◌+◌, ℕ, List, subst, arith}
+use Rattle.std.proofs.Common.{List, subst}
 use Rattle.std.proofs.lemmas.Option.{get_or_from_slice_get}
 use Rattle.model_line.specs.{declared.line.Line.Line, declared.script.Script.Script}
-use Rattle.model_line.specs.Parameters.{terminal_count}
 use Rattle.model_logic.specs.Choice.{declared_box}
 use Rattle.run_step.specs.Runs.{IsTheHistory}
 use Rattle.judge_verdict.specs.verdict.PairWavesOf.{pair_history}
-use Rattle.judge_verdict.specs.verdict.OneEachLaws.{all_there, one_next}
-use Rattle.call_verdicts.specs.Findings.{IsFinding}
 use Rattle.call_verdicts.proofs.finding.push_script.Goals as goal
 
-pub find-requires : goal.find-requires
-find-requires c =
+pub push_under-requires-clause-history : goal.push_under-requires-clause-history
+push_under-requires-clause-history c =
     let line : Line = c.args.cases.now.compiled.line.now in
     let scripts : List Script = c.args.cases.now.scripts.now in
-    record {
-      cases = c.requires.cases;
-      exists = c.requires.exists;
-      terminal = omega arith;
-      terminals = c.in_ok-waves.ensures.terminals;
-      horizon = c.in_ok-waves.ensures.horizon;
-      history = λ script at.
-          subst (λ (s : Script).
-          IsTheHistory line s (declared_box line) (pair_history c.in_ok-waves.waves))
-          (get_or_from_slice_get scripts c.args.i script c.index-cases-i.result at)
-          c.in_ok-waves.ensures.history;
-    }
-
-pub loop-k-init : goal.loop-k-init
-loop-k-init c =
-    let line : Line = c.args.cases.now.compiled.line.now in
-    let before : ℕ = c.args.i * terminal_count line in
-    all_there (IsFinding line c.args.cases.now.scripts.now) before (before + 0)
-    c.args.found.now.items (omega arith) c.requires.before
-
-pub loop-k-preserved : goal.loop-k-preserved
-loop-k-preserved c =
-    let line = c.args.cases.now.compiled.line.now in
-    let before : ℕ = c.args.i * terminal_count line in
-    one_next (IsFinding line c.args.cases.now.scripts.now) (before + c.loop-k.k)
-    (before + (c.loop-k.k + 1)) c.loop-k.found.items c.push.new.self.items c.in_ok-one.one
-    (omega arith) c.in_ok-push.ensures.items c.in_ok-one.ensures c.loop-k.invariant
-
-pub returns : goal.returns
-returns c =
-    let line : Line = c.args.cases.now.compiled.line.now in
-    let before : ℕ = c.args.i * terminal_count line in
-    all_there (IsFinding line c.args.cases.now.scripts.now) (before + c.loop-k.k)
-    (before + terminal_count line) c.loop-k.found.items (omega arith) c.loop-k.invariant
+    λ script at.
+    subst (λ (s : Script).
+    IsTheHistory line s (declared_box line) (pair_history c.in_ok-waves.waves))
+    (get_or_from_slice_get scripts c.args.i script c.index-cases-i.result at)
+    c.in_ok-waves.ensures.history
