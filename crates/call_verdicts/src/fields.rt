@@ -15,16 +15,20 @@ use model_line::{Kind, Memory};
 use std::alloc::Global;
 
 /// Times with `/` between them.
-#[tactic(auto, using(crate::proofs::Times::times_text_split))]
 pub fn times(alloc: Global, tick_us: u32, ticks: &[u32]) -> Result<Vec<u8>, Memory>
     ensures { IfOk result (λ text. text.items ≡ times_text tick_us ticks.now) }
 {
-    let mut text = Vec::new(alloc);
-    if ticks.is_empty() {
-        return Ok(text);
+    match ticks {
+        [] => Ok(Vec::new(alloc)),
+        [first, more @ ..] => times_from(alloc, tick_us, *first, more),
     }
-    push_ticks(&mut text, tick_us, ticks[0])?;
-    let more = &ticks[1..];
+}
+
+// A time, and more behind it.
+fn times_from(alloc: Global, tick_us: u32, first: u32, more: &[u32]) -> Result<Vec<u8>, Memory>
+    ensures { IfOk result (λ text. text.items ≡ times_text tick_us (first ∷ more.now)) }
+{
+    let mut text = ticks_behind(alloc, b"", tick_us, first)?;
     for t in more {
         push_more(&mut text, tick_us, *t)?;
     }
