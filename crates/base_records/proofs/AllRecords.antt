@@ -2,6 +2,7 @@
 use Rattle.std.proofs.Common.{◌≡◌, ℕ, zero, suc, ◌+◌, ◌<◌, ◌≤◌, ◌==◌, ◌&&◌, Bool, true, false, cond}
 use Rattle.std.proofs.Common.{List, [], ◌∷◌, ◌++◌, length, Option, None, Some, refl, ap, subst}
 use Rattle.std.proofs.Common.{arith}
+use Rattle.std.proofs.lemmas.Option.{same_Some}
 use Rattle.csv.specs.Machine.{Read, next_record, step, in_field, start_field, start_record}
 use Rattle.csv.specs.Machine.{after_end, ends_at_end, ends_with, is_byte, is_end, fields_after}
 use Rattle.csv.specs.Machine.{field_after}
@@ -79,9 +80,6 @@ pub record After (s : State) (xs : List ℕ) (p : Read) : Type 0 where
   pub between : ends_at_end p.1 ≡ false
   pub no_more : length p.2 ≤ length xs
   pub fewer : ends_at_end s ≡ false → length p.2 < length xs
-
-same_Some : {X : Type 0} (x y : X) → Some x ≡ Some y → x ≡ y
-same_Some x y e = cc
 
 left_at_end : (s : State) (b : Bool) (fields : List (List ℕ)) (p : Read) → ends_at_end s ≡ b
     → cond b (Some (fields, st.StartRecord, [])) None ≡ Some p → After s [] p

@@ -10,3 +10,5 @@ pub mod StdSink
 pub mod Store
 pub mod SinkLaws
 pub mod DecimalLaws
+pub mod DigitLaws
+pub mod CountLaws

@@ -38,3 +38,15 @@ abbrev pub Writes : {X : Type 0} → SinkView → SinkView → List ℕ → Resu
     → Type 0
 Writes old new text result =
     MatchResult result (λ _. GrewByAll old new text) (WriteStops old new text)
+
+-- a text is put, so that the sink grew by it in this way: whole, or by a proper front with a fault
+-- counted
+pub record Put (IsText : List ℕ → Type 0) (old new : SinkView)
+    (Grew : SinkView → SinkView → List ℕ → Type 0) : Type 0 where
+  pub text : List ℕ
+  pub is : IsText text
+  pub grew : Grew old new text
+
+abbrev pub GrewInPart : SinkView → SinkView → List ℕ → Type 0
+GrewInPart old new text =
+    Rose old.faults new.faults × GrewByProper old.written new.written text

@@ -6,10 +6,9 @@ mod done;
 mod put;
 mod said;
 mod study;
-mod text;
 
+pub use base_text::pieces::text_of;
 pub use done::Done;
 pub use put::{put_pieces, put_text};
 pub use said::{Said, put_said};
 pub use study::Study;
-pub use text::text_of;

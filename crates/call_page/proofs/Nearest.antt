@@ -1,15 +1,12 @@
 -- Which script of a part does worst at any terminal, the terminals taken one after another.
-use Rattle.std.proofs.Common.{◌≡◌, ℕ, ◌+◌, ◌<◌, ◌≤◌, List, ◌⊎◌, ⊎_elim, sym, subst, arith}
+use Rattle.std.proofs.Common.{◌≡◌, ℕ, ◌+◌, ◌<◌, ◌≤◌, List, ⊎_elim, sym, subst, arith}
+use Rattle.std.proofs.lemmas.Bool.{cases_lt}
 use Rattle.model_line.specs.{declared.line.Line.Line, declared.script.Script.Script}
 use Rattle.model_line.specs.Parameters.{terminal_count}
 use Rattle.call_tables.specs.declared.row.Row.{Row}
 use Rattle.call_facts.specs.declared.firsts.Firsts.{Firsts}
 use Rattle.call_page.specs.{Faults.IsLeastSoFar, Faults.IsShown, Verdicts.IsWorst}
 use Rattle.call_page.specs.Verdicts.{distance_at}
-
--- one below the next number is below this one, or is it
-below_or_at : (j i : ℕ) → j < i + 1 → (j < i) ⊎ (j ≡ i)
-below_or_at j i lt = grind arith
 
 module _ (line : Line) (scripts : List Script) (rows : List Row) (firsts : List Firsts)
     (start count : ℕ) where
@@ -21,10 +18,11 @@ module _ (line : Line) (scripts : List Script) (rows : List Row) (firsts : List 
       → least ≤ distance_at line scripts rows firsts (start + j) k
   none_at_more n least before here j k lt below =
       ⊎_elim (λ (among : k < n). before j k lt among)
-      (λ (is : k ≡ n).
+      (λ (past : n ≤ k).
+      let is : k ≡ n = omega (arith, below, past) in
       subst (λ (m : ℕ). least ≤ distance_at line scripts rows firsts (start + j) m) (sym is)
       (here j lt))
-      (below_or_at k n below)
+      (cases_lt k n)
 
   -- the one that does worst at the first terminal
   pub nearest_first : (shown least : ℕ) → IsWorst line scripts rows firsts start count 0 shown

@@ -1,9 +1,8 @@
 -- The clauses of the call, from how it ends.
-use Rattle.std.proofs.Common.{◌≡◌, ◌⊎◌, ◌<◌, ◌∙◌, ℕ, List, [], Option, Result, Ok, Err, refl, ap, inl, inr, arith}
-use Rattle.std.specs.Io.KnownBytes.{Appends}
-use Rattle.base_text.specs.{store.Counts.Rose, store.Sink.GrewByPart, store.SinkLaws.part_of_proper}
-use Rattle.call_answer.specs.{Sinks.GrewByAll, Sinks.Puts, Sinks.SinkView}
-use Rattle.call_answer.specs.SinkLaws.{appends_none}
+use Rattle.std.proofs.Common.{◌≡◌, ◌⊎◌, ◌<◌, ℕ, List, [], Ok, Err, refl, inl, inr}
+use Rattle.base_text.specs.{store.Counts.Rose, store.CountLaws.not_more, store.Sink.GrewByPart}
+use Rattle.call_answer.specs.{Sinks.GrewByAll, Sinks.SinkView}
+use Rattle.call_answer.specs.SinkLaws.{same_faults, same_out}
 use Rattle.call_records.specs.{Clauses.Call, Clauses.Clauses, Clauses.IsTold, Clauses.OutIsAnswer}
 use Rattle.call_records.specs.{Clauses.OutIsFront, Course.course_of, Ends.EndsOf, Request.Request}
 use Rattle.call_records.specs.Files.{Cause, Held, NoneRose}
@@ -11,19 +10,6 @@ use Rattle.call_records.specs.Halts.{End, IsAnswer, IsEarly, line_of, told_of}
 use Rattle.call_records.specs.declared.halt.File.{File}
 use Rattle.call_records.specs.declared.halt.Halt.TheVariants as halt
 use Rattle.call_records.proofs.Running.{no_cause}
-
--- where no count rose in a call, none is greater
-not_more : {X : Type 0} (a b : ℕ) → b ≡ a → a < b → X
-not_more a b same more = absurd (omega arith)
-
--- a put of a line, whatever came of it
-pub put_or_part : {X Y : Type 0} (old new : SinkView) (line : List ℕ) (r : Result X Y)
-    → Puts old new line r
-    → GrewByAll old new line
-    ⊎ (Rose old.faults new.faults × GrewByPart old.written new.written line)
-put_or_part old new line (Ok x) puts = inl puts
-put_or_part old new line (Err y) puts =
-    inr (puts.0, part_of_proper old.written new.written line puts.1)
 
 module _ {K : Type 0} (view : K → SinkView) (old new : K) (files : Held) (c1 c2 : List ℕ → ℕ)
     (request : Request) where
@@ -52,10 +38,6 @@ module _ {K : Type 0} (view : K → SinkView) (old new : K) (files : Held) (c1 c
       err_new = e2;
     }
 
-    -- nothing on out
-    same_out : new ≡ old → Appends (view old).written (view new).written []
-    same_out is = rw is (appends_none (view old).written)
-
     answered : (end : End) → EndsSo end → IsAnswer end → IsTold seen → OutIsAnswer seen end
     answered (Ok d) e is told = record {
       text = e.1.text;
@@ -63,7 +45,7 @@ module _ {K : Type 0} (view : K → SinkView) (old new : K) (files : Held) (c1 c
       out = e.1.grew.taken;
     }
     answered (Err (halt.Refused line)) e is told =
-        record { text = []; is = e.2 told; out = same_out e.1 }
+        record { text = []; is = e.2 told; out = same_out view old new e.1 }
     answered (Err (halt.Store f)) e is told = absurd is
     answered (Err halt.Sink) e is told = absurd is
     answered (Err halt.Memory) e is told = absurd is
@@ -87,16 +69,13 @@ module _ {K : Type 0} (view : K → SinkView) (old new : K) (files : Held) (c1 c
       λ told. record { text = f.1.text; is = f.1.is told; out = f.1.grew.1 },
     )
 
-    same_faults : {X : Type 0} → new ≡ old → (view old).faults < (view new).faults → X
-    same_faults is more = not_more _ _ (ap (λ k. (view k).faults) is) more
-
     sink_told : (end : End) → EndsSo end → (view old).faults < (view new).faults
         → end ≡ Err halt.Sink
     sink_told (Ok x) e more = not_more _ _ e.1.grew.same more
-    sink_told (Err (halt.Refused line)) e more = same_faults e.1 more
-    sink_told (Err (halt.Store f)) e more = same_faults e.1 more
+    sink_told (Err (halt.Refused line)) e more = same_faults view old new e.1 more
+    sink_told (Err (halt.Store f)) e more = same_faults view old new e.1 more
     sink_told (Err halt.Sink) e more = refl
-    sink_told (Err halt.Memory) e more = same_faults e.1 more
+    sink_told (Err halt.Memory) e more = same_faults view old new e.1 more
 
     complete : (end : End) → EndsSo end → IsTold seen → NoneRose files c1 c2 (course_of request)
         → (Rose (view old).faults (view new).faults → ⊥)

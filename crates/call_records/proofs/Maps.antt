@@ -1,8 +1,8 @@
 -- What every map keeps.
-use Rattle.std.proofs.Common.{◌≡◌, ◌<◌, ◌≤◌, ◌+◌, ◌-◌, ◌++◌, ◌&&◌, ℕ, pos, negsuc, Bool, true, false, List, [], ◌∷◌}
-use Rattle.std.proofs.Common.{Ok, Err, length, length-append, arith, subst, sym, ap, refl}
+use Rattle.std.proofs.Common.{◌≡◌, ◌<◌, ◌≤◌, ◌+◌, ◌-◌, ◌++◌, ◌&&◌, ℕ, pos, negsuc, true, List, []}
+use Rattle.std.proofs.Common.{◌∷◌, Ok, Err, length, length-append, arith, subst, sym, ap, refl}
 use Rattle.std.specs.Prelude.{codes, nat_le, nat_lt}
-use Rattle.std.proofs.lemmas.Bool.{leb-true}
+use Rattle.std.proofs.lemmas.Bool.{and_parts, leb-true}
 use Rattle.toml.specs.Data.{Data, string, integer, float, boolean, datetime, array, table, Members, Items}
 use Rattle.toml.specs.Data.{no_items, item}
 use Rattle.base_memory.specs.Gives.{◌>>=◌}
@@ -14,7 +14,8 @@ use Rattle.model_line.specs.{Fits.deadline_fits, PlainNames.is_plain_name}
 use Rattle.file_line.specs.Keys.{document_of}
 use Rattle.file_document.specs.Keys.{all_known, array_at, count_of, counted, number_at, number_in, opened}
 use Rattle.file_document.specs.Keys.{text_at, value_at}
-use Rattle.file_records.specs.map.Maps.{MapValues, deadline_at, kind_at, map_in, map_of, plain_name}
+use Rattle.file_document.specs.Words.{plain_name}
+use Rattle.file_records.specs.map.Maps.{MapValues, deadline_at, kind_at, map_in, map_of}
 use Rattle.file_records.specs.map.Maps.{recorders_of, script_at, start_at, top_keys}
 use Rattle.file_document.specs.Paths.{numbered, under}
 use Rattle.file_records.specs.map.Recorders.{RecorderValues, recorder_at, recorders_in}
@@ -34,10 +35,6 @@ many_of line start path i (item d ds) done rs e =
     let one = length-append done (p.value ∷ []) in
     omega (arith, rest, one)
 
-second : (a b : Bool) → (a && b) ≡ true → b ≡ true
-second true b both = both
-second false b both = absurd (cc)
-
 few_of : (line : Line) (start : ℕ) (top : Members) (rs : List RecorderValues)
     → recorders_of line start top ≡ Ok rs → length rs ≤ 8
 unfolding recorders_of
@@ -49,7 +46,7 @@ few_of line start top rs e =
     let test = test_passed (nat_le 1 (count_of all.value) && nat_le (count_of all.value) 8) all.value
     (fault.Range path) few.value few.was in
     let within = leb-true (count_of all.value) 8
-    (second (nat_le 1 (count_of all.value)) (nat_le (count_of all.value) 8) test.0) in
+    (and_parts (nat_le 1 (count_of all.value)) (nat_le (count_of all.value) 8) test.0).1 in
     let many = many_of line start path 0 few.value [] rs few.rest in
     let same = ap count_of test.1 in
     omega (arith, within, many, same)
@@ -66,7 +63,8 @@ below_top : (path : List ℕ) (horizon : ℕ) (d : Data) (n : ℕ) → 1 ≤ hor
     → number_in path 0 (horizon - 1) d ≡ Ok n → nat_lt n horizon ≡ true
 below_top path horizon (integer (pos k)) n some e =
     let test = test_passed (nat_le 0 k && nat_le k (horizon - 1)) k (fault.Range path) n e in
-    let within = leb-true k (horizon - 1) (second (nat_le 0 k) (nat_le k (horizon - 1)) test.0) in
+    let within = leb-true k (horizon - 1)
+    (and_parts (nat_le 0 k) (nat_le k (horizon - 1)) test.0).1 in
     let same : k ≡ n = test.1 in
     let less : n < horizon = omega (arith, within, same) in
     grind arith

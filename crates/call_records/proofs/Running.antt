@@ -1,7 +1,8 @@
 -- Courses, one file on.
-use Rattle.std.proofs.Common.{◌≡◌, ◌⊎◌, ◌∷◌, ◌<◌, ◌≤◌, ◌∙◌, ℕ, true, false, List, [], Option, None, Some}
-use Rattle.std.proofs.Common.{IfSome, Result, Ok, Err, length, nat_lt, refl, sym, ap, subst, arith, inl, inr}
-use Rattle.base_text.specs.{store.Counts.Rose, store.Store.SameCounts}
+use Rattle.std.proofs.Common.{◌≡◌, ◌⊎◌, ◌<◌, ◌≤◌, ◌∙◌, ℕ, List, [], Option, Some, IfSome, Result}
+use Rattle.std.proofs.Common.{Ok, Err, length, refl, sym, ap, subst, inl, inr}
+use Rattle.std.proofs.lemmas.Bool.{le-ltb, lt-ltb}
+use Rattle.base_text.specs.{store.CountLaws.same_both, store.Store.SameCounts}
 use Rattle.model_line.specs.declared.line.Line.{Line}
 use Rattle.file_line.specs.Lines.{LineValues, line_values}
 use Rattle.call_records.specs.{Answers.answer_of, Answers.refuses, Halts.End, Halts.Tells, Halts.told_of}
@@ -15,9 +16,6 @@ use Rattle.call_records.specs.declared.halt.Halt.TheVariants as halt
 use Rattle.file_records.specs.map.Maps.{MapValues}
 use Rattle.std.specs.declared.alloc.Global.{Global}
 use Rattle.std.specs.Prelude.{Vec}
-
-same_both : (c1 c2 c3 : List ℕ → ℕ) → SameCounts c1 c2 → SameCounts c2 c3 → SameCounts c1 c3
-same_both c1 c2 c3 same more = λ name. more name ∙ same name
 
 -- a cause from an earlier count
 cause_from : (files : Held) (c1 c2 c3 : List ℕ → ℕ) (course : Course) (told : List ℕ)
@@ -47,12 +45,6 @@ no_cause files c1 c2 (reads f next) told none cause = elim cause [
 ]
 no_cause files c1 c2 (makes values next) told none cause =
     no_cause files c1 c2 (next cause.0) told (none cause.0 cause.1) cause.2
-
-not_above : (limit n : ℕ) → n ≤ limit → nat_lt limit n ≡ false
-not_above limit n le = grind arith
-
-is_above : (limit n : ℕ) → limit < n → nat_lt limit n ≡ true
-is_above limit n lt = grind arith
 
 opened : (o : Option (List ℕ)) (b v : List ℕ) → o ≡ Some b → IfSome o (λ x. x ≡ v) → b ≡ v
 opened o b v is agree = rw is at agree
@@ -125,7 +117,7 @@ module _ (files : Held) where
       λ told. (
         told.0,
         told.1,
-        rw (is_above f.limit (length told.0) (longer (files f.name) told.0 f.limit told.1 fetched.2))
+        rw (lt-ltb f.limit (length told.0) (longer (files f.name) told.0 f.limit told.1 fetched.2))
             (fetched.1, refl),
       ),
     )
@@ -150,7 +142,7 @@ module _ (files : Held) where
       answered end text told answer = (
         bytes,
         told.1 ∙ ap (λ (b : List ℕ). Some b) (same_bytes told),
-        rw (not_above f.limit (length bytes) short) answer,
+        rw (le-ltb f.limit (length bytes) short) answer,
       )
 
       -- the file was read

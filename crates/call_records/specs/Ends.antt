@@ -1,20 +1,10 @@
 -- How the call ends but for the line to err, by cases on its result.
 use Rattle.std.specs.Prelude.{◌≡◌, ℕ, List, [], Ok, Err}
-use Rattle.base_text.specs.{store.Counts.Rose, store.Sink.GrewByProper, store.Store.SameCounts}
-use Rattle.call_answer.specs.Sinks.{GrewByAll, SinkView}
+use Rattle.base_text.specs.store.Store.{SameCounts}
+use Rattle.call_answer.specs.Sinks.{GrewByAll, SinkView, Put, GrewInPart}
 use Rattle.call_records.specs.{Course.Course, Files.AllTold, Files.Cause, Files.Held, Files.answers}
 use Rattle.call_records.specs.Halts.{End, told_of}
 use Rattle.call_records.specs.declared.halt.Halt.TheVariants as halt
-
--- a text that may be answered is put on out, whole, or a proper front of it
-pub record Put (IsText : List ℕ → Type 0) (old new : SinkView)
-    (Grew : SinkView → SinkView → List ℕ → Type 0) : Type 0 where
-  pub text : List ℕ
-  pub is : IsText text
-  pub grew : Grew old new text
-
-abbrev pub GrewInPart : SinkView → SinkView → List ℕ → Type 0
-GrewInPart old new text = Rose old.faults new.faults × GrewByProper old.written new.written text
 
 -- said where the store tells the files
 abbrev pub IsToldText : Held → Course → End → List ℕ → Type 0

@@ -1,7 +1,6 @@
 //! Why a file is refused, as the line on standard error says it.
 
 ghost use Rattle.std.specs.Prelude.{[], ◌∷◌, ◌≡◌, ◌++◌, IfOk, OnOk, Some, codes, map};
-ghost use Rattle.std.specs.List.{concat};
 ghost use Rattle.file_comtrade.specs.declared.fault.DataFault.TheVariants as data_of;
 ghost use Rattle.file_records.specs.map.Sources.{channel_said};
 ghost use Rattle.call_records.specs.Halts.{Tells};
@@ -11,6 +10,7 @@ ghost use Rattle.call_records.specs.Faults.{config_words, data_words, gap_words,
 ghost use Rattle.call_records.specs.Faults.{channel_words, line_words_at, missing_words, sample_words};
 
 use crate::halt::Halt;
+use base_text::pieces::push_pieces;
 use file_comtrade::{ConfigFault, DataFault, RecordFault, TickFault};
 use file_document::DocumentFault;
 use file_line::LineFault;
@@ -18,16 +18,6 @@ use file_records::map::{ChannelName, Signal};
 use itoa::Buffer;
 use model_line::{Line, Memory, name_of_terminal};
 use std::alloc::Global;
-
-fn push_pieces(text: &mut Vec<u8>, pieces: &[&[u8]]) -> Result<(), Memory>
-    ensures { OnOk result (text.new.items
-        ≡ text.old.items ++ concat (map (λ piece. piece.now) pieces.now)) }
-{
-    for piece in pieces {
-        text.extend_from_slice(piece)?;
-    }
-    Ok(())
-}
 
 // The line that refuses a file, in these words.
 fn line_with(alloc: Global, file: &[u8], words: &[&[u8]]) -> Result<Vec<u8>, Memory>

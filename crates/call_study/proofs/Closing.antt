@@ -1,11 +1,9 @@
 -- The clauses of the top call, from how it ends.
-use Rattle.std.proofs.Common.{◌≡◌, ◌⊎◌, ◌<◌, ℕ, List, [], ◌∷◌, Option, Result, Ok, Err, refl, ap}
-use Rattle.std.proofs.Common.{inl, inr, arith}
-use Rattle.std.specs.Io.KnownBytes.{Appends}
-use Rattle.base_text.specs.{store.Counts.Rose, store.Sink.GrewByPart, store.SinkLaws.part_of_proper}
-use Rattle.call_answer.specs.{Sinks.GrewByAll, Sinks.Puts, Sinks.SinkView}
-use Rattle.call_answer.specs.SinkLaws.{appends_none}
-use Rattle.call_files.specs.Files.{NamedFile, NoneRose, StoreCause}
+use Rattle.std.proofs.Common.{◌≡◌, ◌⊎◌, ◌<◌, ℕ, List, [], Option, Ok, Err, refl, inl, inr}
+use Rattle.base_text.specs.{store.Counts.Rose, store.CountLaws.not_more, store.Sink.GrewByPart}
+use Rattle.call_answer.specs.{Sinks.GrewByAll, Sinks.SinkView}
+use Rattle.call_answer.specs.SinkLaws.{same_faults, same_out}
+use Rattle.call_files.specs.{FileLaws.no_cause, Files.NoneRose, Files.StoreCause}
 use Rattle.call_files.specs.declared.stop.File.{File}
 use Rattle.call_files.specs.declared.stop.Stop.TheVariants as stop
 use Rattle.call_study.specs.{Answers.answer_over, Clauses.Call, Clauses.Clauses, Clauses.IsTold}
@@ -13,29 +11,6 @@ use Rattle.call_study.specs.{Clauses.OutIsAnswer, Clauses.OutIsFront, Ends.EndsO
 use Rattle.call_work.specs.load.Halts.{End, IsAnswer, IsEarly, line_of}
 use Rattle.call_work.specs.load.Request.{Request, files_of}
 use Rattle.call_work.specs.declared.load.halt.Halt.TheVariants as halt
-
--- no name's count rose, so there is no cause
-no_cause : (files : List ℕ → Option (List ℕ)) (c1 c2 : List ℕ → ℕ) (asked : List NamedFile)
-    (file : File)
-    → NoneRose c1 c2 asked → StoreCause files c1 c2 asked file → ⊥
-no_cause files c1 c2 [] file none cause = cause
-no_cause files c1 c2 (a ∷ rest) file none cause = elim cause [
-  | inl here ↦ none.0 here.1
-  | inr later ↦ no_cause files c1 c2 rest file none.1 later.1
-]
-
--- where no count rose in a call, none is greater
-not_more : {X : Type 0} (a b : ℕ) → b ≡ a → a < b → X
-not_more a b same more = absurd (omega arith)
-
--- a put of a line, whatever came of it
-pub put_or_part : {X Y : Type 0} (old new : SinkView) (line : List ℕ) (r : Result X Y)
-    → Puts old new line r
-    → GrewByAll old new line
-    ⊎ (Rose old.faults new.faults × GrewByPart old.written new.written line)
-put_or_part old new line (Ok x) puts = inl puts
-put_or_part old new line (Err y) puts =
-    inr (puts.0, part_of_proper old.written new.written line puts.1)
 
 module _ {K : Type 0} (view : K → SinkView) (old new : K) (files : List ℕ → Option (List ℕ))
     (c1 c2 : List ℕ → ℕ) (request : Request) where
@@ -67,10 +42,6 @@ module _ {K : Type 0} (view : K → SinkView) (old new : K) (files : List ℕ �
       err_new = e2;
     }
 
-    -- nothing on out
-    same_out : new ≡ old → Appends (view old).written (view new).written []
-    same_out is = rw is (appends_none (view old).written)
-
     answered : (end : End) → EndsSo end → IsAnswer end → IsTold seen → OutIsAnswer seen end
     answered (Ok d) e is told = record {
       text = e.1.text;
@@ -79,12 +50,12 @@ module _ {K : Type 0} (view : K → SinkView) (old new : K) (files : List ℕ �
     }
     answered (Err (halt.Stopped stop.Usage)) e is told = absurd e
     answered (Err (halt.Stopped (stop.Refused why))) e is told =
-        record { text = []; is = e.2 told; out = same_out e.1 }
+        record { text = []; is = e.2 told; out = same_out view old new e.1 }
     answered (Err (halt.Stopped (stop.Store f))) e is told = absurd is
     answered (Err (halt.Stopped stop.Sink)) e is told = absurd is
     answered (Err (halt.Stopped stop.Memory)) e is told = absurd is
     answered (Err (halt.Denied why)) e is told =
-        record { text = []; is = e.2 told; out = same_out e.1 }
+        record { text = []; is = e.2 told; out = same_out view old new e.1 }
 
     store_failed : (end : End) → EndsSo end → (file : File)
         → end ≡ Err (halt.Stopped (stop.Store file))
@@ -108,18 +79,15 @@ module _ {K : Type 0} (view : K → SinkView) (old new : K) (files : List ℕ �
       λ told. record { text = f.1.text; is = (f.1.is.0, f.1.is.1 told); out = f.1.grew.1 },
     )
 
-    same_faults : {X : Type 0} → new ≡ old → (view old).faults < (view new).faults → X
-    same_faults is more = not_more _ _ (ap (λ k. (view k).faults) is) more
-
     sink_told : (end : End) → EndsSo end → (view old).faults < (view new).faults
         → end ≡ Err (halt.Stopped stop.Sink)
     sink_told (Ok x) e more = not_more _ _ e.1.grew.same more
     sink_told (Err (halt.Stopped stop.Usage)) e more = absurd e
-    sink_told (Err (halt.Stopped (stop.Refused why))) e more = same_faults e.1 more
-    sink_told (Err (halt.Stopped (stop.Store f))) e more = same_faults e.1 more
+    sink_told (Err (halt.Stopped (stop.Refused why))) e more = same_faults view old new e.1 more
+    sink_told (Err (halt.Stopped (stop.Store f))) e more = same_faults view old new e.1 more
     sink_told (Err (halt.Stopped stop.Sink)) e more = refl
-    sink_told (Err (halt.Stopped stop.Memory)) e more = same_faults e.1 more
-    sink_told (Err (halt.Denied why)) e more = same_faults e.1 more
+    sink_told (Err (halt.Stopped stop.Memory)) e more = same_faults view old new e.1 more
+    sink_told (Err (halt.Denied why)) e more = same_faults view old new e.1 more
 
     complete : (end : End) → EndsSo end → IsTold seen → NoneRose c1 c2 (files_of request)
         → (Rose (view old).faults (view new).faults → ⊥)

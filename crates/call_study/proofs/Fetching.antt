@@ -1,11 +1,11 @@
 -- What a call gives once its files are fetched.
-use Rattle.std.proofs.Common.{◌≡◌, ℕ, ◌<◌, ◌≤◌, false, true, List, [], ◌∷◌, Option, None, Some, IsSome, IfSome}
-use Rattle.std.proofs.Common.{Result, Ok, Err, length, nat_lt, unwrap_or, refl, sym, ◌∙◌}
-use Rattle.std.proofs.Common.{inl, inr, subst, arith}
+use Rattle.std.proofs.Common.{◌≡◌, ℕ, ◌<◌, ◌≤◌, true, List, [], ◌∷◌, Option, None, Some, IsSome}
+use Rattle.std.proofs.Common.{IfSome, Result, Ok, Err, length, nat_lt, unwrap_or, refl, sym, inl}
+use Rattle.std.proofs.Common.{inr, subst, arith}
 use Rattle.call_answer.specs.declared.said.Said.{Said}
-use Rattle.base_text.specs.store.Store.{SameCounts}
-use Rattle.call_files.specs.Files.{AllTold, Fetches, NamedFile, StoreCause, contents, in_front}
-use Rattle.call_files.specs.Files.{limit_of}
+use Rattle.base_text.specs.{store.CountLaws.same_both, store.Store.SameCounts}
+use Rattle.call_files.specs.FileLaws.{cause_from, short_of, told_contents}
+use Rattle.call_files.specs.Files.{Fetches, NamedFile, in_front, limit_of}
 use Rattle.call_files.specs.declared.refusal.Refusal.TheVariants as refusal
 use Rattle.call_files.specs.declared.stop.File.{File}
 use Rattle.call_files.specs.declared.stop.Stop.{Stop}
@@ -18,32 +18,10 @@ use Rattle.call_work.specs.{load.Halts.End, load.Studied.refused_by, declared.lo
 use Rattle.call_work.specs.declared.load.halt.Halt.TheVariants as halt
 use Rattle.call_study.proofs.Reading.{gives_wider}
 
-opened : (o : Option (List ℕ)) (v : List ℕ) → IsSome o → IfSome o (λ b. b ≡ v) → unwrap_or o [] ≡ v
-opened None v some is = cc
-opened (Some b) v some is = is
-
-short_of : (o : Option (List ℕ)) (v : List ℕ) (limit : ℕ)
-    → length v ≤ limit → IfSome o (λ b. b ≡ v) → IfSome o (λ b. length b ≤ limit)
-short_of None v limit le is = tt
-short_of (Some b) v limit le is = rw is le
-
-not_above : (limit n : ℕ) → n ≤ limit → nat_lt limit n ≡ false
-not_above limit n le = grind arith
-
 longer : (o : Option (List ℕ)) (limit : ℕ) → IsSome o → IfSome o (λ b. limit < length b)
     → nat_lt limit (length (unwrap_or o [])) ≡ true
 longer None limit some long = cc
 longer (Some b) limit some long = grind arith
-
--- a cause from an earlier count
-cause_from : (files : List ℕ → Option (List ℕ)) (c1 c2 c3 : List ℕ → ℕ) (asked : List NamedFile)
-    (file : File)
-    → SameCounts c1 c2 → StoreCause files c2 c3 asked file → StoreCause files c1 c3 asked file
-cause_from files c1 c2 c3 [] file same cause = cause
-cause_from files c1 c2 c3 (a ∷ rest) file same cause = elim cause [
-  | inl here ↦ inl (here.0, rw (same a.name) at here.1)
-  | inr later ↦ inr (later.0, cause_from files c1 c2 c3 rest file same later.1)
-]
 
 module _ (files : List ℕ → Option (List ℕ)) where
   -- with no more files to fetch
@@ -83,37 +61,27 @@ module _ (files : List ℕ → Option (List ℕ)) where
     abbrev later : Result (List (List ℕ)) File → Answers
     later bytes = next (in_front v bytes)
 
-    -- the bytes that were fetched are the first contents
-    told_contents : AllTold files (a ∷ rest)
-        → contents files (a ∷ rest) ≡ in_front v (contents files rest)
-    told_contents told =
-        let e = opened (files a.name) v told.0 is in
-        let t = not_above (limit_of a.file) (length v) short in
-        rw (e, t) refl
-
     go_on : (r : Result Said Halt) → Gives (over_told later files rest) r
         → Gives (over_told next files (a ∷ rest)) r
     go_on r g = gives_wider (over_told later files rest) (over_told next files (a ∷ rest)) r
         (λ end text p told. subst (λ (x : Result (List (List ℕ)) File). next x end text)
-        (sym (told_contents told)) (p told.1)) g
-
-    same_both : SameCounts c2 c3 → SameCounts c1 c3
-    same_both more = λ name. more name ∙ same name
+        (sym (told_contents files a rest v short is told)) (p told.1)) g
 
     -- once the first file is fetched
     pub fetched_next : (r : Result Said Halt) → Fetched later files rest c2 c3 r
         → Fetched next files (a ∷ rest) c1 c3 r
-    fetched_next (Ok w) f = (same_both f.0, go_on (Ok w) f.1)
+    fetched_next (Ok w) f = (same_both c1 c2 c3 same f.0, go_on (Ok w) f.1)
     fetched_next (Err (halt.Stopped stop.Usage)) f = absurd f.1
     fetched_next (Err (halt.Stopped (stop.Refused why))) f =
-        (same_both f.0, go_on (Err (halt.Stopped (stop.Refused why))) f.1)
+        (same_both c1 c2 c3 same f.0, go_on (Err (halt.Stopped (stop.Refused why))) f.1)
     fetched_next (Err (halt.Stopped (stop.Store file))) f = inr (
       short_of (files a.name) v (limit_of a.file) short is,
       cause_from files c1 c2 c3 rest file same f,
     )
     fetched_next (Err (halt.Stopped stop.Sink)) f = absurd f.1
-    fetched_next (Err (halt.Stopped stop.Memory)) f = (same_both f.0, tt)
-    fetched_next (Err (halt.Denied why)) f = (same_both f.0, go_on (Err (halt.Denied why)) f.1)
+    fetched_next (Err (halt.Stopped stop.Memory)) f = (same_both c1 c2 c3 same f.0, tt)
+    fetched_next (Err (halt.Denied why)) f =
+        (same_both c1 c2 c3 same f.0, go_on (Err (halt.Denied why)) f.1)
 
 -- what is answered of the files may be answered by more
 pub fetched_wider : (p q : Result (List (List ℕ)) File → Answers) (files : List ℕ → Option (List ℕ))

@@ -1,19 +1,15 @@
 -- What holds of what was read, and of what is chosen of it.
 use Rattle.std.proofs.Common.{◌≡◌, ◌∷◌, ◌<◌, ℕ, suc, zero, List, [], length, Option, None, Some}
 use Rattle.std.proofs.Common.{Result, Ok, Err, refl, subst, sym, slice_get, arith, inl, inr, ⊎_elim}
-use Rattle.std.specs.List.{All}
-use Rattle.model_line.specs.declared.line.Line.{Line}
 use Rattle.file_study.specs.study.Studies.{StudyValues, study_of}
 use Rattle.file_document.specs.declared.fault.DocumentFault.{DocumentFault}
 use Rattle.base_memory.specs.Gives.{Fails}
 use Rattle.base_memory.specs.declared.stopped.Stopped.{Stopped}
 use Rattle.base_memory.specs.declared.stopped.Stopped.TheVariants as stopped
 use Rattle.file_tables.specs.declared.timing.fault.TimingFault.{TimingFault}
-use Rattle.model_timing.specs.{Inside.IsTimingInside, NamedValues.NamedValues}
+use Rattle.model_timing.specs.NamedValues.{NamedValues}
 use Rattle.call_answer.specs.declared.said.Said.{Said}
-use Rattle.call_files.specs.Said.{of_timings}
 use Rattle.call_files.specs.Stops.{stop_by}
-use Rattle.call_files.specs.declared.refusal.Refusal.{Refusal}
 use Rattle.call_files.specs.declared.refusal.Refusal.TheVariants as refusal
 use Rattle.call_files.specs.declared.stop.Stop.TheVariants as stop
 use Rattle.call_study.specs.{Answers.Answers, Ends.Gives}
@@ -39,14 +35,6 @@ given_read (bytes.Files line scripts) l halted holds is said h =
     )
 given_read (bytes.Study study) l halted holds is said h =
     rw said.1 (inl (studied l, said.2, h))
-
--- timings that were read
-pub timings_read : (l : Line) (said : Result (List NamedValues) TimingFault)
-    (timings : List NamedValues) (refused : Refusal → Type 0)
-    (holds : List NamedValues → Type 0)
-    → said ≡ Ok timings → All (λ timing. IsTimingInside l timing.timing) timings
-    → holds timings → of_timings l said refused holds
-timings_read l said timings refused holds is inside h = rw is (inside, h)
 
 module _ {A : Type 0} (list : List A) (place : Option ℕ) (none : Halt) (halted : Halt → Type 0)
     (holds : A → Type 0) where

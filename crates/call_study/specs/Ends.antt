@@ -1,10 +1,10 @@
 -- How each layer of the call ends, by cases on its result.
 use Rattle.std.specs.Prelude.{◌≡◌, ℕ, List, [], Option, Result, Ok, Err, ⊤}
-use Rattle.base_text.specs.{store.Counts.Rose, store.Sink.GrewByProper, store.Store.SameCounts}
+use Rattle.base_text.specs.store.Store.{SameCounts}
 use Rattle.call_answer.specs.{declared.done.Done.Done, declared.said.Said.Said}
-use Rattle.call_answer.specs.Sinks.{GrewByAll, SinkView}
+use Rattle.call_answer.specs.Sinks.{GrewByAll, SinkView, Put, GrewInPart}
 use Rattle.call_files.specs.Files.{AllTold, NamedFile, StoreCause, contents}
-use Rattle.call_files.specs.declared.stop.{File.File}
+use Rattle.call_files.specs.declared.stop.File.{File}
 use Rattle.call_files.specs.declared.stop.Stop.TheVariants as stop
 use Rattle.call_study.specs.Answers.{Answers}
 use Rattle.call_work.specs.{load.Halts.End, declared.load.halt.Halt.Halt}
@@ -38,17 +38,6 @@ Fetched next files asked counts_old counts_new result =
 -- a text that may be answered with some status
 abbrev pub WithSomeStatus : Answers → List ℕ → Type 0
 WithSomeStatus allowed text = (done : Done) × allowed (Ok done) text
-
--- such a text is put on out, whole, or a proper front of it, and out's count rose
-pub record Put (IsText : List ℕ → Type 0) (old new : SinkView)
-    (Grew : SinkView → SinkView → List ℕ → Type 0) : Type 0 where
-  pub text : List ℕ
-  pub is : IsText text
-  pub grew : Grew old new text
-
-abbrev pub GrewInPart : SinkView → SinkView → List ℕ → Type 0
-GrewInPart old new text =
-    Rose old.faults new.faults × GrewByProper old.written new.written text
 
 -- the whole call but for the line to err
 abbrev pub EndsOf : {K : Type 0} → (K → SinkView) → (Result (List (List ℕ)) File → Answers)

@@ -4,8 +4,8 @@ use Rattle.std.proofs.Common.{sym, ◌∙◌, ap, subst, arith, ⊎_elim}
 use Rattle.std.proofs.lemmas.Bool.{cases_lt}
 use Rattle.std.proofs.lemmas.List.{length-take-le, length-drop, get_or-take, get_or-drop}
 use Rattle.std.proofs.lemmas.Option.{slice_get_read, slice_get_within, get_or_from_slice_get}
-use Rattle.std.proofs.Math.Nat.{mul-le-mul_left}
 use Rattle.std.specs.Prelude.{slice_get}
+use Rattle.std.proofs.lemmas.Nat.{row_fits}
 use Rattle.model_line.specs.{declared.line.Line.Line, declared.script.Script.Script}
 use Rattle.model_line.specs.Parameters.{terminal_count}
 use Rattle.judge_settle.specs.settle.Answers.{IsAnswer}
@@ -20,18 +20,12 @@ pub record IsRowAt (line : Line) (scripts : List Script) (s k : ℕ) (row : Row)
   pub below : k < terminal_count line
   pub answer : IsAnswer line script k row.settled.answer
 
--- so many rows of a script end before those of all
-pub ends_within : (s n t : ℕ) → s < n → s * t + t ≤ n * t
-ends_within s n t less =
-    let more : s + 1 ≤ n = omega arith in
-    omega (arith, mul-le-mul_left t more)
-
 -- a number is at one place in one row of a table alone
 same_place : (a b c d t : ℕ) → a * t + b ≡ c * t + d → b < t → d < t → (a ≡ c) × (b ≡ d)
 same_place a b c d t is low high =
-    ⊎_elim (λ less. absurd (omega (arith, ends_within a c t less)))
+    ⊎_elim (λ less. absurd (omega (arith, row_fits a t c t less (omega arith))))
     (λ from.
-    ⊎_elim (λ more. absurd (omega (arith, ends_within c a t more)))
+    ⊎_elim (λ more. absurd (omega (arith, row_fits c t a t more (omega arith))))
     (λ upto.
     let same : a ≡ c = omega arith in
     let product : a * t ≡ c * t = ap (λ (n : ℕ). n * t) same in
@@ -43,7 +37,11 @@ module _ (line : Line) (scripts : List Script) (rows : List Row) (s : ℕ)
     (are : AreRows line scripts rows) (early : s < length scripts) where
   -- a script has as many rows as the line has terminals
   pub rows_end : s * terminal_count line + terminal_count line ≤ length rows
-  rows_end = omega (arith, are.count, ends_within s (length scripts) (terminal_count line) early)
+  rows_end = omega (
+    arith,
+    are.count,
+    row_fits s (terminal_count line) (length scripts) (terminal_count line) early (omega arith),
+  )
 
   pub rows_long : length (rows_of line rows s) ≡ terminal_count line
   rows_long =

@@ -1,17 +1,18 @@
 -- What a text of settled trees says of rows can be said, and is supported.
-use Rattle.std.proofs.Common.{◌≡◌, ◌<◌, ◌≤◌, ◌^◌, ℕ, Bool, List, [], ◌∷◌, zero, suc, Some, length, map}
-use Rattle.std.proofs.Common.{get_or, refl, sym, ◌∙◌, subst, arith}
+use Rattle.std.proofs.Common.{◌≡◌, ◌<◌, ◌^◌, ℕ, List, Some, length}
+use Rattle.std.proofs.Common.{get_or, sym, ◌∙◌, subst, arith}
 use Rattle.std.proofs.lemmas.List.{length-map}
 use Rattle.std.proofs.lemmas.List.Elements.{All-from_get_or, All-map}
 use Rattle.std.proofs.lemmas.List.FromFn.{length-map-range_with_len, get_or-map-range_with_len}
 use Rattle.std.proofs.lemmas.Option.{slice_get-get_or, get_or_from_slice_get}
 use Rattle.std.specs.Prelude.{slice_get}
 use Rattle.std.specs.List.{All}
-use Rattle.model_line.specs.declared.script.Kind.TheVariants.{Internal, External}
-use Rattle.model_line.specs.{declared.line.Line.Line, declared.script.Kind.Kind, Fits.Fits}
+use Rattle.model_history.specs.ListLaws.{mapped}
+use Rattle.model_line.specs.{declared.line.Line.Line, Fits.Fits}
 use Rattle.model_line.specs.{declared.script.Script.Script, Parameters.terminal_count}
 use Rattle.model_line.specs.{Parameters.param_count, Laws.DeclaredIntervalsAreInOrder}
-use Rattle.model_logic.specs.Histories.{History, IsLineHistory, IsSameHistory, MeetsBy}
+use Rattle.model_logic.specs.Histories.{History, IsLineHistory, IsSameHistory}
+use Rattle.model_logic.specs.RuleLaws.{meets_same}
 use Rattle.model_timing.specs.{Timing.TimingValues, Inside.IsTimingInside, Choice.timing_choice}
 use Rattle.judge_settle.specs.settle.Answers.{IsAnswer}
 use Rattle.judge_settle.specs.settle.Trees.{IsFailing}
@@ -32,13 +33,6 @@ use Rattle.call_tables.specs.Written.{results_of, results_by_script, trees_text}
 use Rattle.call_tables.proofs.RowLaws.{row_at, rows_long}
 
 -- ---- lists
-
--- an element of a list that was mapped
-mapped : {A B : Type 0} (f : A → B) (xs : List A) (k : ℕ) (y : B)
-    → slice_get (map f xs) k ≡ Some y → (x : A) × (slice_get xs k ≡ Some x) × (f x ≡ y)
-mapped f [] k y at = absurd (cc)
-mapped f (x ∷ xs) zero y at = let same : f x ≡ y = cc in (x, refl, same)
-mapped f (x ∷ xs) (suc k) y at = mapped f xs k y at
 
 -- what stands at one place is one thing
 pub one_there : {A : Type 0} (xs : List A) (k : ℕ) (x y : A) → slice_get xs k ≡ Some x
@@ -86,15 +80,6 @@ one_each order line scripts rows s are early =
     }
 
 -- ---- what is supported
-
--- trips that are the same over the run meet the same
-meets_same : (kind : Kind) (deadline horizon : ℕ) (f g : ℕ → Bool) → deadline < horizon
-    → ((t : ℕ) → t < horizon → f t ≡ g t) → MeetsBy kind deadline horizon f
-    → MeetsBy kind deadline horizon g
-meets_same Internal deadline horizon f g early same met =
-    let le : met.0 ≤ deadline = met.1 in
-    (met.0, met.1, sym (same met.0 (omega arith)) ∙ met.2)
-meets_same External deadline horizon f g early same met = λ t lt. sym (same t lt) ∙ met t lt
 
 -- each timing inside has one history
 abbrev pub HaveOneHistory : Type 0

@@ -5,7 +5,8 @@ use Rattle.model_line.specs.{declared.line.Line.Line, declared.script.Script.Scr
 use Rattle.model_line.specs.Parameters.{terminal_count}
 use Rattle.model_line.specs.NamesByNumber.{terminal_name}
 use Rattle.model_timing.specs.NamedValues.{NamedValues}
-use Rattle.file_tables.specs.timing.Printed.{file_records, records_text}
+use Rattle.file_tables.specs.script.Printed.{records_text}
+use Rattle.file_tables.specs.timing.Printed.{file_records}
 use Rattle.file_tables.specs.timing.Timings.{timings_in}
 use Rattle.judge_settle.specs.declared.settle.answer.Answer.{Answer}
 use Rattle.judge_settle.specs.declared.settle.answer.Answer.TheVariants.{Held, Fails, Open}

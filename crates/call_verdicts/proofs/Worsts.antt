@@ -1,7 +1,8 @@
 -- The first of the worst, found place by place.
 use Rattle.std.proofs.Common.{◌≡◌, ℕ, ◌+◌, ◌<◌, ◌≤◌, List, length, get_or, subst, sym, arith}
-use Rattle.std.proofs.Common.{⊎_elim, ◌⊎◌}
-use Rattle.std.specs.Prelude.{true, false, nat_le, None}
+use Rattle.std.proofs.Common.{⊎_elim}
+use Rattle.std.specs.Prelude.{nat_le, None}
+use Rattle.std.proofs.lemmas.Bool.{cases_lt, le-leb, lt-leb}
 use Rattle.std.proofs.lemmas.List.{get_or_default}
 use Rattle.model_line.specs.declared.script.Kind.TheVariants.{Internal}
 use Rattle.std.proofs.lemmas.List.Folds.{list_all_at}
@@ -25,9 +26,6 @@ worst_none h vs = record {
   first = λ j d lt. absurd (omega (arith, lt));
 }
 
-below_or_at : (j i : ℕ) → j < i + 1 → (j < i) ⊎ (j ≡ i)
-below_or_at j i lt = grind arith
-
 pub worst_takes : (h : ℕ) (vs : List Verdict) (i b : ℕ)
     → ((d : Verdict) → room h (get_or vs i d) < room h (get_or vs b d))
     → IsWorstOf h vs i b → IsWorstOf h vs (i + 1) i
@@ -36,8 +34,8 @@ worst_takes h vs i b less so_far = record {
   strict = λ lt. omega arith;
   least = λ j d lt.
       ⊎_elim (λ before. omega (arith, less d, so_far.least j d before))
-      (λ (here : j ≡ i). rw here (omega arith))
-      (below_or_at j i lt);
+      (λ (past : i ≤ j). let here : j ≡ i = omega (arith, lt, past) in rw here (omega arith))
+      (cases_lt j i);
   first = λ j d lt. omega (arith, less d, so_far.least j d lt);
 }
 
@@ -49,16 +47,10 @@ worst_keeps h vs i b more so_far = record {
   strict = λ lt. omega (arith, so_far.within);
   least = λ j d lt.
       ⊎_elim (λ before. so_far.least j d before)
-      (λ (here : j ≡ i). rw here (more d))
-      (below_or_at j i lt);
+      (λ (past : i ≤ j). let here : j ≡ i = omega (arith, lt, past) in rw here (more d))
+      (cases_lt j i);
   first = so_far.first;
 }
-
-nat_le-true : (a b : ℕ) → a ≤ b → nat_le a b ≡ true
-nat_le-true a b le = grind arith
-
-nat_le-false : (a b : ℕ) → b < a → nat_le a b ≡ false
-nat_le-false a b lt = grind arith
 
 -- some verdict
 anything : Verdict
@@ -77,10 +69,10 @@ worst_of_all h vs i b all of =
     (λ k lt.
     list_all_at (λ (other : Verdict). nat_le (room h (get_or vs k d)) (room h other)) vs b d
     (strict (omega (arith, lt, within)))
-    (nat_le-false (room h (get_or vs k d)) (room h (get_or vs b d)) (of.first k d lt)))
+    (lt-leb (room h (get_or vs k d)) (room h (get_or vs b d)) (of.first k d lt)))
     (λ lt.
     list_all-from_AllPass (λ (other : Verdict). nat_le (room h (get_or vs b d)) (room h other)) vs
     (λ k e at.
-    nat_le-true (room h (get_or vs b d)) (room h (get_or vs k e))
+    le-leb (room h (get_or vs b d)) (room h (get_or vs k e))
     (subst (λ (v : Verdict). room h v ≤ room h (get_or vs k e))
     (get_or_default vs b e d lt) (least k e at)))))

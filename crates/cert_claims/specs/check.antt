@@ -2,6 +2,7 @@ pub mod Check
 pub mod Counts
 pub mod CountLaws
 pub mod Firsts
+pub mod MetLaws
 pub mod NoFaults
 pub mod Refutations
 pub mod ScriptLaws

@@ -1,10 +1,10 @@
 -- What is certified of a script has no fault as a claim.
-use Rattle.std.proofs.Common.{◌≡◌, ℕ, zero, suc, ◌<◌, List, [], ◌∷◌, Some, get_or, map, refl, sym}
+use Rattle.std.proofs.Common.{◌≡◌, ℕ, ◌<◌, List, [], get_or, map, sym}
 use Rattle.std.proofs.Common.{◌∙◌, subst, arith}
 use Rattle.std.proofs.lemmas.List.{get_or_default, length-map}
 use Rattle.std.proofs.lemmas.Option.{slice_get_within, slice_get-get_or}
-use Rattle.std.specs.Prelude.{slice_get}
 use Rattle.model_history.specs.Rails.{RailsCover}
+use Rattle.model_history.specs.ListLaws.{mapped}
 use Rattle.run_signal.specs.declared.tern.Tern.{Tern}
 use Rattle.model_line.specs.Parameters.{param_count, terminal_count}
 use Rattle.model_line.specs.{declared.line.Line.Line, declared.script.Script.Script, Fits.Fits}
@@ -13,9 +13,10 @@ use Rattle.model_logic.specs.Choice.{Choice, declared_box, pair_world_of}
 use Rattle.model_logic.specs.Logic.{key_tree, trip_tree}
 use Rattle.model_logic.specs.Rule.{Held, rule_of}
 use Rattle.model_logic.specs.{Names.Names, PairMean.pair_mean, Tree.Tree}
+use Rattle.model_logic.specs.RuleLaws.{meets_same}
 use Rattle.model_timing.specs.Candidates.{candidate}
 use Rattle.model_timing.specs.{Choice.timing_choice, Inside.IsTimingInside, Timing.TimingValues}
-use Rattle.cert_claims.specs.text.Grammar.{AreNumbers, HasNumbers, Verdict as Written}
+use Rattle.cert_claims.specs.text.Grammar.{AreNumbers, HasNumbers}
 use Rattle.cert_claims.specs.text.Text.{CanBeWritten}
 use Rattle.judge_verdict.specs.declared.verdict.verdict.Verdict.TheVariants.{Yes, No, Undecided}
 use Rattle.judge_verdict.specs.verdict.Verdicts.{AreKeys, AreVerdicts, IsVerdict, IsRefuted}
@@ -26,15 +27,7 @@ use Rattle.run_waves.specs.derived.Claims.{derived_trip}
 use Rattle.run_waves.specs.derived.Claims.{pairs_of}
 use Rattle.cert_claims.specs.check.Refutations.{IsRefutation}
 use Rattle.cert_own.specs.Known.{Known}
-use Rattle.cert_own.proofs.Obligations.{held_same, same_meets}
-
--- each written verdict is that of a verdict
-verdict_of : (verdicts : List Verdict) (k : ℕ) (x : Written)
-    → slice_get (map written_as verdicts) k ≡ Some x
-    → (v : Verdict) × (slice_get verdicts k ≡ Some v) × (written_as v ≡ x)
-verdict_of [] k x at = absurd (cc)
-verdict_of (v ∷ verdicts) zero x at = let same : written_as v ≡ x = cc in (v, refl, same)
-verdict_of (v ∷ verdicts) (suc k) x at = verdict_of verdicts k x at
+use Rattle.cert_own.proofs.Obligations.{rule_same}
 
 -- ---- what can be written
 
@@ -75,7 +68,7 @@ module _ (known : Known) (line : Line) where
         (are_keys.each k (get_or keys k d) (slice_get-get_or keys k d lt)).long;
     numbers = λ k d lt.
         let (v, at, is) =
-        verdict_of verdicts k (get_or (map written_as verdicts) k d)
+        mapped written_as verdicts k (get_or (map written_as verdicts) k d)
         (slice_get-get_or (map written_as verdicts) k d lt) in
         subst (HasNumbers line) is (numbers_of script k w v (are_verdicts.each k v at));
   }
@@ -114,7 +107,7 @@ module _ (known : Known) (line : Line) (script : Script) (fits : Fits line scrip
   same_held : (k : ℕ) → k < terminal_count line → rule_of line script (w.trip k) ≡ Held
       → rule_of line script (derived_trip line script (pairs_of keys) k) ≡ Held
   same_held k there =
-      held_same known line script (w.trip k) (derived_trip line script (pairs_of keys) k) early
+      rule_same known line script (w.trip k) (derived_trip line script (pairs_of keys) k) early
       (λ t lt. is_w.trips k t there lt
       ∙ sym (same_value (trip_tree line k) t (known.lines.trees.trips line k there) lt))
 
@@ -133,7 +126,8 @@ module _ (known : Known) (line : Line) (script : Script) (fits : Fits line scrip
         fails = λ h is_h met.
             let same = known.lines.histories.only line script choice h fails.h delayed is_h fails.is in
             fails.fails
-            (same_meets line script k h fails.h early (λ t lt. same.trips k t there lt) met);
+            (meets_same script.kind script.deadline line.horizon (h.trip k) (fails.h.trip k) early
+            (λ t lt. same.trips k t there lt) met);
       })
 
   supported_by : (k : ℕ) (v : Verdict) → k < terminal_count line → IsVerdict line script k w v
@@ -147,7 +141,7 @@ module _ (known : Known) (line : Line) (script : Script) (fits : Fits line scrip
   accepted verdicts are = record {
     covered = covered;
     supported = λ k x at.
-        let (v, there, is) = verdict_of verdicts k x at in
+        let (v, there, is) = mapped written_as verdicts k x at in
         let inside = slice_get_within verdicts k v there in
         let count = are.count in
         subst (IsSupported line script k (derived_trip line script (pairs_of keys) k)) is

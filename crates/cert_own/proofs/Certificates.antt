@@ -6,8 +6,7 @@ use Rattle.std.proofs.lemmas.Slice.Zip.{AllZip-long}
 use Rattle.std.specs.List.{All}
 use Rattle.model_line.specs.{declared.line.Line.Line, declared.script.Script.Script, Fits.Fits}
 use Rattle.model_logic.specs.Choice.{declared_box}
-use Rattle.run_signal.specs.declared.tern.Tern.{Tern}
-use Rattle.cert_claims.specs.text.Grammar.{Claims, IsCertificate, Verdict as Written}
+use Rattle.cert_claims.specs.text.Grammar.{Claims, IsCertificate}
 use Rattle.cert_claims.specs.text.Text.{CanBeWritten, certificate_text, part_text, parts_text}
 use Rattle.judge_verdict.specs.declared.verdict.verdict.Verdict.{Verdict}
 use Rattle.cert_own.specs.Piece.{claims_of, written_as}
@@ -16,22 +15,16 @@ use Rattle.cert_claims.specs.check.Check.{IsAccepted, IsCheckFault}
 use Rattle.cert_claims.specs.check.Counts.{AreCounts, all_verdicts, counts_in, are_counts}
 use Rattle.model_history.specs.ZipLaws.{zip_all, zip_each, zip_exists, zip_once}
 use Rattle.cert_claims.specs.check.Verdicts.{AreAccepted}
+use Rattle.cert_claims.specs.text.ClaimLaws.{same_claims}
 use Rattle.cert_own.specs.{Certified.AreCertified, Certified.IsCertified, Known.Known}
 use Rattle.cert_own.proofs.Accepted.{accepted, can_be_written}
 use Rattle.cert_own.proofs.KeyLists.{keys_exist, keys_once}
 use Rattle.cert_own.proofs.VerdictLists.{verdicts_exist, verdicts_once}
 
--- claims with the same keys and the same verdicts
-claims_by : (a b : Claims) → a.keys ≡ b.keys → a.verdicts ≡ b.verdicts → a ≡ b
-claims_by a b keys verdicts =
-    let by_keys : List (List Tern) → Claims = λ k. record { keys = k; verdicts = a.verdicts } in
-    let by_verdicts : List Written → Claims = λ v. record { keys = b.keys; verdicts = v } in
-    ap by_keys keys ∙ ap by_verdicts verdicts
-
 written_claims : (claims : Claims) (verdicts : List Verdict)
     → claims.verdicts ≡ map written_as verdicts → claims_of claims.keys verdicts ≡ claims
 written_claims claims verdicts is =
-    claims_by (claims_of claims.keys verdicts) claims refl (sym is)
+    same_claims (claims_of claims.keys verdicts) claims refl (sym is)
 
 -- ---- one script
 
@@ -69,7 +62,7 @@ module _ (known : Known) (line : Line) (script : Script) where
   one_only : Fits line script → (a b : Claims) → IsCertified line script a
       → IsCertified line script b → a ≡ b
   one_only fits a b p q =
-      claims_by a b
+      same_claims a b
       (keys_once known line script p.history q.history a.keys b.keys p.is_history q.is_history
       p.are_keys q.are_keys)
       (p.written

@@ -1,13 +1,10 @@
 -- What is searched of scripts that fit is there, to each depth of at most eight.
-use Rattle.std.proofs.Common.{◌≡◌, ◌+◌, ◌<◌, ◌≤◌, ℕ, zero, suc, List, [], ◌∷◌, Some, length}
-use Rattle.std.proofs.Common.{map, refl, ap, subst, arith}
+use Rattle.std.proofs.Common.{◌≡◌, ◌+◌, ◌<◌, ◌≤◌, ℕ, zero, suc, List, length}
+use Rattle.std.proofs.Common.{map, refl, arith}
 use Rattle.std.proofs.lemmas.List.{length-append}
-use Rattle.std.proofs.lemmas.Option.{same_Some}
-use Rattle.std.specs.Prelude.{slice_get}
 use Rattle.std.specs.List.{All}
 use Rattle.model_line.specs.{declared.line.Line.Line, declared.script.Script.Script, Fits.Fits}
 use Rattle.model_line.specs.Parameters.{terminal_count}
-use Rattle.judge_verdict.specs.verdict.OneEach.{OneEach}
 use Rattle.model_history.specs.ZipLaws.{zip_exists}
 use Rattle.judge_split.specs.declared.node.Outcome.{Outcome}
 use Rattle.judge_split.specs.declared.node.Outcome.TheVariants as outcome
@@ -17,25 +14,7 @@ use Rattle.judge_split.specs.Found.{IsFound}
 use Rattle.cert_split.specs.{text.Grammar.SplitResult, text.Piece.written_as}
 use Rattle.cert_own.specs.{Known.BoxesKnown, Searched.AreSearched, Searched.AllSearched}
 use Rattle.cert_own.proofs.EachSearch.{each_search}
-
--- a list with an element for each number
-one_each : {X : Type 0} (P : ℕ → X → Type 0) (n : ℕ)
-    → ((k : ℕ) → k < n → (x : X) × P k x) → (xs : List X) × OneEach P n xs
-one_each P zero there = ([], record { count = refl; each = λ k x at. absurd (cc) })
-one_each {X} P (suc n) there =
-    let (x, is) = there 0 (omega arith) in
-    let (xs, are) = one_each (λ k. P (suc k)) n (λ k lt. there (suc k) (omega (arith, lt))) in (
-      x ∷ xs,
-      record {
-        count = ap suc are.count;
-        each = each_cons x xs is are.each;
-      },
-    ) where
-      each_cons : (x : X) (xs : List X) → P 0 x
-          → ((k : ℕ) (y : X) → slice_get xs k ≡ Some y → P (suc k) y) → (k : ℕ) (y : X)
-          → slice_get (x ∷ xs) k ≡ Some y → P k y
-      each_cons x xs is each zero y at = subst (P 0) (same_Some x y at) is
-      each_cons x xs is each (suc k) y at = each k y at
+use Rattle.cert_own.proofs.Lists.{one_each_exists}
 
 -- ---- how many nodes a tree has
 
@@ -106,7 +85,8 @@ module _ (known : BoxesKnown)
       → (results : List SplitResult) × AreSearched line n script results
   each_result script fits =
       let early = known.lines.deadlines line script fits in
-      let (searches, found) = one_each (λ k out. IsFound line script k n out) (terminal_count line)
+      let (searches, found) =
+      one_each_exists (λ k out. IsFound line script k n out) (terminal_count line)
       (λ k there. each_outcome script k early there) in
       (map written_as searches, record { searches = searches; found = found; written = refl })
 

@@ -1,10 +1,9 @@
 -- Each search has an outcome.
-use Rattle.std.proofs.Common.{◌≡◌, ◌+◌, ◌-◌, ◌/◌, ◌<◌, ◌≤◌, ◌⊎◌, inl, inr, ℕ, zero, suc, Bool, true}
-use Rattle.std.proofs.Common.{false}
-use Rattle.std.proofs.Common.{List, None, Some, cond, length, refl, sym, ◌∙◌, ap, subst, arith}
+use Rattle.std.proofs.Common.{◌≡◌, ◌+◌, ◌-◌, ◌/◌, ◌<◌, ◌≤◌, ◌⊎◌, inl, inr, ℕ, zero, suc}
+use Rattle.std.proofs.Common.{List, None, Some, length, refl, sym, ◌∙◌, ap, subst, arith}
 use Rattle.std.proofs.lemmas.Bool.{cases_eq, cases_lt}
-use Rattle.std.specs.Prelude.{Option, IsTrue}
-use Rattle.model_line.specs.Parameters.{declared_ends, is_delay, param_count, terminal_count}
+use Rattle.std.specs.Prelude.{Option}
+use Rattle.model_line.specs.Parameters.{declared_ends, param_count, terminal_count}
 use Rattle.model_line.specs.{declared.line.Line.Line, declared.script.Script.Script}
 use Rattle.model_line.specs.{WithBounds.IsWithBounds, declared.line.Terminal.Terminal}
 use Rattle.judge_verdict.specs.declared.verdict.verdict.Verdict.{Verdict}
@@ -14,6 +13,7 @@ use Rattle.judge_split.specs.Search.{IsSearch, yes, no, deepest, narrow, first_f
 use Rattle.judge_split.specs.Search.{split}
 use Rattle.judge_split.specs.Trees.{Yes, Undecided, Split}
 use Rattle.judge_split.specs.Widths.{width, middle, IsChoiceOf, IsNarrow, IsWidest, IsWidestOf}
+use Rattle.judge_split.specs.WidthLaws.{split_free, split_no_delay}
 use Rattle.cert_own.specs.Known.{BoxesKnown}
 use Rattle.cert_own.proofs.{MadeLines.with_bounds, EachVerdict.each_verdict}
 
@@ -89,25 +89,6 @@ module _ (line : Line) where
   pub narrow_or_wide : IsNarrow line ⊎ ((p : ℕ) × IsWidest line p)
   narrow_or_wide = let (c, is) = choice_of (param_count line) in narrow_or c is
 
-  -- a parameter with a width is no delay, and its interval has more than one number
-  wide_number : (param : ℕ) → 0 < width line param → ¬ (IsTrue (is_delay line param))
-  unfolding width
-  wide_number param wide told =
-      let none : width line param ≡ 0 =
-      ap (λ (b : Bool).
-      cond b 0 ((declared_ends line param).greatest - (declared_ends line param).least))
-      told in
-      absurd (omega (arith, none, wide))
-
-  by_cases : (b : Bool) (n : ℕ) → 0 < cond b 0 n → 0 < n
-  by_cases true n lt = absurd (omega (arith, lt))
-  by_cases false n lt = lt
-
-  wide_open : (param : ℕ) → 0 < width line param
-      → (declared_ends line param).least < (declared_ends line param).greatest
-  unfolding width
-  wide_open param wide = omega (arith, by_cases (is_delay line param) _ wide)
-
 -- ---- the search
 
 middle_in : (a b : ℕ) → a < b → (a ≤ (a + b) / 2) × ((a + b) / 2 + 1 ≤ b)
@@ -150,10 +131,10 @@ module _ (known : BoxesKnown) (script : Script) (k : ℕ) where
 
     in_halves : (param : ℕ) → IsWidest line param → Searched (suc n) line
     in_halves param wide =
-        let apart = wide_open line param wide.free in
+        let apart = split_free line param wide.free in
         let mid = middle_in _ _ apart in
         let within = known.intervals.within line param wide.exists in
-        let number = wide_number line param wide.free in
+        let number = split_no_delay line param wide.free in
         let (first, is_lower) =
         with_bounds known.lines.delays line param (declared_ends line param).least
         (middle line param) wide.exists number mid.0 (omega (arith, mid.1, within)) in

@@ -1,5 +1,5 @@
 -- What lines that are the same in every field have in common: boxes, candidates, verdicts, widths.
-use Rattle.std.proofs.Common.{◌≡◌, ◌<◌, ◌+◌, ◌-◌, ◌*◌, ◌/◌, ◌==◌, ℕ, Bool, cond, List, [], ◌∷◌, map}
+use Rattle.std.proofs.Common.{◌≡◌, ◌<◌, ◌+◌, ◌-◌, ◌*◌, ◌/◌, ◌==◌, ℕ, Bool, cond, List, [], map}
 use Rattle.std.proofs.Common.{get_or, refl, sym, ◌∙◌, ap, subst, arith, ⊎_elim}
 use Rattle.std.proofs.Math.Path.{fun_ext}
 use Rattle.std.proofs.lemmas.Bool.{cases_lt}
@@ -11,6 +11,7 @@ use Rattle.model_line.specs.Intervals.{leasts, greatests}
 use Rattle.model_line.specs.WithBounds.{IsWithBounds}
 use Rattle.model_line.specs.{declared.script.Script.Script, declared.line.Line.Line}
 use Rattle.model_line.specs.{declared.line.Param.Param, SameLine.SameLine, SetBounds.SameButParams}
+use Rattle.model_line.specs.SameParamLaws.{params_by}
 use Rattle.model_logic.specs.Choice.{Box, Choice, declared_box}
 use Rattle.model_logic.specs.Histories.{History, IsLineHistory, Meets, MeetsBy, PairHistory}
 use Rattle.model_logic.specs.Histories.{IsPairHistory}
@@ -59,25 +60,6 @@ unfolding candidate_value
 candidate_is line index = refl
 
 -- ---- parameters by their names and intervals
-
-param_by : (x y : Param) → x.name ≡ y.name → x.least ≡ y.least → x.greatest ≡ y.greatest → x ≡ y
-param_by x y name least greatest =
-    ap (λ n. record { name = n; least = x.least; greatest = x.greatest }) name
-    ∙ ap (λ (n : ℕ). record { name = y.name; least = n; greatest = x.greatest }) least
-    ∙ ap (λ (n : ℕ). record { name = y.name; least = y.least; greatest = n }) greatest
-
-params_by : (a b : List Param) → map (λ p. p.name) a ≡ map (λ p. p.name) b → leasts a ≡ leasts b
-    → greatests a ≡ greatests b → a ≡ b
-params_by [] [] names low high = refl
-params_by [] (y ∷ b) names low high = absurd (cc)
-params_by (x ∷ a) [] names low high = absurd (cc)
-params_by (x ∷ a) (y ∷ b) names low high =
-    let name : x.name ≡ y.name = cc in
-    let least : x.least ≡ y.least = cc in
-    let greatest : x.greatest ≡ y.greatest = cc in
-    let same : x ≡ y = param_by x y name least greatest in
-    let later : a ≡ b = params_by a b (cc) (cc) (cc) in
-    ap (λ (p : Param). p ∷ a) same ∙ ap (λ (ps : List Param). y ∷ ps) later
 
 pub own_line : (line : Line) → SameLine line line
 own_line line = record {

@@ -1,6 +1,7 @@
 -- What follows where no verdict is of a kind, and where some is.
 use Rattle.std.proofs.Common.{◌≡◌, ◌||◌, ℕ, zero, suc, ◌<◌, Bool, true, false, List, [], ◌∷◌, Some}
 use Rattle.std.proofs.Common.{length, get_or, refl, sym, ◌∙◌, ap, subst, arith}
+use Rattle.std.proofs.lemmas.Bool.{or_parts}
 use Rattle.std.proofs.lemmas.List.Folds.{list_any-append}
 use Rattle.std.proofs.lemmas.Option.{same_Some, slice_get_within, slice_get-get_or}
 use Rattle.std.specs.Prelude.{slice_get}
@@ -16,28 +17,24 @@ use Rattle.model_history.specs.ListLaws.{all_at}
 
 -- ---- lists
 
-neither : (a b : Bool) → a || b ≡ false → (a ≡ false) × (b ≡ false)
-neither true b e = absurd (cc)
-neither false b e = (refl, e)
-
 none_at : {X : Type 0} (p : X → Bool) (xs : List X) (k : ℕ) (x : X) → list_any p xs ≡ false
     → slice_get xs k ≡ Some x → p x ≡ false
 none_at p [] k x none at = absurd (cc)
 none_at p (y ∷ xs) zero x none at =
-    subst (λ z. p z ≡ false) (same_Some y x at) (neither (p y) (list_any p xs) none).0
+    subst (λ z. p z ≡ false) (same_Some y x at) (or_parts (p y) (list_any p xs) none).0
 none_at p (y ∷ xs) (suc k) x none at =
-    none_at p xs k x (neither (p y) (list_any p xs) none).1 at
+    none_at p xs k x (or_parts (p y) (list_any p xs) none).1 at
 
 none_in : {X Y : Type 0} (p : Y → Bool) (f : X → List Y) (xs : List X) (i : ℕ) (x : X)
     → list_any p (flat_map f xs) ≡ false → slice_get xs i ≡ Some x → list_any p (f x) ≡ false
 none_in p f [] i x none at = absurd (cc)
 none_in p f (y ∷ xs) zero x none at =
     subst (λ z. list_any p (f z) ≡ false) (same_Some y x at)
-    (neither (list_any p (f y)) (list_any p (flat_map f xs))
+    (or_parts (list_any p (f y)) (list_any p (flat_map f xs))
     (sym (list_any-append p (f y) (flat_map f xs)) ∙ none)).0
 none_in p f (y ∷ xs) (suc i) x none at =
     none_in p f xs i x
-    (neither (list_any p (f y)) (list_any p (flat_map f xs))
+    (or_parts (list_any p (f y)) (list_any p (flat_map f xs))
     (sym (list_any-append p (f y) (flat_map f xs)) ∙ none)).1 at
 
 -- one that is such, and its place

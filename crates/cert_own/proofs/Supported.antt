@@ -1,9 +1,10 @@
 -- What is searched of a script can be written, and is supported.
-use Rattle.std.proofs.Common.{◌≡◌, ℕ, zero, suc, ◌<◌, ◌≤◌, List, [], ◌∷◌, Some, length, get_or, map}
-use Rattle.std.proofs.Common.{refl, sym, ◌∙◌, ap, subst, arith}
+use Rattle.std.proofs.Common.{◌≡◌, ℕ, ◌<◌, ◌≤◌, List, Some, length, get_or}
+use Rattle.std.proofs.Common.{sym, ◌∙◌, ap, subst, arith}
 use Rattle.std.proofs.lemmas.List.{length-map}
 use Rattle.std.proofs.lemmas.Option.{slice_get_within, slice_get-get_or}
 use Rattle.std.specs.Prelude.{slice_get}
+use Rattle.model_history.specs.ListLaws.{mapped}
 use Rattle.model_line.specs.{declared.line.Line.Line, declared.script.Script.Script, Fits.Fits}
 use Rattle.model_line.specs.Parameters.{terminal_count}
 use Rattle.model_logic.specs.Choice.{declared_box}
@@ -31,13 +32,6 @@ pub record Known : Type 0 where
   pub written : (line : Line) (script : Script) (k n : ℕ) (found : Outcome) → Fits line script
       → k < terminal_count line → n ≤ 8 → IsFound line script k n found
       → IsPrintable line found × IsSplitResult line (written_as found)
-
--- each element of a list as it is written is that of an element
-element_of : {A B : Type 0} (f : A → B) (xs : List A) (k : ℕ) (y : B)
-    → slice_get (map f xs) k ≡ Some y → (x : A) × (slice_get xs k ≡ Some x) × (f x ≡ y)
-element_of f [] k y at = absurd (cc)
-element_of f (x ∷ xs) zero y at = let same : f x ≡ y = cc in (x, refl, same)
-element_of f (x ∷ xs) (suc k) y at = element_of f xs k y at
 
 module _ (known : Known) (line : Line) (script : Script) (fits : Fits line script) (k : ℕ)
     (there : k < terminal_count line) (n : ℕ) where
@@ -71,7 +65,7 @@ module _ (known : Known) (line : Line) (script : Script) (fits : Fits line scrip
       × ((found : Outcome) × (IsFound line script k n found) × (written_as found ≡ result))
   found_at k result at =
       let (found, here, same) =
-      element_of written_as are.searches k result
+      mapped written_as are.searches k result
       (sym (ap (λ (l : List SplitResult). slice_get l k) are.written) ∙ at) in
       let count = are.found.count in
       let inside = slice_get_within are.searches k found here in

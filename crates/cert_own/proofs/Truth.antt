@@ -1,17 +1,19 @@
 -- What the verdicts of a script say is true.
-use Rattle.std.proofs.Common.{◌≡◌, ◌≢◌, ℕ, zero, suc, ◌<◌, List, [], ◌∷◌, Some, map, refl}
+use Rattle.std.proofs.Common.{◌≡◌, ℕ, ◌<◌, List, Some, refl}
 use Rattle.std.proofs.Common.{subst, arith}
 use Rattle.std.proofs.lemmas.Option.{slice_get_within}
 use Rattle.std.specs.Prelude.{slice_get}
+use Rattle.model_history.specs.ListLaws.{mapped}
 use Rattle.model_line.specs.{declared.line.Line.Line, declared.script.Script.Script}
 use Rattle.model_line.specs.{Parameters.terminal_count, Fits.Fits}
 use Rattle.model_logic.specs.Choice.{Choice, IsInside, declared_box, steady_choice}
 use Rattle.model_logic.specs.Histories.{IsLineHistory, with_derived_trips}
-use Rattle.model_logic.specs.Rule.{Rule, Held, Broken, Unknown, rule_of}
+use Rattle.model_logic.specs.Rule.{rule_of}
 use Rattle.model_logic.specs.Laws.{LineLaws}
+use Rattle.model_logic.specs.RuleLaws.{only_unknown}
 use Rattle.model_timing.specs.Laws.{CandidatesAreInside, TimingsInsideAreChoicesInside}
 use Rattle.model_timing.specs.{Candidates.candidate, Candidates.candidate_count}
-use Rattle.model_timing.specs.{Choice.timing_choice}
+use Rattle.model_timing.specs.Choice.{timing_choice}
 use Rattle.cert_claims.specs.text.Grammar.{Claims, HasOneEach, Verdict as Written, yes, no, undecided}
 use Rattle.judge_verdict.specs.declared.verdict.verdict.Verdict.{Verdict}
 use Rattle.judge_verdict.specs.declared.verdict.verdict.Verdict.TheVariants.{Yes, No, Undecided}
@@ -64,19 +66,6 @@ module _ (laws : LineLaws) (timings : TimingsInsideAreChoicesInside) where
       refuted line script k values (accepted.supported k (no values) at)
   accepted_is_true line script said k undecided fits whole accepted at = tt
 
-only_unknown : (r : Rule) → r ≢ Held → r ≢ Broken → r ≡ Unknown
-only_unknown Held not_held not_broken = absurd (not_held refl)
-only_unknown Broken not_held not_broken = absurd (not_broken refl)
-only_unknown Unknown not_held not_broken = refl
-
--- each written verdict is that of a verdict
-verdict_of : (verdicts : List Verdict) (k : ℕ) (x : Written)
-    → slice_get (map written_as verdicts) k ≡ Some x
-    → (v : Verdict) × (slice_get verdicts k ≡ Some v) × (written_as v ≡ x)
-verdict_of [] k x at = absurd (cc)
-verdict_of (v ∷ verdicts) zero x at = let same : written_as v ≡ x = cc in (v, refl, same)
-verdict_of (v ∷ verdicts) (suc k) x at = verdict_of verdicts k x at
-
 by_verdict : (line : Line) (script : Script) (said : Claims) (k : ℕ)
     (is : IsCertified line script said) (v : Verdict) → written_as v ≡ undecided
     → IsVerdict line script k is.history v → IsOpen line script k is.history
@@ -125,7 +114,7 @@ module _ (laws : LineLaws) (timings : TimingsInsideAreChoicesInside)
         let many = (whole line script said is).verdicts in
         let within = slice_get_within said.verdicts k undecided at in
         let (v, here, same) =
-        verdict_of is.verdicts k undecided
+        mapped written_as is.verdicts k undecided
         (subst (λ (l : List Written). slice_get l k ≡ Some undecided) is.written at) in
         open_is_unknown line script said k fits is (omega arith)
         (by_verdict line script said k is v same (is.are_verdicts.each k v here))

@@ -1,7 +1,8 @@
 -- Laws of whole lines: the first one, those of a front, and what is so of each line under a script.
-use Rattle.std.proofs.Common.{◌≡◌, ℕ, Bool, true, false, cond, not, List, [], ◌∷◌}
+use Rattle.std.proofs.Common.{◌≡◌, ℕ, Bool, true, false, cond, List, [], ◌∷◌}
 use Rattle.std.proofs.Common.{◌++◌}
 use Rattle.std.proofs.Common.{refl, sym, ◌∙◌, ap, subst, append_assoc}
+use Rattle.std.proofs.lemmas.Bool.{not-true}
 use Rattle.std.proofs.lemmas.List.{append-nil}
 use Rattle.std.proofs.lemmas.List.Elements.{All-head, All-tail}
 use Rattle.std.specs.List.{All}
@@ -10,10 +11,6 @@ use Rattle.base_text.specs.lines.LineLaws.{both_true}
 use Rattle.cert_claims.specs.text.Grammar.{script_text}
 use Rattle.cert_own.specs.WholeLines.{IsScriptLine, StandsUnder, lines_from, whole_lines}
 
-no_feed : (o : Bool) → not o ≡ true → o ≡ false
-no_feed true e = absurd (cc)
-no_feed false e = refl
-
 first_from : (done line rest : List ℕ) → is_one_line line ≡ true
     → lines_from done (line ++ 10 ∷ rest) ≡ (done ++ line) ∷ whole_lines rest
 first_from done [] rest whole =
@@ -21,7 +18,7 @@ first_from done [] rest whole =
 first_from done (byte ∷ line) rest whole =
     let both = both_true (is_no_feed byte) (is_one_line line) whole in
     ap (λ (o : Bool). cond o (done ∷ whole_lines (line ++ 10 ∷ rest))
-    (lines_from (done ++ byte ∷ []) (line ++ 10 ∷ rest))) (no_feed (is_feed byte) both.0)
+    (lines_from (done ++ byte ∷ []) (line ++ 10 ∷ rest))) (not-true (is_feed byte) both.0)
     ∙ first_from (done ++ byte ∷ []) line rest both.1
     ∙ ap (λ (l : List ℕ). l ∷ whole_lines rest) (append_assoc done (byte ∷ []) line)
 

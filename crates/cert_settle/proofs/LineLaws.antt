@@ -10,8 +10,10 @@ use Rattle.model_timing.specs.{declared.step.Step.Step, Inside.IsStepInside}
 use Rattle.base_text.specs.lines.Named.{named}
 use Rattle.cert_settle.specs.Known.{Known}
 use Rattle.cert_settle.specs.Grammar.{name_of_terminal, step_line, step_text}
-use Rattle.cert_settle.proofs.NumberLaws.{IsSpace, IsAt, no_space, no_at, one_number}
+use Rattle.cert_settle.proofs.NumberLaws.{IsAt, no_at}
 use Rattle.cert_split.specs.text.StretchLaws.{backs_tell, fronts_tell, Unmarked}
+use Rattle.cert_split.specs.text.NumberLaws.{IsSpace, no_space, one_number}
+use Rattle.cert_split.specs.text.ParamLaws.{one_param}
 
 -- a line of a word, a name and a number tells the name and the number
 pub one_named : (word name other : List ℕ) (n m : ℕ) → n < 2 ^ 32 → m < 2 ^ 32
@@ -22,15 +24,6 @@ one_named word name other n m small little same =
     (ap (drop 1) (append_cancel_left word (32 ∷ (name ++ (32 ∷ decimal n)))
     (32 ∷ (other ++ (32 ∷ decimal m))) same)) in
     (parts.0, one_number n m small little parts.1)
-
-pub one_param : Known → (line : Line) (p q : ℕ) → p < param_count line → q < param_count line
-    → parameter_name line p ≡ parameter_name line q → p ≡ q
-one_param known line p q here there same =
-    elim (cases_order p q) [
-      | inl is ↦ is
-      | inr (inl less) ↦ absurd ((known.names line).differ p q less there same)
-      | inr (inr more) ↦ absurd ((known.names line).differ q p more here (sym same))
-    ]
 
 pub one_terminal : (line : Line) (p q : ℕ) → p < terminal_count line → q < terminal_count line
     → name_of_terminal line p ≡ name_of_terminal line q → p ≡ q
@@ -85,7 +78,7 @@ one_step known line s t a b same =
     (no_at (parameter_name line s.param) ((known.names line).no_at s.param x.0))
     (no_at (parameter_name line t.param) ((known.names line).no_at t.param y.0)) same in
     let param : s.param ≡ t.param =
-    one_param known line s.param t.param x.0 y.0 parts.0 in
+    one_param line (known.names line) s.param t.param x.0 y.0 parts.0 in
     ap (λ (p : ℕ). record { param = p; from = s.from; value = s.value }) param
     ∙ ap (λ (f : ℕ). record { param = t.param; from = f; value = s.value }) parts.1.0
     ∙ ap (λ (v : ℕ). record { param = t.param; from = t.from; value = v }) parts.1.1

@@ -1,5 +1,5 @@
 -- What a node's line can say over the box of a part.
-use Rattle.std.proofs.Common.{◌≡◌, ◌≢◌, ◌<◌, ◌^◌, ℕ, List, Bool, false, arith, refl}
+use Rattle.std.proofs.Common.{◌≡◌, ◌≢◌, ◌<◌, ◌^◌, ℕ, List, Bool, false, arith}
 use Rattle.std.specs.Prelude.{codes}
 use Rattle.std.specs.Bool.{Decides}
 use Rattle.model_line.specs.{declared.line.Line.Line, SetBounds.SameButParams}
@@ -7,7 +7,7 @@ use Rattle.model_line.specs.NamesByNumber.{parameter_name}
 use Rattle.model_logic.specs.Choice.{Box, declared_box}
 use Rattle.model_settle.specs.CaseTrees.{HasCases}
 use Rattle.model_logic.specs.Boxes.{CanSplit, CanSplit as CanSplitPart}
-use Rattle.judge_split.specs.{Parts.IsPart}
+use Rattle.judge_split.specs.Parts.{IsPart}
 use Rattle.judge_cases.specs.declared.node.CaseNode.{CaseNode}
 use Rattle.judge_cases.specs.declared.node.CaseNode.TheVariants as node
 use Rattle.cert_settle.specs.Known.{Known}
@@ -64,16 +64,6 @@ no_node line room root bytes a b x y da db splits cases (node.Split param mid) m
     splits param mid may.left.deep may.left.many may.can is
 no_node line room root bytes a b x y da db splits cases (node.Case terminal tick) may is =
     cases terminal tick may.left.deep may.left.many may.can is
-
-pub same_line : (line : Line) → SameButParams line line
-same_line line = record {
-  tick_us = refl;
-  horizon = refl;
-  scheme = refl;
-  zone1_trip = refl;
-  terminals = refl;
-  channels = refl;
-}
 
 -- what may stand over the box of a part may stand over each box that it stands for
 pub may_in_box : Known → (line part : Line) (room depth : ℕ) (box : Box) (n : CaseNode)

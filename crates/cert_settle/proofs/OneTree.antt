@@ -2,9 +2,9 @@
 use Rattle.std.proofs.Common.{◌≡◌, ℕ, List, [], ◌++◌, sym, ◌∙◌, append_assoc}
 use Rattle.std.proofs.Common.{refl}
 use Rattle.std.proofs.lemmas.List.{append-nil}
+use Rattle.model_history.specs.BelowLaws.{neither_below}
 use Rattle.model_line.specs.{declared.line.Line.Line, declared.script.Script.Script}
 use Rattle.model_settle.specs.CaseTrees.{CaseTree, Yes, Undecided, Split, Case}
-use Rattle.cert_claims.specs.check.ScriptLaws.{same_number}
 use Rattle.judge_cases.specs.declared.node.CaseNode.{CaseNode}
 use Rattle.judge_cases.specs.declared.node.CaseNode.TheVariants as node
 use Rattle.judge_cases.specs.Nodes.{preorder}
@@ -63,5 +63,5 @@ one_tree t u nodes is are =
 pub leaf_once : (line : Line) (script : Script) (k : ℕ) (all : List Leaf) (n m : ℕ)
     → IsFirstNotShown line script k all n → IsFirstNotShown line script k all m → n ≡ m
 leaf_once line script k all n m a b =
-    same_number n m (λ lt. a.not_shown (b.before n a.leaf lt a.at a.yes))
+    neither_below n m (λ lt. a.not_shown (b.before n a.leaf lt a.at a.yes))
     (λ lt. b.not_shown (a.before m b.leaf lt b.at b.yes))

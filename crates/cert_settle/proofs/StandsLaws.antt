@@ -6,6 +6,7 @@ use Rattle.model_timing.specs.{declared.step.Step.Step, Inside.IsStepInside}
 use Rattle.model_line.specs.NamesByNumber.{parameter_name}
 use Rattle.model_settle.specs.CaseTrees.{HasCases}
 use Rattle.std.specs.Prelude.{codes}
+use Rattle.cert_split.specs.text.ParamLaws.{one_param}
 use Rattle.base_text.specs.lines.NamedLaws.{first_same}
 use Rattle.cert_claims.specs.{text.Grammar.no_words, text.Grammar.AreNumbers, text.NumberLaws.numbers_tell}
 use Rattle.judge_cases.specs.declared.node.CaseNode.{CaseNode}
@@ -14,7 +15,7 @@ use Rattle.cert_settle.specs.Known.{Known}
 use Rattle.cert_settle.specs.Grammar.{Place, fixed, result_over, roots, after_step, Stands}
 use Rattle.cert_settle.specs.Grammar.{Said, says_nothing, says_step, says_no, says_node}
 use Rattle.cert_settle.specs.Grammar.{MayStand, node_text, step_text, Root, name_of_terminal}
-use Rattle.cert_settle.proofs.LineLaws.{one_named, one_param, one_terminal, one_step}
+use Rattle.cert_settle.proofs.LineLaws.{one_named, one_terminal, one_step}
 
 -- ---- what a line can say wherever it stands
 
@@ -86,7 +87,7 @@ module _ (known : Known) (line : Line) where
   one_node (node.Split p mid) (node.Split q middle) may can same =
       let parts = one_named (codes "split") (parameter_name line p) (parameter_name line q) mid middle
       may.1 can.1 same in
-      let param : p ≡ q = one_param known line p q may.0 can.0 parts.0 in
+      let param : p ≡ q = one_param line (known.names line) p q may.0 can.0 parts.0 in
       ap (λ (i : ℕ). node.Split i mid) param ∙ ap (λ (i : ℕ). node.Split q i) parts.1
   one_node (node.Split p mid) (node.Case k t) may can same =
       absurd (let e : ◌≡◌ {A = ℕ} 115 99 = first_same _ _ same in omega arith)

@@ -4,8 +4,9 @@ use Rattle.std.proofs.Common.{decimal, arith, ◌-◌}
 use Rattle.std.proofs.lemmas.List.{take_at, drop_at, append_cancel_left, take_all, length-drop}
 use Rattle.std.specs.Prelude.{codes, ◌==◌}
 use Rattle.std.specs.List.{position_or_len}
+use Rattle.cert_split.specs.text.NumberLaws.{no_space}
 use Rattle.cert_settle.specs.Grammar.{step_line}
-use Rattle.cert_settle.proofs.NumberLaws.{no_space, first_space}
+use Rattle.cert_settle.proofs.NumberLaws.{first_space}
 
 -- what stands from a place on is all that stands behind it
 pub tail_whole : (n : ℕ) (xs : List ℕ) → take (length xs - n) (drop n xs) ≡ drop n xs

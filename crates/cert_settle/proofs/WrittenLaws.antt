@@ -1,5 +1,5 @@
 -- The text of results is a text of settled trees that says them.
-use Rattle.std.proofs.Common.{◌≡◌, ◌≤◌, ◌<◌, ◌-◌, ◌+◌, ◌==◌, ℕ, Bool, true, false, cond, List}
+use Rattle.std.proofs.Common.{◌≡◌, ◌≤◌, ◌-◌, ◌+◌, ℕ, true, List}
 use Rattle.std.proofs.Common.{[], ◌∷◌, ◌++◌, length, map, refl, sym, ◌∙◌, ap, subst, arith}
 use Rattle.std.proofs.Common.{append_assoc}
 use Rattle.std.proofs.Math.Nat.{le-max_left, le-max_right}
@@ -9,7 +9,6 @@ use Rattle.std.proofs.lemmas.List.Concat.{flat_map-append}
 use Rattle.std.proofs.lemmas.List.Elements.{All-head, All-tail}
 use Rattle.std.specs.Prelude.{codes}
 use Rattle.std.specs.List.{All, flat_map}
-use Rattle.model_history.specs.Rails.{Ends}
 use Rattle.model_line.specs.{declared.line.Line.Line, declared.script.Script.Script}
 use Rattle.model_line.specs.{Parameters.param_count, Fits.Fits}
 use Rattle.model_logic.specs.Choice.{Box, declared_box}
@@ -37,10 +36,11 @@ use Rattle.cert_settle.specs.Grammar.{result_said, step_text}
 use Rattle.cert_settle.specs.Grammar.{tree_said, part_said, IsSettleText}
 use Rattle.cert_settle.specs.{Known.Known, Text.nodes_text, Text.result_text, Text.trees_text}
 use Rattle.cert_settle.specs.{Text.part_text, Text.parts_text, Text.settle_text}
-use Rattle.cert_settle.specs.{Text.steps_text}
+use Rattle.cert_settle.specs.Text.{steps_text}
 use Rattle.cert_split.specs.text.NameLaws.{IsLineUpTo, name_stands, terminals_stand}
 use Rattle.cert_claims.specs.{text.NameLaws.names_count, text.NumberLaws.numbers_whole}
 use Rattle.cert_split.specs.text.PairLaws.{stand_one, stand_headed, pairs_stand}
+use Rattle.cert_split.specs.text.LowLaws.{IsLow, low_declared, low_lower, low_upper}
 use Rattle.cert_settle.proofs.PrintLaws.{tree_lines, trees_both}
 use Rattle.cert_settle.proofs.{WholeLaws.node_whole, WholeLaws.step_whole, StandsLaws.of_line}
 
@@ -49,32 +49,6 @@ abbrev Stood : Line → List Place → List Said → List ℕ → List Place →
 Stood line places said text left rest = Lines (Stands line) opens places said text left rest
 
 -- ---- a tree
-
--- no interval goes past 4,000 ticks
-abbrev pub IsLow : Line → Box → Type 0
-IsLow line box = (i : ℕ) → i < param_count line → (box.ends i).greatest ≤ 4000
-
-pub low_declared : Known → (line : Line) → IsLow line (declared_box line)
-unfolding declared_box
-low_declared known line = known.intervals.within line
-
-one_of_two : (b : Bool) (x y : Ends) → x.greatest ≤ 4000 → y.greatest ≤ 4000
-    → (cond b x y).greatest ≤ 4000
-one_of_two true x y a b = a
-one_of_two false x y a b = b
-
-pub low_lower : (line : Line) (box : Box) (param mid : ℕ) → mid ≤ 4000 → IsLow line box
-    → IsLow line (lower_half box param mid)
-low_lower line box param mid small low = λ i lt.
-    one_of_two (i == param) (record { least = (box.ends param).least; greatest = mid })
-    (box.ends i) small (low i lt)
-
-pub low_upper : (line : Line) (box : Box) (param mid : ℕ) → param < param_count line → IsLow line box
-    → IsLow line (upper_half box param mid)
-low_upper line box param mid here low = λ i lt.
-    one_of_two (i == param)
-    (record { least = mid + 1; greatest = (box.ends param).greatest })
-    (box.ends i) (low param here) (low i lt)
 
 -- the text of a node and of the two trees below it, in front of another
 branch_lines : (line : Line) (root : CaseNode) (pre post : List CaseNode) (text : List ℕ)
@@ -271,8 +245,8 @@ module _ (known : Known) (line : Line) where
       let P : List CaseNode → Type 0 = λ l. Stood line (result_over (declared_box line) ∷ later)
       (map says_node l ++ more) (nodes_text line l ++ text) left rest in
       subst P (sym is.are) (root_stands line (most_branches - branch_count is.tree)
-      (declared_box line) is.tree later more text left rest (low_declared known line) is.branches
-      is.low (omega (arith, is.few)) next)
+      (declared_box line) is.tree later more text left rest (low_declared known.intervals line)
+      is.branches is.low (omega (arith, is.few)) next)
   result_stands (fails steps numbers) later more text left rest is next =
       let place : List Place = result_over (declared_box line) ∷ later in
       let no : List ℕ = fed (no_words numbers) in

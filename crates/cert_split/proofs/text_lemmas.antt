@@ -1,7 +1,6 @@
 pub mod FewLines
 pub mod FoundLaws
 pub mod NodeLaws
-pub mod NumberLaws
 pub mod PrintLaws
 pub mod ReadLaws
 pub mod SaidLaws

@@ -5,5 +5,8 @@ pub mod Piece
 pub mod Reading
 pub mod NameLaws
 pub mod StretchLaws
+pub mod NumberLaws
+pub mod ParamLaws
+pub mod LowLaws
 pub mod ToldLaws
 pub mod PairLaws

@@ -1,5 +1,5 @@
-pub mod SameTree
 pub mod Each
+pub mod EachLaws
 pub mod Roles
 pub mod Parts
 pub mod Lookup

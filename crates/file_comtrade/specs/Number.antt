@@ -1,17 +1,10 @@
 -- Numbers written in decimal digits.
-use Rattle.std.specs.Prelude.{◌&&◌, ◌==◌, ◌+◌, ◌-◌, ◌*◌, ℕ, Bool, List, [], ◌∷◌, Option, Some, None}
+use Rattle.std.specs.Prelude.{◌&&◌, ◌==◌, ◌+◌, ◌-◌, ℕ, List, [], ◌∷◌, Option, Some, None}
 use Rattle.std.specs.Prelude.{length, take, drop, fold, nat_le, nat_lt, min, replicate}
 use Rattle.std.specs.Prelude.{if◌then◌else◌, option_and_then}
 use Rattle.std.specs.List.{list_all}
+use Rattle.base_text.specs.store.Number.{is_digit, with_digit}
 use Rattle.file_comtrade.specs.Text.{cut_at}
-
--- the byte is one of `0` to `9`
-abbrev pub is_digit : ℕ → Bool
-is_digit byte = nat_le 48 byte && nat_le byte 57
-
--- a number with one digit more behind it
-abbrev pub with_digit : ℕ → ℕ → ℕ
-with_digit value byte = value * 10 + (byte - 48)
 
 -- what a number is with these bytes behind it, if all are digits and it is below 2^64
 abbrev pub digits_onto : ℕ → List ℕ → Option ℕ

@@ -2,8 +2,9 @@
 
 ghost use Rattle.std.specs.Prelude.{◌≡◌, ◌≤◌, replicate, MatchOption, IfSome};
 ghost use Rattle.std.specs.List.{list_all};
-ghost use Rattle.file_comtrade.specs.Number.{is_digit, digits_onto, whole_of, natural_of, scaled_of, decimals_of};
-ghost use Rattle.file_comtrade.specs.Number.{plain_of, exponent_cut, places_moved, fewer, more};
+ghost use Rattle.base_text.specs.store.Number.{is_digit};
+ghost use Rattle.file_comtrade.specs.Number.{digits_onto, whole_of, natural_of, scaled_of};
+ghost use Rattle.file_comtrade.specs.Number.{decimals_of, plain_of, exponent_cut, places_moved, fewer, more};
 ghost use Rattle.file_comtrade.specs.Number.{scaled_parts, scaled_digits};
 
 use crate::text::cut;

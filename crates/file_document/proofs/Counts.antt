@@ -1,8 +1,7 @@
 -- How many items an array has.
-use Rattle.std.proofs.Common.{◌≡◌, ◌<◌, ◌≤◌, ℕ, false, List, [], ◌∷◌, length, Ok, Err, refl}
+use Rattle.std.proofs.Common.{◌≡◌, ◌<◌, ◌≤◌, ℕ, List, [], ◌∷◌, length, Ok, Err, refl}
 use Rattle.std.proofs.Common.{le-leb, arith}
-use Rattle.std.proofs.lemmas.Bool.Decides.{nat_tests}
-use Rattle.std.specs.Prelude.{nat_le}
+use Rattle.std.proofs.lemmas.Bool.{lt-leb}
 use Rattle.toml.specs.{View.items_view, declared.value.Value.Value}
 use Rattle.file_document.specs.declared.fault.DocumentFault.TheVariants as fault
 use Rattle.file_document.specs.Keys.{count_of, counted}
@@ -10,9 +9,6 @@ use Rattle.file_document.specs.Keys.{count_of, counted}
 count_is : (vs : List Value) → count_of (items_view vs) ≡ length vs
 count_is [] = refl
 count_is (v ∷ vs) = let rest = count_is vs in omega arith
-
-less_false : (a b : ℕ) → b < a → nat_le a b ≡ false
-less_false a b less = grind (arith, nat_tests)
 
 module _ (path : List ℕ) (least greatest : ℕ) (vs : List Value) where
   pub counted_ok : least ≤ length vs → length vs ≤ greatest
@@ -22,9 +18,9 @@ module _ (path : List ℕ) (least greatest : ℕ) (vs : List Value) where
 
   pub counted_few : length vs < least
       → counted path least greatest (items_view vs) ≡ Err (fault.Range path)
-  counted_few less = rw (count_is vs, less_false least (length vs) less)
+  counted_few less = rw (count_is vs, lt-leb least (length vs) less)
 
   pub counted_many : least ≤ length vs → greatest < length vs
       → counted path least greatest (items_view vs) ≡ Err (fault.Range path)
   counted_many some more =
-      rw (count_is vs, le-leb least (length vs) some, less_false (length vs) greatest more)
+      rw (count_is vs, le-leb least (length vs) some, lt-leb (length vs) greatest more)

@@ -9,6 +9,7 @@ mod fault;
 pub mod keys;
 mod path;
 mod time_fault;
+pub mod words;
 
 pub use fault::DocumentFault;
 pub use path::Path;

@@ -13,7 +13,6 @@ use Rattle.std.proofs.lemmas.List.{map-append, length-map}
 use Rattle.std.proofs.lemmas.List.Folds.{list_all-append, list_any_at}
 use Rattle.std.proofs.lemmas.Slice.Eq.{bytes_eq-Decides}
 use Rattle.toml.specs.Data.{Items}
-use Rattle.model_line.specs.declared.line.Scheme.TheVariants.{Pott, Putt, Dcb, Dcub, Dtt}
 use Rattle.model_line.specs.Settings.{OwnedSetting, owned_by, terminal_settings, channel_settings}
 use Rattle.model_line.specs.Settings.{settings_of_terminals}
 use Rattle.model_line.specs.Terminals.{names_of, are_plain_names, NamesDiffer, has_flags}
@@ -25,6 +24,7 @@ use Rattle.model_line.specs.{declared.line.Scheme.Scheme, declared.line.Param.Pa
 use Rattle.model_line.specs.{declared.line.Line.Line, PlainNames.is_plain_name}
 use Rattle.model_line.specs.{Channels.AreChannelsBelow, Laws.SettingsAreCounted}
 use Rattle.model_line.specs.declared.line.Owner.TheVariants as owner
+use Rattle.model_line.specs.DelayOrderLaws.{some_settings}
 use Rattle.file_line.specs.Lines.{LineValues, intervals_of, line_values}
 use Rattle.file_line.specs.TerminalTables.{terminal_at, terminals_at}
 use Rattle.file_line.specs.{ChannelTables.channel_at, ChannelTables.channels_at, LineFiles.whole}
@@ -194,13 +194,6 @@ delays_more n k old new m some count g here before =
     rw (joined, get_or-append (least_ends old) (least_ends g.added) 0 (n + c * k) within)
     (before c lt))
     (rw (← count) here)
-
-some_settings : (s : Scheme) → 1 ≤ length (channel_settings s)
-some_settings Pott = omega arith
-some_settings Putt = omega arith
-some_settings Dcb = omega arith
-some_settings Dcub = omega arith
-some_settings Dtt = omega arith
 
 channel_kept :
     (line more : LineValues) → ChannelsKept line → IsOneMoreChannel line more → ChannelsKept more

@@ -1,10 +1,8 @@
 -- A printed terminal is read back.
-use Rattle.std.proofs.Common.{◌≡◌, ◌≢◌, ◌+◌, ◌<◌, ◌≤◌, ◌&&◌, ◌||◌, ◌++◌, ℕ, Bool, true}
+use Rattle.std.proofs.Common.{◌≡◌, ◌+◌, ◌<◌, ◌≤◌, ◌&&◌, ◌||◌, ◌++◌, ℕ, Bool, true}
 use Rattle.std.proofs.Common.{false, not, List, [], ◌∷◌, length, take, get_or, Option}
 use Rattle.std.proofs.Common.{Ok, refl, sym, ap, subst, ◌∙◌, arith, codes}
-use Rattle.std.proofs.lemmas.Bool.{false_from_ne_true}
 use Rattle.std.proofs.lemmas.List.{get_or-map, take_more}
-use Rattle.std.proofs.lemmas.Slice.Eq.{bytes_eq-Decides}
 use Rattle.std.specs.Prelude.{is_some}
 use Rattle.std.specs.Str.{bytes_eq}
 use Rattle.std.specs.List.{list_all, list_any}
@@ -18,9 +16,10 @@ use Rattle.model_line.specs.Terminals.{names_of, has_flags, has_no_flag}
 use Rattle.model_line.specs.declared.line.Setting.{Setting}
 use Rattle.model_line.specs.{declared.line.Terminal.Terminal, declared.line.Line.Line}
 use Rattle.model_line.specs.{declared.line.Scheme.Scheme, declared.line.Owner.Owner}
-use Rattle.model_line.specs.{PlainNames.is_plain_name}
-use Rattle.model_line.specs.{FirstPositionLaws.list_any-take_none}
+use Rattle.model_line.specs.PlainNames.{is_plain_name}
+use Rattle.model_line.specs.FirstPositionLaws.{list_any-take_none}
 use Rattle.model_line.specs.declared.line.Owner.TheVariants as owner
+use Rattle.model_line.specs.TextLaws.{bytes_differ}
 use Rattle.model_logic.specs.Laws.{LineLaws}
 use Rattle.file_line.specs.Times.{group_key, required_times}
 use Rattle.file_line.specs.TerminalTables.{no_times, name_at, elements_times}
@@ -34,9 +33,9 @@ use Rattle.file_line.proofs.TimesBack.{undervoltage_whole, guard_whole, weak_who
 use Rattle.file_line.proofs.TerminalHolds.{members, Holds, holds}
 use Rattle.file_line.proofs.ParamPlaces.{intervals, ArePlaced, placed_parts, in_place, placed_from}
 use Rattle.file_line.proofs.ParamPlaces.{settings_within}
-use Rattle.file_line.proofs.{TerminalLaws.own_settings_count}
+use Rattle.file_line.proofs.TerminalLaws.{own_settings_count}
 use Rattle.file_line.specs.PlainTextLaws.{passes}
-use Rattle.file_line.proofs.{ItemSteps.items_back}
+use Rattle.file_line.proofs.ItemSteps.{items_back}
 
 abbrev pub before : Line → ℕ → ℕ
 before line k = length (settings_of_terminals line.scheme 0 (take k line.terminals.items))
@@ -54,10 +53,6 @@ read_terminals line k =
       intervals = take (before line k) (intervals line);
     }
 
-other_bytes : (x y : List ℕ) → x ≢ y → bytes_eq x y ≡ false
-other_bytes x y ne =
-    false_from_ne_true (bytes_eq x y) (λ e. ne ((bytes_eq-Decides x y).0 e))
-
 -- no terminal before has the name of terminal k
 pub new_name :
     (line : Line) (k : ℕ) (t : Terminal) → k < length line.terminals.items
@@ -69,7 +64,7 @@ new_name line k t lt is =
     let mine : get_or (names_of ts) k [] ≡ t.name =
     get_or-map name ts k t [] lt ∙ ap name (sym is) in
     list_any-take_none (λ u. bytes_eq u.name t.name) k ts t
-    (λ j before. other_bytes (get_or ts j t).name t.name
+    (λ j before. bytes_differ (get_or ts j t).name t.name
     (λ same. line.names_once j k before lt
     (get_or-map name ts j t [] (omega arith) ∙ same ∙ sym mine)))
 

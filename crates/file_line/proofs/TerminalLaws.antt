@@ -1,10 +1,11 @@
 -- What the terminals that are read keep.
-use Rattle.std.proofs.Common.{◌≡◌, ◌+◌, ◌<◌, ◌||◌, ◌++◌, ℕ, Bool, true, false, not, List, [], ◌∷◌}
+use Rattle.std.proofs.Common.{◌≡◌, ◌+◌, ◌<◌, ◌||◌, ◌++◌, ℕ, true, false, not, List, [], ◌∷◌}
 use Rattle.std.proofs.Common.{length, Option, Some, None, Ok, refl, subst, arith, codes}
 use Rattle.std.proofs.Common.{length-append}
 use Rattle.std.specs.Prelude.{IsTrue, is_some}
 use Rattle.std.specs.Str.{bytes_eq}
 use Rattle.std.specs.List.{list_any}
+use Rattle.std.proofs.lemmas.Bool.{not-false}
 use Rattle.toml.specs.Data.{Data, Members, get_member}
 use Rattle.model_line.specs.declared.line.Scheme.TheVariants.{Pott, Putt, Dcb, Dcub, Dtt}
 use Rattle.model_line.specs.Settings.{guard_settings, weak_settings, scheme_settings}
@@ -125,10 +126,6 @@ pub record IsOneMoreTerminal (line more : LineValues) : Type 0 where
   pub is :
       record line { terminals = line.terminals ++ terminal ∷ []; intervals = intervals } ≡ more
 
-not_false : (b : Bool) → not b ≡ false → b ≡ true
-not_false true e = refl
-not_false false e = absurd (cc)
-
 name_ok :
     (path : List ℕ) (before : List Terminal) (ms : Members) (name : List ℕ)
     → name_at path before ms ≡ Ok name
@@ -142,7 +139,7 @@ name_ok path before ms name e =
     let same : text ≡ name = same_ok text name e3 in
     subst
     (λ n. (is_plain_name n ≡ true) × (list_any (λ t. bytes_eq t.name n) before ≡ false)) same
-    (not_false (is_plain_name text) plain, new)
+    (not-false (is_plain_name text) plain, new)
 
 named_flags :
     (s : Scheme) (ms : Members) (name : List ℕ)

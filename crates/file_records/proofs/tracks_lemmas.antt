@@ -2,6 +2,5 @@ pub mod AtTicks
 pub mod Mapped
 pub mod InOrder
 pub mod Loops
-pub mod Items
 pub mod Joined
 pub mod Refused

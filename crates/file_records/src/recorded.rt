@@ -13,7 +13,6 @@ mod data;
 mod exported_laws;
 mod laws;
 mod map;
-mod put;
 mod script;
 mod spans;
 

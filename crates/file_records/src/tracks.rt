@@ -17,7 +17,7 @@ mod told;
 mod track;
 
 pub use channel::{ChannelLevels, channel_levels};
-pub use level::{is_on, level_text};
+pub use level::is_on;
 pub use placed::{Placed, RecordBytes};
 pub use placing::place;
 pub use samples::Sampled;

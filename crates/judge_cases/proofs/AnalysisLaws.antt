@@ -1,10 +1,12 @@
 -- From a run under levels to what it tells of views.
-use Rattle.std.proofs.Common.{◌≡◌, ◌<◌, ◌≤◌, ℕ, zero, suc, Bool, List, [], ◌∷◌, Some, None, length}
-use Rattle.std.proofs.Common.{refl, sym, ◌∙◌, ap, subst, arith, ⊎_elim}
+use Rattle.std.proofs.Common.{◌≡◌, ◌<◌, ◌≤◌, ℕ, Bool, List, Some, length}
+use Rattle.std.proofs.Common.{sym, ◌∙◌, ap, subst, arith, ⊎_elim}
 use Rattle.std.proofs.Math.Path.{fun_ext}
 use Rattle.std.proofs.lemmas.Bool.{cases_lt}
 use Rattle.std.proofs.lemmas.Bool.Decides.{nat_tests}
-use Rattle.std.specs.Prelude.{Option, Decides, Contains, All, get_or, slice_get}
+use Rattle.std.specs.Prelude.{Option, Decides, Contains, All, slice_get}
+use Rattle.std.proofs.lemmas.Option.{slice_get_past}
+use Rattle.std.proofs.lemmas.List.{get_or_past}
 use Rattle.model_history.specs.Rails.{Ends, Rails, single}
 use Rattle.model_line.specs.{declared.line.Line.Line, declared.script.Script.Script}
 use Rattle.model_line.specs.Parameters.{param_count}
@@ -16,6 +18,7 @@ use Rattle.model_settle.specs.CaseTrees.{HasCases}
 use Rattle.model_settle.specs.Under.{Excludes, own_pair, SomeIsExcluded}
 use Rattle.net_gates.specs.{NetOf.NetOf, NetOf.IsNetOf, Formulas.formula_of}
 use Rattle.run_step.specs.{LaneBox.own_ends, LaneBox.ends_in}
+use Rattle.run_step.specs.GatePairLaws.{GatesAreTheirKinds}
 use Rattle.model_history.specs.ListLaws.{exists_at}
 use Rattle.run_ticks.specs.{cases.Given.span_box, cases.Runs.AreKeysUnder, cases.Runs.ArePairsUnder}
 use Rattle.run_ticks.specs.cases.UnderWaves.{UnderWavesOf, own_wave}
@@ -26,7 +29,6 @@ use Rattle.judge_cases.specs.Views.{AreViews, AreCases, interval_of, view_box}
 use Rattle.judge_cases.specs.Spans.{AreViewSpans, view_in}
 use Rattle.judge_cases.specs.{Puts.views_level, Puts.assumed_of, Excluded.OneExcluded}
 use Rattle.judge_cases.specs.Analyses.{IsHistoryOf}
-use Rattle.judge_cases.proofs.OneGate.{GatesAreTheirKinds}
 use Rattle.judge_cases.proofs.WantExists.{want_exists}
 
 pub view_exists : (count lane : ℕ) → 1 ≤ count → view_in count lane < count
@@ -37,18 +39,6 @@ view_here count lane inside = grind (arith, nat_tests)
 
 abbrev pub lane_ends : SpanLists → ℕ → Ends
 lane_ends span lane = span_ends span lane
-
-past : {X : Type 0} (xs : List X) (i : ℕ) (d : X) → length xs ≤ i → get_or xs i d ≡ d
-past [] zero d le = refl
-past [] (suc i) d le = refl
-past (x ∷ xs) zero d le = absurd (omega arith)
-past (x ∷ xs) (suc i) d le = past xs i d (omega arith)
-
-none_past : {X : Type 0} (xs : List X) (i : ℕ) → length xs ≤ i → slice_get xs i ≡ None
-none_past [] zero le = refl
-none_past [] (suc i) le = refl
-none_past (x ∷ xs) zero le = absurd (omega arith)
-none_past (x ∷ xs) (suc i) le = none_past xs i (omega arith)
 
 module _ (line : Line) (views : List View) (are : AreViews line views) (spans : List SpanLists)
     (spanned : AreViewSpans line views spans) where
@@ -63,8 +53,8 @@ module _ (line : Line) (views : List View) (are : AreViews line views) (spans : 
         let there : i < length spans = omega (arith, spanned.count, lt) in
         let (span, here) = exists_at spans i there in
         ap (ends_in lane_ends lane) here ∙ spanned.each i span here lane view inside at)
-        (λ le. ap (ends_in lane_ends lane) (none_past spans i (omega (arith, spanned.count, le)))
-        ∙ sym (past view.ends.items i (single 0) (omega (arith, count, le))))
+        (λ le. ap (ends_in lane_ends lane) (slice_get_past spans i (omega (arith, spanned.count, le)))
+        ∙ sym (get_or_past view.ends.items i (single 0) (omega (arith, count, le))))
         (cases_lt i (param_count line))
 
     -- the box of a lane is that of its view

@@ -5,6 +5,7 @@ use Rattle.std.proofs.lemmas.Bool.{cases_lt}
 use Rattle.std.proofs.lemmas.Bool.Decides.{nat_tests}
 use Rattle.std.proofs.lemmas.List.Elements.{All-nil}
 use Rattle.std.specs.Prelude.{Option, get_or, slice_get}
+use Rattle.std.proofs.lemmas.Option.{slice_get_past}
 use Rattle.model_line.specs.declared.line.Line.{Line}
 use Rattle.model_settle.specs.Assumed.{Assumption}
 use Rattle.model_settle.specs.CaseTrees.{HasCases}
@@ -17,12 +18,6 @@ pub drop_at : {X : Type 0} (xs : List X) (i : ℕ) (d : X) → i < length xs
 drop_at [] i d lt = absurd (omega arith)
 drop_at (x ∷ xs) zero d lt = refl
 drop_at (x ∷ xs) (suc i) d lt = drop_at xs i d (omega arith)
-
-none_past : {X : Type 0} (xs : List X) (i : ℕ) → length xs ≤ i → slice_get xs i ≡ None
-none_past [] zero le = refl
-none_past [] (suc i) le = refl
-none_past (x ∷ xs) zero le = absurd (omega arith)
-none_past (x ∷ xs) (suc i) le = none_past xs i (omega arith)
 
 module _ (views : List View) where
   pub below_none : (n k : ℕ) → n ≤ k → assumed_below views n k ≡ []
@@ -43,7 +38,7 @@ module _ (views : List View) where
   below_all k =
       ⊎_elim (λ lt. below_here (length views) k lt)
       (λ le. below_none (length views) k le
-      ∙ sym (ap assumed_of (none_past views k le)))
+      ∙ sym (ap assumed_of (slice_get_past views k le)))
       (cases_lt k (length views))
 
 cases_by : (line : Line) (views : List View) → AreViews line views → (k : ℕ) (o : Option View)

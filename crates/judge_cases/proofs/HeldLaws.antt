@@ -1,14 +1,14 @@
 -- What the bits of an analysis tell of an obligation.
-use Rattle.std.proofs.Common.{◌≡◌, ◌<◌, ◌≤◌, ◌||◌, ◌⊎◌, ℕ, Bool, true, false, List, Some}
-use Rattle.std.proofs.Common.{refl, sym, ◌∙◌, ap, subst, arith, inl, inr}
+use Rattle.std.proofs.Common.{◌≡◌, ◌<◌, ◌||◌, ◌⊎◌, ℕ, Bool, true, false, List, Some}
+use Rattle.std.proofs.Common.{refl, sym, ◌∙◌, ap, subst, inl, inr}
 use Rattle.std.specs.Prelude.{Decides, slice_get}
 use Rattle.model_history.specs.Rails.{Rails}
-use Rattle.model_line.specs.declared.script.Kind.TheVariants.{Internal, External}
 use Rattle.model_line.specs.{declared.line.Line.Line, declared.script.Script.Script}
-use Rattle.model_line.specs.{declared.script.Kind.Kind, Parameters.terminal_count}
+use Rattle.model_line.specs.Parameters.{terminal_count}
 use Rattle.model_logic.specs.{Choice.pair_world_of, Laws.LineLaws, Tree.Tree}
 use Rattle.model_logic.specs.Histories.{PairHistory}
-use Rattle.model_logic.specs.Rule.{Held, IsHeld, is_held, rule_of}
+use Rattle.model_logic.specs.Rule.{Held, is_held, rule_of}
+use Rattle.model_logic.specs.RuleLaws.{held_same}
 use Rattle.model_settle.specs.Assumed.{assumed_level}
 use Rattle.model_settle.specs.Under.{pair_under}
 use Rattle.net_gates.specs.NetOf.{NetOf, IsNetOf, trip_of}
@@ -16,16 +16,6 @@ use Rattle.run_ticks.specs.cases.UnderWaves.{wave_pair}
 use Rattle.judge_verdict.specs.boxes.Terns.{terns_rails}
 use Rattle.judge_cases.specs.{declared.view.View.View, Views.view_box}
 use Rattle.judge_cases.specs.Analyses.{AnalysisOf, IsAnalysis, IsHistoryOf}
-
--- a rule is held wherever the trips are the same
-held_same : (kind : Kind) (deadline horizon : ℕ) (u v : ℕ → Rails) → deadline < horizon
-    → ((t : ℕ) → t < horizon → u t ≡ v t) → IsHeld kind deadline horizon u
-    → IsHeld kind deadline horizon v
-held_same Internal deadline horizon u v early same held =
-    let le : held.0 ≤ deadline = held.1 in
-    (held.0, held.1, sym (ap (λ (r : Rails). r.must) (same held.0 (omega arith))) ∙ held.2)
-held_same External deadline horizon u v early same held =
-    λ t lt. sym (ap (λ (r : Rails). r.may) (same t lt)) ∙ held t lt
 
 module _ (laws : LineLaws) (line : Line) (net : NetOf) (of_line : IsNetOf line net)
     (script : Script) (k : ℕ) (there : k < terminal_count line)
@@ -63,11 +53,3 @@ module _ (laws : LineLaws) (line : Line) (net : NetOf) (of_line : IsNetOf line n
 pub or_either : (a b : Bool) → (a || b) ≡ true → (a ≡ true) ⊎ (b ≡ true)
 or_either true b e = inl refl
 or_either false b e = inr e
-
-pub or_left : (a b : Bool) → a ≡ true → (a || b) ≡ true
-or_left true b e = refl
-or_left false b e = absurd (cc)
-
-pub or_right : (a b : Bool) → b ≡ true → (a || b) ≡ true
-or_right true b e = refl
-or_right false b e = e

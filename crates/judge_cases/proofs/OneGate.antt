@@ -2,7 +2,8 @@
 use Rattle.std.proofs.Common.{◌≡◌, ◌<◌, ◌≤◌, ℕ, zero, suc, List, Some, length, sym, ◌∙◌, ap}
 use Rattle.std.proofs.Common.{subst, arith, ⊎_elim, rules}
 use Rattle.std.proofs.lemmas.Bool.{cases_lt}
-use Rattle.std.specs.Prelude.{slice_get}
+use Rattle.run_step.specs.GatePairLaws.{GatesAreTheirKinds}
+use Rattle.run_step.specs.WalkLaws.{more_arguments}
 use Rattle.model_logic.specs.declared.time.Time.{Time}
 use Rattle.net_gates.specs.declared.gate.GateId.{GateId}
 use Rattle.net_gates.specs.declared.gate.Gate.{Gate}
@@ -12,25 +13,8 @@ use Rattle.net_gates.specs.Gates.{AreGates, HasArguments}
 use Rattle.net_gates.specs.Formulas.{formula_of, kind_over}
 use Rattle.model_history.specs.ListLaws.{exists_at}
 
--- each gate stands for its own kind over the trees of its arguments
-abbrev pub GatesAreTheirKinds : Type 0
-GatesAreTheirKinds = (gates : List Gate) (i : ℕ) (g : Gate) → AreGates gates
-    → slice_get gates i ≡ Some g → formula_of gates i ≡ kind_over gates g
-
 same_number : (a b : GateId) → a.0 ≡ b.0 → a ≡ b
 same_number a b e = search rules
-
--- an argument of an earlier gate is one of a longer list too
-more_arguments : (m n : ℕ) (g : Gate) → m ≤ n → HasArguments m g → HasArguments n g
-more_arguments m n (Const v) le has = has
-more_arguments m n (Seen p) le has = has
-more_arguments m n (Loss c) le has = has
-more_arguments m n (Raw c) le has = has
-more_arguments m n (Not a) le has = omega arith
-more_arguments m n (And a b) le has = let x = has.0 in let y = has.1 in (omega arith, omega arith)
-more_arguments m n (Or a b) le has = let x = has.0 in let y = has.1 in (omega arith, omega arith)
-more_arguments m n (Timer a p d) le has = omega arith
-more_arguments m n (Seal a b) le has = let x = has.0 in let y = has.1 in (omega arith, omega arith)
 
 both_same : (op : GateId → GateId → Gate) (a b x y : GateId) → a ≡ x → b ≡ y → op a b ≡ op x y
 both_same op a b x y e f = ap (λ k. op k b) e ∙ ap (op x) f

@@ -10,8 +10,9 @@ use Rattle.std.specs.Prelude.{Option, cond, slice_get, slice_set}
 use Rattle.std.specs.List.{AllByRecursion}
 use Rattle.model_line.specs.{declared.line.Line.Line, Parameters.terminal_count}
 use Rattle.model_logic.specs.Tree.{Tree}
+use Rattle.model_logic.specs.SameTree.{same_tree}
 use Rattle.model_settle.specs.Assumed.{Assumption, wanted, assumed_level}
-use Rattle.model_settle.specs.{SameTree.same_tree, CaseLaws.SameTreesAreEqual, CaseTrees.HasCases}
+use Rattle.model_settle.specs.{CaseLaws.SameTreesAreEqual, CaseTrees.HasCases}
 use Rattle.net_gates.specs.{NetOf.NetOf, Formulas.formula_of}
 use Rattle.run_ticks.specs.cases.Masks.{IsMask, PutsLevel, IsTimer, AreOfTimers}
 use Rattle.run_ticks.specs.declared.cases.mask.Mask.{Mask}
@@ -19,7 +20,7 @@ use Rattle.model_history.specs.Rails.{Rails}
 use Rattle.judge_verdict.specs.declared.boxes.terns.Terns64.{Terns64}
 use Rattle.judge_verdict.specs.boxes.Terns.{terns_rails}
 use Rattle.judge_cases.specs.{Rows.AreRows, Puts.PutIn, Views.AreCases}
-use Rattle.judge_cases.proofs.{WeakKey.wanted_timer}
+use Rattle.judge_cases.proofs.WeakKey.{wanted_timer}
 use Rattle.model_history.specs.ListLaws.{at_set}
 
 -- a place tells tick and row

@@ -1,31 +1,22 @@
 -- Views of boxes, and of their halves.
 use Rattle.std.proofs.Common.{◌≡◌, ◌≢◌, ◌<◌, ◌≤◌, ◌⊎◌, ℕ, Bool, List, [], Some, length}
-use Rattle.std.proofs.Common.{sym, ◌∙◌, ap, subst, arith, ⊎_elim, inl, inr, length-set, eq-eqb}
-use Rattle.std.proofs.lemmas.Bool.{ne_eqb}
+use Rattle.std.proofs.Common.{sym, ◌∙◌, ap, subst, arith, ⊎_elim, inl, inr, length-set}
 use Rattle.std.proofs.lemmas.Option.{slice_get-get_or}
 use Rattle.std.proofs.lemmas.List.Elements.{All-nil, All-cons}
-use Rattle.std.specs.Prelude.{IsTrue, cond, slice_get, slice_set}
+use Rattle.std.specs.Prelude.{IsTrue, slice_get, slice_set}
 use Rattle.model_history.specs.Rails.{Ends, single}
 use Rattle.model_line.specs.Parameters.{param_count, channel_count, delay_param, declared_ends}
 use Rattle.model_line.specs.Parameters.{is_delay}
 use Rattle.model_line.specs.{declared.line.Line.Line, Laws.DelaysAreParameters}
-use Rattle.model_logic.specs.Boxes.{box_with, ends_with}
+use Rattle.model_line.specs.DelayLaws.{delay_within}
+use Rattle.model_logic.specs.Boxes.{box_with}
 use Rattle.model_logic.specs.Choice.{Box, declared_box}
+use Rattle.model_logic.specs.BoxLaws.{ends_with-here, ends_with-elsewhere}
 use Rattle.model_settle.specs.Assumed.{Assumption}
 use Rattle.model_settle.specs.CaseTrees.{HasCases, with_case}
 use Rattle.judge_cases.specs.declared.view.View.{View}
 use Rattle.judge_cases.specs.Views.{IsView, Views, AreCases, interval_of}
 use Rattle.model_history.specs.ListLaws.{at_set}
-
-ends_here : (ends : ℕ → Ends) (param : ℕ) (new : Ends) (i : ℕ) → i ≡ param
-    → ends_with ends param new i ≡ new
-ends_here ends param new i here =
-    ap (λ (b : Bool). cond b new (ends i)) (eq-eqb i param here)
-
-ends_elsewhere : (ends : ℕ → Ends) (param : ℕ) (new : Ends) (i : ℕ) → (i ≡ param → ⊥)
-    → ends_with ends param new i ≡ ends i
-ends_elsewhere ends param new i other =
-    ap (λ (b : Bool). cond b new (ends i)) (ne_eqb i param other)
 
 read : (es : List Ends) (i : ℕ) → i < length es → slice_get es i ≡ Some (interval_of es i)
 read es i lt = slice_get-get_or es i (single 0) lt
@@ -48,9 +39,6 @@ set_ends es param new i lt =
     (read (slice_set es param new) i longer))
 
 module _ (delays : DelaysAreParameters) (line : Line) where
-  delay_there : (c : ℕ) → c < channel_count line → delay_param line c < param_count line
-  delay_there c lt = delays.exists line (delay_param line c) (delays.told line c lt)
-
   pub declared_is : (view : View) → length view.ends.items ≡ param_count line
       → ((i : ℕ) (e : Ends) → slice_get view.ends.items i ≡ Some e → e ≡ declared_ends line i)
       → view.assumed.items ≡ [] → Views line (declared_box line) [] view
@@ -63,14 +51,14 @@ module _ (delays : DelaysAreParameters) (line : Line) where
         is = record {
           count = count;
           delays = λ c t lt early.
-              subst (λ (e : Ends). 1 ≤ e.least) (sym (own (delay_param line c) (delay_there c lt)))
+              subst (λ (e : Ends). 1 ≤ e.least) (sym (own (delay_param line c) (delay_within line c lt)))
               (delays.from_one line (delay_param line c) (delays.told line c lt));
           cases = subst (AreCases line) (sym none)
               (All-nil (λ (a : Assumption). HasCases line a.terminal a.tick));
         };
         same = record {
           numbers = own;
-          delays = λ c t lt early. own (delay_param line c) (delay_there c lt);
+          delays = λ c t lt early. own (delay_param line c) (delay_within line c lt);
         };
         assumes = none;
       }
@@ -93,7 +81,7 @@ module _ (delays : DelaysAreParameters) (line : Line) where
         here (delay_param line c)
         ∙ ⊎_elim (λ p. absurd (apart c lt p.0)) (λ p. p.1)
         (set_ends view.ends.items param new (delay_param line c)
-        (subst (λ (n : ℕ). delay_param line c < n) (sym is.count) (delay_there c lt)))
+        (subst (λ (n : ℕ). delay_param line c < n) (sym is.count) (delay_within line c lt)))
 
     pub half_is : IsView line half
     half_is = record {
@@ -111,8 +99,8 @@ module _ (delays : DelaysAreParameters) (line : Line) where
         numbers = λ i lt.
             here i
             ∙ ⊎_elim
-            (λ p. p.1 ∙ sym (ends_here box.ends param new i p.0))
-            (λ p. p.1 ∙ views.same.numbers i lt ∙ sym (ends_elsewhere box.ends param new i p.0))
+            (λ p. p.1 ∙ sym (ends_with-here box.ends param new i p.0))
+            (λ p. p.1 ∙ views.same.numbers i lt ∙ sym (ends_with-elsewhere box.ends param new i p.0))
             (set_ends view.ends.items param new i
             (subst (λ (n : ℕ). i < n) (sym is.count) lt));
         delays = λ c t lt early. half_delay c lt ∙ views.same.delays c t lt early;

@@ -1,6 +1,7 @@
 -- A net of a line has a gate that a weak terminal's echo starts from.
 use Rattle.std.proofs.Common.{◌≡◌, ◌<◌, ℕ, List, sym, ◌∙◌, subst, arith, length}
 use Rattle.std.specs.Prelude.{IsTrue}
+use Rattle.run_step.specs.GatePairLaws.{GatesAreTheirKinds}
 use Rattle.model_line.specs.{declared.line.Line.Line, Parameters.terminal_count}
 use Rattle.model_logic.specs.{Elements.is_weak, Tree.Tree}
 use Rattle.model_logic.specs.Tree as tree
@@ -11,7 +12,6 @@ use Rattle.net_gates.specs.Gates.{AreGates, HasArguments}
 use Rattle.net_gates.specs.Formulas.{formula_of, kind_over, Stands}
 use Rattle.net_gates.specs.NetOf.{NetOf, IsNetOf, key_of}
 use Rattle.model_history.specs.ListLaws.{exists_at}
-use Rattle.judge_cases.proofs.OneGate.{GatesAreTheirKinds}
 use Rattle.judge_cases.proofs.WeakKey.{weak_key, weak_exists, ahead, still}
 
 module _ (gates : List Gate) where

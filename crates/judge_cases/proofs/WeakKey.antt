@@ -1,15 +1,14 @@
 -- What a weak terminal keys has what its echo starts from.
-use Rattle.std.proofs.Common.{◌≡◌, ◌||◌, ℕ, zero, suc, Bool, true, false, not, refl, sym, ◌∙◌, ap}
+use Rattle.std.proofs.Common.{◌≡◌, ℕ, zero, suc, Bool, true, false, sym, ◌∙◌, ap}
 use Rattle.std.proofs.Common.{List, [], ◌∷◌, ◌<◌, length, arith}
-use Rattle.std.proofs.lemmas.Bool.{and_parts}
 use Rattle.std.specs.Prelude.{IsTrue, cond, map, get_or}
-use Rattle.std.specs.List.{list_all}
 use Rattle.model_line.specs.declared.line.Scheme.TheVariants.{Pott, Putt, Dcb, Dcub, Dtt}
 use Rattle.model_line.specs.declared.line.Setting.TheVariants.{EchoPickup, EchoPulse}
 use Rattle.model_line.specs.{declared.line.Line.Line, declared.line.Scheme.Scheme}
-use Rattle.model_line.specs.{declared.line.Terminal.Terminal}
-use Rattle.model_line.specs.Terminals.{has_no_flag, flags_fit}
+use Rattle.model_line.specs.declared.line.Terminal.{Terminal}
+use Rattle.model_line.specs.Terminals.{flags_fit}
 use Rattle.model_line.specs.Parameters.{terminal_count}
+use Rattle.model_line.specs.SettingFlagLaws.{none_weak}
 use Rattle.model_logic.specs.Elements.{is_weak, zone2}
 use Rattle.model_logic.specs.Logic.{key_by, key_tree}
 use Rattle.model_logic.specs.Permissive.{permission_by, permission, terminal_setting, quiet}
@@ -23,20 +22,6 @@ use Rattle.net_gates.specs.declared.gate.Gate.{Gate}
 use Rattle.net_gates.specs.declared.gate.Gate.TheVariants as gate
 use Rattle.net_gates.specs.Formulas.{formula_of, kind_over}
 use Rattle.model_settle.specs.Assumed.{wanted}
-
--- a terminal that has no flag is not weak
-not_weak : (weak guard : Bool) → not (weak || guard) ≡ true → weak ≡ false
-not_weak true guard h = absurd (cc)
-not_weak false guard h = refl
-
-none_weak : (ts : List Terminal) (k : ℕ) → list_all has_no_flag ts ≡ true
-    → get_or (map (λ t. t.weak) ts) k false ≡ false
-none_weak [] zero h = refl
-none_weak [] (suc k) h = refl
-none_weak (t ∷ ts) zero h =
-    not_weak t.weak t.guard (and_parts (has_no_flag t) (list_all has_no_flag ts) h).0
-none_weak (t ∷ ts) (suc k) h =
-    none_weak ts k (and_parts (has_no_flag t) (list_all has_no_flag ts) h).1
 
 weak_in : (ts : List Terminal) (k : ℕ) → get_or (map (λ t. t.weak) ts) k false ≡ true
     → k < length ts

@@ -1,33 +1,18 @@
 -- The losses of a line with another greatest number for one parameter.
-use Rattle.std.proofs.Common.{◌≡◌, ◌<◌, ◌≤◌, ◌+◌, ℕ, List, Some, Option, None, suc, sym, ap, subst}
-use Rattle.std.proofs.Common.{arith, ⊎_elim, length, zero, [], ◌∷◌, get_or}
+use Rattle.std.proofs.Common.{◌≡◌, ◌<◌, ◌≤◌, ◌+◌, ℕ, List, Some, Option, None, sym, subst}
+use Rattle.std.proofs.Common.{arith, ⊎_elim, length}
 use Rattle.std.proofs.lemmas.Bool.{cases_lt}
 use Rattle.std.proofs.lemmas.Option.{slice_get_within}
 use Rattle.std.specs.Prelude.{slice_get}
 use Rattle.model_line.specs.Parameters.{terminal_count, param_count, declared_ends}
 use Rattle.model_line.specs.{declared.line.Line.Line, declared.script.Script.Script}
-use Rattle.model_line.specs.{SetBounds.SameButParams, WithBounds.IsWithBounds}
+use Rattle.model_line.specs.WithBounds.{IsWithBounds}
+use Rattle.model_line.specs.SameLineLaws.{exchanged}
 use Rattle.model_logic.specs.Choice.{Box, declared_box}
 use Rattle.model_logic.specs.{Boxes.IsSameBox, HeldOver.IsHeldOver}
+use Rattle.model_logic.specs.BoxLaws.{turned}
 use Rattle.judge_report.specs.Lost.{IsScriptHeld, AreHeld, AllHeld, IsLoss}
 use Rattle.judge_report.specs.{Known.Known, declared.upper_end.Lost.Lost, Raised.raised}
-
-same_box_sym : (line : Line) (a b : Box) → IsSameBox line a b → IsSameBox line b a
-same_box_sym line a b same = record {
-  numbers = λ i lt. sym (same.numbers i lt);
-  delays = λ c t lt early. sym (same.delays c t lt early);
-}
-
--- the two lines exchanged
-exchanged : (line other : Line) → SameButParams line other → SameButParams other line
-exchanged line other same = record {
-  tick_us = sym same.tick_us;
-  horizon = sym same.horizon;
-  scheme = sym same.scheme;
-  zone1_trip = sym same.zone1_trip;
-  terminals = sym same.terminals;
-  channels = sym same.channels;
-}
 
 module _ (known : Known) (line other : Line) (param v : ℕ) (here : param < param_count line)
     (is : IsWithBounds line param (declared_ends line param).least v other) where
@@ -38,7 +23,7 @@ module _ (known : Known) (line other : Line) (param v : ℕ) (here : param < par
       → IsHeldOver line script k (raised line param v)
   moved script k held =
       known.held.same line script k (declared_box other) (raised line param v)
-      (same_box_sym line (declared_box other) (raised line param v) same)
+      (turned line (declared_box other) (raised line param v) same)
       (known.held.lines other line script k (declared_box other)
       (exchanged line other is.rest) held)
 
@@ -112,9 +97,3 @@ all_scripts line scripts box n le all = record {
 }
 
 -- ---- elements by index
-
-pub at_index : {X : Type 0} (xs : List X) (i : ℕ) (x : X) → i < length xs → x ≡ get_or xs i x
-    → slice_get xs i ≡ Some x
-at_index [] i x lt is = absurd (omega arith)
-at_index (y ∷ xs) zero x lt is = ap Some (sym is)
-at_index (y ∷ xs) (suc i) x lt is = at_index xs i x (omega arith) is

@@ -1,9 +1,8 @@
 -- What is held up to a number of a parameter, and the margin.
 use Rattle.std.proofs.Common.{◌≡◌, ◌<◌, ◌≤◌, ◌+◌, ℕ, List, Some, subst, arith}
-use Rattle.std.proofs.lemmas.List.Elements.{All-get_or}
-use Rattle.std.proofs.lemmas.Option.{slice_get_within, get_or_from_slice_get}
 use Rattle.std.specs.Prelude.{slice_get}
 use Rattle.std.specs.List.{All}
+use Rattle.model_history.specs.ListLaws.{all_at}
 use Rattle.model_line.specs.Parameters.{terminal_count, declared_ends}
 use Rattle.model_line.specs.{declared.line.Line.Line, declared.script.Script.Script, Fits.Fits}
 use Rattle.model_logic.specs.Choice.{Choice, IsWithin}
@@ -12,19 +11,12 @@ use Rattle.judge_report.specs.Margin.{IsHeldTo, IsMargin, HasNoMargin, IsLostAt,
 use Rattle.judge_report.specs.{Known.Known, declared.upper_end.Lost.Lost, Raised.raised}
 use Rattle.judge_report.proofs.RaisedLaws.{raised_from_one, raised_within}
 
--- an element of a list of which all is said
-pub one_of_all : {X : Type 0} (P : X → Type 0) (xs : List X) (i : ℕ) (x : X) → All P xs
-    → slice_get xs i ≡ Some x → P x
-one_of_all P xs i x all at =
-    subst P (get_or_from_slice_get xs i x x at)
-    (All-get_or P xs i x (slice_get_within xs i x at) all)
-
 module _ (known : Known) (line : Line) (scripts : List Script) (param : ℕ)
     (fit : All (Fits line) scripts) where
   early : (s : ℕ) (script : Script) → slice_get scripts s ≡ Some script
       → script.deadline < line.horizon
   early s script at =
-      known.lines.deadlines line script (one_of_all (Fits line) scripts s script fit at)
+      known.lines.deadlines line script (all_at (Fits line) scripts s script fit at)
 
   pub held_below : (u v : ℕ) → u ≤ v → IsHeldTo line scripts param v
       → IsHeldTo line scripts param u

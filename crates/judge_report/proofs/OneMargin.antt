@@ -1,9 +1,9 @@
 -- One margin at most, and one obligation that is lost; and it is an obligation of the scripts.
 use Rattle.std.proofs.Common.{◌≡◌, ◌<◌, ℕ, List, Option, Some, None, length, refl}
-use Rattle.std.proofs.Common.{◌∙◌, ap, subst, arith, ⊎_elim}
-use Rattle.std.proofs.lemmas.Bool.{cases_lt}
+use Rattle.std.proofs.Common.{◌∙◌, ap, subst, arith}
 use Rattle.std.proofs.lemmas.Option.{slice_get_within}
 use Rattle.std.specs.Prelude.{MatchOption, IfSome, slice_get}
+use Rattle.model_history.specs.BelowLaws.{neither_below}
 use Rattle.model_line.specs.{Parameters.terminal_count, declared.line.Line.Line}
 use Rattle.model_line.specs.declared.script.Script.{Script}
 use Rattle.model_logic.specs.Choice.{Box}
@@ -11,13 +11,6 @@ use Rattle.judge_report.specs.Lost.{IsFirstLost, IsFirstTerminal}
 use Rattle.judge_report.specs.Margin.{HasNoMargin, IsLostAbove, IsLostAtLeast, IsMargin}
 use Rattle.judge_report.specs.Margin.{IsUpperEnd}
 use Rattle.judge_report.specs.{declared.upper_end.Lost.Lost, declared.upper_end.UpperEnd.UpperEnd}
-
--- two numbers of which neither is the smaller
-neither_below : (a b : ℕ) → (a < b → ⊥) → (b < a → ⊥) → a ≡ b
-neither_below a b above below =
-    ⊎_elim (λ lt. absurd (above lt))
-    (λ le. ⊎_elim (λ lt. absurd (below lt)) (λ ge. omega arith) (cases_lt b a))
-    (cases_lt a b)
 
 lost_by : (a b : Lost) → a.script ≡ b.script → a.terminal ≡ b.terminal → a ≡ b
 lost_by a b s k =

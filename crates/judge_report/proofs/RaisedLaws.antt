@@ -1,23 +1,13 @@
 -- The boxes up to a number of one parameter.
-use Rattle.std.proofs.Common.{◌≡◌, ◌≤◌, ℕ, sym, ◌∙◌, ap, subst, arith, inl, inr, eq-eqb, cond, Bool}
-use Rattle.std.proofs.lemmas.Bool.{cases_eq, ne_eqb}
+use Rattle.std.proofs.Common.{◌≡◌, ◌≤◌, ℕ, sym, ◌∙◌, ap, subst, arith, inl, inr}
+use Rattle.std.proofs.lemmas.Bool.{cases_eq}
 use Rattle.model_history.specs.Rails.{Ends, IsPartOf}
 use Rattle.model_line.specs.Parameters.{delay_param, declared_ends}
 use Rattle.model_line.specs.declared.line.Line.{Line}
 use Rattle.model_logic.specs.Choice.{IsBoxWithin, LeastFromOne}
 use Rattle.model_logic.specs.Boxes.{ends_with}
+use Rattle.model_logic.specs.BoxLaws.{ends_with-here, ends_with-elsewhere}
 use Rattle.judge_report.specs.Raised.{raised}
-
--- at the parameter the new interval, elsewhere the old one
-ends_with-here : (ends : ℕ → Ends) (param : ℕ) (new : Ends) (i : ℕ) → i ≡ param
-    → ends_with ends param new i ≡ new
-ends_with-here ends param new i here =
-    ap (λ (b : Bool). cond b new (ends i)) (eq-eqb i param here)
-
-ends_with-elsewhere : (ends : ℕ → Ends) (param : ℕ) (new : Ends) (i : ℕ) → (i ≡ param → ⊥)
-    → ends_with ends param new i ≡ ends i
-ends_with-elsewhere ends param new i other =
-    ap (λ (b : Bool). cond b new (ends i)) (ne_eqb i param other)
 
 abbrev up_to : Line → ℕ → ℕ → Ends
 up_to line param v = record { least = (declared_ends line param).least; greatest = v }

@@ -1,25 +1,19 @@
 -- The rows speak of the line's terminals and ticks alone.
-use Rattle.std.proofs.Common.{◌≡◌, ◌<◌, ◌≤◌, ◌++◌, ◌||◌, ℕ, zero, suc, Bool, List, Option, refl}
+use Rattle.std.proofs.Common.{◌≡◌, ◌<◌, ◌≤◌, ◌++◌, ℕ, Bool, List, Option, refl}
 use Rattle.std.proofs.Common.{sym, ◌∙◌, ap, arith}
 use Rattle.std.specs.Prelude.{codes}
 use Rattle.model_history.specs.{Elements.some_below, Rails.Rails, Rails.must_of, Rails.may_of}
+use Rattle.model_history.specs.BelowLaws.{some_below-same}
 use Rattle.model_line.specs.declared.script.Kind.TheVariants.{Internal, External}
 use Rattle.model_line.specs.{declared.line.Line.Line, declared.script.Kind.Kind}
 use Rattle.model_line.specs.{declared.script.Script.Script, Parameters.terminal_count}
 use Rattle.model_logic.specs.Histories.{PairHistory, IsSamePairHistory}
 use Rattle.model_logic.specs.Rule.{Rule, rule_by}
-use Rattle.run_changes.specs.rows.PlayRows.{each_below}
+use Rattle.run_changes.specs.rows.RowLaws.{each_below-same}
 use Rattle.judge_verdict.specs.verdict.Rules.{counted_ticks}
 use Rattle.judge_verdict.specs.verdict.RuleLaws.{rule_by_rails}
 use Rattle.judge_report.specs.ReportText.{fields_text, rule_word, row_text, script_rows}
 use Rattle.run_waves.specs.waves.FirstTickLaws.{first_on-same}
-
-some_below-same : (u v : ℕ → Bool) (n : ℕ) → ((t : ℕ) → t < n → u t ≡ v t)
-    → some_below u n ≡ some_below v n
-some_below-same u v zero same = refl
-some_below-same u v (suc n) same =
-    ap (λ (b : Bool). b || some_below u n) (same n (omega arith))
-    ∙ ap (λ (b : Bool). v n || b) (some_below-same u v n (λ t lt. same t (omega arith)))
 
 few_ticks : (kind : Kind) (deadline horizon : ℕ) → deadline < horizon
     → counted_ticks kind deadline horizon ≤ horizon
@@ -63,13 +57,6 @@ row_text-same line script early k v w same =
     (first_on-same (λ t. (v t).must) (λ t. (w t).must) line.horizon
     (λ t lt. ap must_of (same t lt)))
     (rule_by-same line.horizon v w same script.kind script.deadline early)
-
-each_below-same : (n : ℕ) (f g : ℕ → List ℕ) → ((k : ℕ) → k < n → f k ≡ g k)
-    → each_below n f ≡ each_below n g
-each_below-same zero f g same = refl
-each_below-same (suc n) f g same =
-    ap (λ (l : List ℕ). l ++ f n) (each_below-same n f g (λ k lt. same k (omega arith)))
-    ∙ ap (λ (l : List ℕ). each_below n g ++ l) (same n (omega arith))
 
 pub script_rows-same : (line : Line) (script : Script) → script.deadline < line.horizon
     → (v w : PairHistory) → IsSamePairHistory line v w

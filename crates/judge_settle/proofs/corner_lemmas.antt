@@ -1,4 +1,3 @@
-pub mod DelayOrder
 pub mod LastShown
 pub mod StepLaws
 pub mod SettingOrder

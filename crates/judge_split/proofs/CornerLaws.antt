@@ -4,16 +4,18 @@ use Rattle.std.proofs.Common.{length, get_or, inl, inr, sym, ◌∙◌, ap, subs
 use Rattle.std.proofs.lemmas.Bool.{cases_lt, cases_eq}
 use Rattle.std.specs.Prelude.{slice_get, if◌then◌else◌}
 use Rattle.model_history.specs.Rails.{Ends, single}
+use Rattle.model_history.specs.ListLaws.{last_push, before_append}
 use Rattle.run_signal.specs.Spans.{ends_of}
 use Rattle.model_line.specs.Parameters.{param_count, declared_ends}
 use Rattle.model_line.specs.Intervals.{leasts, greatests}
 use Rattle.model_line.specs.{declared.line.Line.Line, declared.line.Param.Param}
 use Rattle.model_line.specs.{SetBounds.SameButParams, SameLine.SameLine, WithBounds.IsWithBounds}
+use Rattle.model_line.specs.SameLineLaws.{on_from}
 use Rattle.model_logic.specs.Boxes.{ends_with}
+use Rattle.model_logic.specs.BoxLaws.{ends_with-here, ends_with-elsewhere}
 use Rattle.judge_split.specs.Known.{Known}
 use Rattle.judge_split.specs.Quiet.{IsCorner, AreCorners, is_wide, number_of, corner_number}
-use Rattle.judge_split.proofs.EndsWith.{ends_with-here, ends_with-elsewhere, on_from}
-use Rattle.judge_split.proofs.ListLaws.{at_two, at_kept, at_end}
+use Rattle.judge_split.proofs.ListLaws.{at_two}
 use Rattle.judge_split.proofs.PartLaws.{ends_changed}
 
 -- the interval of a parameter in a corner
@@ -114,7 +116,7 @@ corners_more line wide n old new low top is is_low is_top are = record {
         j,
         corner,
         subst (λ (l : List Line). slice_get l j ≡ Some corner) (sym is)
-            (at_kept (old ++ low ∷ []) (top ∷ []) j corner (at_kept old (low ∷ []) j corner at)),
+            (before_append (old ++ low ∷ []) (top ∷ []) j corner (before_append old (low ∷ []) j corner at)),
         corner_is,
       ))
       (λ late.
@@ -128,13 +130,13 @@ corners_more line wide n old new low top is is_low is_top are = record {
     length old,
     low,
     subst (λ (l : List Line). slice_get l (length old) ≡ Some low) (sym is)
-        (at_kept (old ++ low ∷ []) (top ∷ []) (length old) low (at_end old low)),
+        (before_append (old ++ low ∷ []) (top ∷ []) (length old) low (last_push old low)),
     subst (λ (m : ℕ). IsCorner line wide false m low) e is_low,
   )
   newest true but e = (
     length (old ++ low ∷ []),
     top,
     subst (λ (l : List Line). slice_get l (length (old ++ low ∷ [])) ≡ Some top) (sym is)
-        (at_end (old ++ low ∷ []) top),
+        (last_push (old ++ low ∷ []) top),
     subst (λ (m : ℕ). IsCorner line wide true m top) e is_top,
   )

@@ -4,12 +4,13 @@ use Rattle.std.specs.Prelude.{◌↔◌, IsTrue}
 use Rattle.model_line.specs.Parameters.{param_count, is_delay, declared_ends}
 use Rattle.model_line.specs.{declared.line.Line.Line, declared.script.Script.Script}
 use Rattle.model_line.specs.{SetBounds.SameButParams, WithBounds.IsWithBounds}
+use Rattle.model_line.specs.SameLineLaws.{exchanged, on_from}
 use Rattle.model_logic.specs.Choice.{Box, declared_box}
 use Rattle.model_logic.specs.Boxes.{CanSplit, IsSameBox, box_with, lower_half, upper_half}
 use Rattle.model_logic.specs.HeldOver.{IsHeldOver}
+use Rattle.model_logic.specs.BoxLaws.{turned}
 use Rattle.judge_split.specs.Known.{Known}
-use Rattle.judge_split.specs.{Parts.IsPart}
-use Rattle.judge_split.proofs.EndsWith.{exchanged, on_from}
+use Rattle.judge_split.specs.Parts.{IsPart}
 use Rattle.judge_split.proofs.SoundLaws.{same_lower, same_upper, can_split_same, can_split_kept}
 
 -- ---- the declared box, number by number
@@ -53,12 +54,6 @@ module _ (known : Known) where
   same_then line a b c x y = record {
     numbers = λ i lt. x.numbers i lt ∙ y.numbers i lt;
     delays = λ d t lt early. x.delays d t lt early ∙ y.delays d t lt early;
-  }
-
-  turned : (line : Line) (a b : Box) → IsSameBox line a b → IsSameBox line b a
-  turned line a b same = record {
-    numbers = λ i lt. sym (same.numbers i lt);
-    delays = λ c t lt early. sym (same.delays c t lt early);
   }
 
   -- ---- halves

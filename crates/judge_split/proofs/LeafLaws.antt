@@ -10,11 +10,11 @@ use Rattle.model_line.specs.Parameters.{terminal_count}
 use Rattle.model_logic.specs.Choice.{Choice, Box, IsIn, IsWithin, LeastFromOne}
 use Rattle.model_logic.specs.Histories.{History, IsLineHistory, Meets}
 use Rattle.model_logic.specs.Boxes.{CanSplit, box_with, ends_with, lower_half, upper_half}
+use Rattle.model_logic.specs.BoxLaws.{ends_with-here, ends_with-elsewhere}
 use Rattle.model_history.specs.ListLaws.{at_append, before_append, after_append}
 use Rattle.judge_split.specs.Leaves.{Leaf, leaves, Splits}
 use Rattle.judge_split.specs.Leaves.{LiesInOne, AllHeld}
 use Rattle.judge_split.specs.{Known.Known, Trees.SplitTree, Trees.Yes, Trees.Undecided, Trees.Split}
-use Rattle.judge_split.proofs.EndsWith.{ends_with-here, ends_with-elsewhere}
 
 one_only : (leaf other : Leaf) (i : ℕ) → slice_get (leaf ∷ []) i ≡ Some other → i ≡ 0
 one_only leaf other zero e = refl

@@ -1,4 +1,3 @@
-pub mod EndsWith
 pub mod WidthLaws
 pub mod LeafLaws
 pub mod PartLaws

@@ -1,22 +1,12 @@
 -- Lists with more behind.
-use Rattle.std.proofs.Common.{◌≡◌, ◌⊎◌, ◌+◌, ℕ, zero, suc, List, [], ◌∷◌, ◌++◌, Some, length}
-use Rattle.std.proofs.Common.{length-append, inl, inr, refl, sym, ◌∙◌, ap, subst, arith, ⊎_elim}
+use Rattle.std.proofs.Common.{◌≡◌, ◌⊎◌, ◌+◌, ℕ, List, [], ◌∷◌, ◌++◌, Some, length}
+use Rattle.std.proofs.Common.{length-append, inl, inr, sym, ◌∙◌, ap, subst, arith, ⊎_elim}
 use Rattle.std.specs.Prelude.{IfSome, Option, slice_get}
 use Rattle.model_history.specs.ListLaws.{at_push}
 
 module _ {X : Type 0} where
   pub if_some_is : (o : Option X) (x : X) (P : X → Type 0) → o ≡ Some x → IfSome o P → P x
   if_some_is o x P is some = subst (λ (p : Option X). IfSome p P) is some
-
-  pub at_kept : (xs ys : List X) (i : ℕ) (x : X) → slice_get xs i ≡ Some x
-      → slice_get (xs ++ ys) i ≡ Some x
-  at_kept [] ys i x at = absurd (cc)
-  at_kept (z ∷ xs) ys zero x at = at
-  at_kept (z ∷ xs) ys (suc i) x at = at_kept xs ys i x at
-
-  pub at_end : (xs : List X) (x : X) → slice_get (xs ++ x ∷ []) (length xs) ≡ Some x
-  at_end [] x = refl
-  at_end (z ∷ xs) x = at_end xs x
 
   -- an element of a list with two more
   pub at_two : (xs new : List X) (a b : X) → new ≡ (xs ++ a ∷ []) ++ b ∷ [] → (i : ℕ) (x : X)

@@ -12,11 +12,11 @@ use Rattle.model_line.specs.{declared.script.Script.Script, declared.line.Line.L
 use Rattle.model_logic.specs.Choice.{Choice, IsIn, declared_box}
 use Rattle.model_logic.specs.Histories.{History, IsLineHistory, Meets, MeetsBy}
 use Rattle.model_logic.specs.Boxes.{ends_with}
+use Rattle.model_logic.specs.BoxLaws.{ends_with-here, ends_with-elsewhere}
 use Rattle.model_timing.specs.Timing.{TimingValues, number_at}
 use Rattle.model_timing.specs.{declared.step.Step.Step, Inside.IsStepInside, Choice.timing_choice}
 use Rattle.judge_verdict.specs.verdict.Verdicts.{IsRefutation}
 use Rattle.judge_split.specs.Known.{Known}
-use Rattle.judge_split.proofs.EndsWith.{ends_with-here, ends_with-elsewhere}
 
 module _ (known : Known) (line other : Line) (param least greatest : ℕ)
     (here : param < param_count line) (is : IsWithBounds line param least greatest other) where

@@ -5,9 +5,10 @@ use Rattle.std.proofs.lemmas.Bool.{cases_lt}
 use Rattle.std.proofs.lemmas.Option.{slice_get_within}
 use Rattle.std.specs.Prelude.{slice_get}
 use Rattle.model_line.specs.{declared.line.Line.Line, SetBounds.SameButParams}
+use Rattle.model_line.specs.SameLineLaws.{on_from}
 use Rattle.judge_split.specs.Search.{IsLower, IsUpper}
 use Rattle.judge_split.specs.{Widths.IsWidest, Widths.IsNarrow, Quiet.HasHalves, Quiet.HalvesIfAny}
-use Rattle.judge_split.proofs.{EndsWith.on_from, ListLaws.at_two, ListLaws.two_longer}
+use Rattle.judge_split.proofs.ListLaws.{at_two, two_longer}
 
 -- a line has one widest parameter
 pub one_widest : (line : Line) (p q : ℕ) → IsWidest line p → IsWidest line q → p ≡ q

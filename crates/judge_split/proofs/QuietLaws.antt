@@ -2,12 +2,12 @@
 use Rattle.std.proofs.Common.{◌≡◌, ◌≤◌, ◌<◌, ◌+◌, ◌-◌, ◌⊎◌, ℕ, zero, suc, Bool, true, false, List}
 use Rattle.std.proofs.Common.{take, length, get_or, inl, inr, refl, sym, ◌∙◌, ap, arith, ⊎_elim}
 use Rattle.std.proofs.Common.{eqb, eq-eqb}
-use Rattle.std.proofs.lemmas.Bool.{cases_eq, cases_lt}
+use Rattle.std.proofs.lemmas.Bool.{cases_eq, cases_lt, and_parts, false_from_ne_true}
 use Rattle.std.proofs.lemmas.Bool.Decides.{nat_tests}
 use Rattle.std.proofs.lemmas.List.{get_or-map}
 use Rattle.std.proofs.lemmas.List.Sums.{count_by_more_yes, count_by_more_no}
 use Rattle.std.specs.List.{count_by}
-use Rattle.std.specs.Prelude.{◌&&◌, nat_lt, nat_le}
+use Rattle.std.specs.Prelude.{nat_lt, nat_le}
 use Rattle.model_line.specs.Parameters.{param_count, declared_ends}
 use Rattle.model_line.specs.{declared.line.Line.Line, declared.line.Param.Param}
 use Rattle.model_timing.specs.Candidates.{is_free, free_before, free_count, is_free_number}
@@ -20,13 +20,6 @@ use Rattle.judge_split.specs.Quiet.{corner_number}
 pub yes_or_no : (b : Bool) → (b ≡ true) ⊎ (b ≡ false)
 yes_or_no true = inl refl
 yes_or_no false = inr refl
-
-both_yes : (a b : Bool) → (a && b) ≡ true → (a ≡ true) × (b ≡ true)
-both_yes true b e = (refl, e)
-both_yes false b e = absurd (cc)
-
-not_yes : (b : Bool) → (b ≡ true → ⊥) → b ≡ false
-not_yes b never = ⊎_elim (λ on. absurd (never on)) (λ off. off) (yes_or_no b)
 
 same_number : (a b : ℕ) → eqb a b ≡ true → a ≡ b
 same_number a b e = grind (arith, nat_tests)
@@ -68,10 +61,10 @@ module _ (line : Line) where
   not_both : (n i j : ℕ) → i < j → j < param_count line → is_free_number line n i ≡ true
       → is_free_number line n j ≡ true → ⊥
   not_both n i j before lt first second =
-      let a = both_yes
+      let a = and_parts
       (nat_lt (declared_ends line i).least (declared_ends line i).greatest)
       (eqb (free_before line i + 1) n) first in
-      let b = both_yes
+      let b = and_parts
       (nat_lt (declared_ends line j).least (declared_ends line j).greatest)
       (eqb (free_before line j + 1) n) second in
       let ea : free_before line i + 1 ≡ n = same_number (free_before line i + 1) n a.1 in
@@ -122,7 +115,7 @@ module _ (line : Line) where
             ⊎_elim
             (λ same. ap (is_free_number line n) same ∙ found.2 ∙ sym (eq-eqb i found.0 same))
             (λ apart.
-            not_yes (is_free_number line n i)
+            false_from_ne_true (is_free_number line n i)
             (λ yes.
             ⊎_elim (λ low. not_both n i found.0 low lt yes found.2)
             (λ high.
@@ -141,7 +134,7 @@ module _ (line : Line) where
       ))
       (find n (param_count line)) where
         other : (i j : ℕ) → (i ≡ j → ⊥) → eqb i j ≡ false
-        other i j apart = not_yes (eqb i j) (λ e. apart (same_number i j e))
+        other i j apart = false_from_ne_true (eqb i j) (λ e. apart (same_number i j e))
 
   -- the numbers of a candidate are those of a corner
   pub candidate_corner : (j : ℕ) → (high : Bool) × (but : ℕ) × (but < param_count line + 1)

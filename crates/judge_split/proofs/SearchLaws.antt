@@ -1,64 +1,36 @@
 -- What a search finds, of every choice inside the declared intervals.
-use Rattle.std.proofs.Common.{◌≡◌, ◌&&◌, ◌<◌, ◌+◌, ℕ, Bool, true, false, refl, sym, ◌∙◌, ap, subst}
+use Rattle.std.proofs.Common.{◌<◌, ◌+◌, ℕ, refl, sym, ◌∙◌, ap, subst}
 use Rattle.std.proofs.Common.{arith, ⊎_elim}
-use Rattle.std.proofs.lemmas.Bool.{cases_lt}
-use Rattle.std.proofs.lemmas.List.Folds.{list_all-append}
+use Rattle.std.proofs.lemmas.Bool.{cases_lt, and_parts}
 use Rattle.std.specs.Prelude.{IsTrue}
 use Rattle.std.specs.List.{list_all}
 use Rattle.model_history.specs.Rails.{IsPartOf}
-use Rattle.model_line.specs.declared.script.Kind.TheVariants.{Internal, External}
 use Rattle.model_line.specs.Parameters.{terminal_count, param_count, declared_ends, is_delay}
 use Rattle.model_line.specs.{declared.line.Line.Line, SetBounds.SameButParams}
-use Rattle.model_line.specs.{declared.script.Kind.Kind, declared.script.Script.Script}
+use Rattle.model_line.specs.declared.script.Script.{Script}
 use Rattle.model_logic.specs.Choice.{Choice, IsIn, IsInside, DelaysFromOne, declared_box}
-use Rattle.model_logic.specs.Histories.{History, IsLineHistory, IsSameHistory, Meets, MeetsBy}
+use Rattle.model_logic.specs.Histories.{History, IsLineHistory, Meets, MeetsBy}
+use Rattle.model_logic.specs.RuleLaws.{same_meets}
 use Rattle.model_timing.specs.{Timing.TimingValues, Choice.timing_choice, Candidates.candidate}
 use Rattle.judge_verdict.specs.declared.verdict.verdict.Verdict.TheVariants as verdict
 use Rattle.judge_verdict.specs.verdict.Verdicts.{IsRefutation, IsRefuted}
-use Rattle.judge_split.specs.Trees.{SplitTree, Yes, Undecided, Split, preorder, are_yes, is_decided}
+use Rattle.judge_split.specs.Trees.{SplitTree, Yes, are_yes, is_decided}
 use Rattle.judge_split.specs.Search.{Found, Tree, Fails, IsVerdictOf, IsSplitAt, IsLower, IsUpper}
 use Rattle.judge_split.specs.Search.{IsSearch, yes, no, deepest, narrow, first_fails, second_fails}
 use Rattle.judge_split.specs.Search.{split}
 use Rattle.judge_split.specs.{Known.Known, Widths.middle, declared.node.Outcome.Outcome}
 use Rattle.judge_split.specs.declared.node.Outcome.TheVariants as outcome
 use Rattle.judge_split.specs.Found.{IsFound, IsAllYes}
-use Rattle.judge_split.proofs.WidthLaws.{split_no_delay, middle_inside}
+use Rattle.judge_split.proofs.WidthLaws.{middle_inside}
 use Rattle.judge_split.proofs.PartLaws.{part_refutes}
-
-pub both_true : (a b : Bool) → IsTrue (a && b) → IsTrue a × IsTrue b
-both_true true b h = (refl, h)
-both_true false b h = absurd (cc)
-
--- a tree whose nodes in preorder have no undecided leaf is yes
-pub decided_yes : (tree : SplitTree) → list_all is_decided (preorder tree) ≡ are_yes tree
-decided_yes Yes = refl
-decided_yes Undecided = refl
-decided_yes (Split param mid first second) =
-    list_all-append is_decided (preorder first) (preorder second)
-    ∙ ap (λ (b : Bool). b && list_all is_decided (preorder second)) (decided_yes first)
-    ∙ ap (λ (b : Bool). are_yes first && b) (decided_yes second)
+use Rattle.judge_split.specs.TreeLaws.{decided_yes}
+use Rattle.judge_split.specs.WidthLaws.{split_no_delay}
 
 -- the number of a parameter lies in its interval
 number_inside : (line : Line) (param : ℕ) → param < param_count line → (choice : Choice)
     → IsInside line choice → IsIn (choice.number param) (declared_ends line param)
 unfolding declared_box
 number_inside line param here choice inside = inside.numbers param here
-
--- histories that are the same meet the same obligations
-meets_by : (kind : Kind) (deadline horizon : ℕ) (a b : ℕ → Bool) → deadline < horizon
-    → ((t : ℕ) → t < horizon → a t ≡ b t) → MeetsBy kind deadline horizon a
-    → MeetsBy kind deadline horizon b
-meets_by Internal deadline horizon a b early same (t, past, on) =
-    (t, past, sym (same t (omega arith)) ∙ on)
-meets_by External deadline horizon a b early same never =
-    λ t lt. sym (same t lt) ∙ never t lt
-
-same_meets : (line : Line) (script : Script) (k : ℕ) (g h : History)
-    → script.deadline < line.horizon → k < terminal_count line → IsSameHistory line g h
-    → Meets line script k g → Meets line script k h
-same_meets line script k g h early there same met =
-    meets_by script.kind script.deadline line.horizon (g.trip k) (h.trip k) early
-    (λ t lt. same.trips k t there lt) met
 
 module _ (known : Known) (script : Script) (k : ℕ) where
   -- every history of every choice inside meets the obligation
@@ -182,7 +154,7 @@ module _ (known : Known) (script : Script) (k : ℕ) where
       (still_there line second is_upper.rest kn))
   says _ _ _ (split n line param first second lower upper at is_lower below is_upper above) early
       kn = λ all.
-      let each = both_true (are_yes lower) (are_yes upper) all in
+      let each = and_parts (are_yes lower) (are_yes upper) all in
       halves_meet line param at first second is_lower is_upper
       (says n first (Tree lower) below (still_early line first is_lower.rest early)
       (still_there line first is_lower.rest kn) each.0)

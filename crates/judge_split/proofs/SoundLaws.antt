@@ -1,16 +1,18 @@
 -- The tree that a search finds splits the declared box, and its yes leaves are held.
 use Rattle.std.proofs.Common.{◌≡◌, ◌<◌, ◌≤◌, ◌+◌, ℕ, zero, suc, Some, sym, ◌∙◌, ap, subst, ⊎_elim}
 use Rattle.std.proofs.Common.{inl, inr, refl, arith}
-use Rattle.std.proofs.lemmas.Bool.{cases_eq}
+use Rattle.std.proofs.lemmas.Bool.{cases_eq, and_parts}
 use Rattle.std.specs.Prelude.{IsTrue, slice_get}
 use Rattle.model_history.specs.Rails.{Ends}
 use Rattle.model_line.specs.Parameters.{terminal_count, param_count, declared_ends}
 use Rattle.model_line.specs.declared.script.Script.{Script}
 use Rattle.model_line.specs.{SetBounds.SameButParams, declared.line.Line.Line}
+use Rattle.model_line.specs.SameLineLaws.{exchanged}
 use Rattle.model_logic.specs.Choice.{Choice, Box, IsWithin, LeastFromOne, declared_box}
 use Rattle.model_logic.specs.Histories.{History, IsLineHistory, Meets}
 use Rattle.model_logic.specs.Boxes.{CanSplit, IsSameBox, box_with, lower_half, upper_half}
 use Rattle.model_logic.specs.HeldOver.{IsHeldOver}
+use Rattle.model_logic.specs.BoxLaws.{ends_with-here, ends_with-elsewhere}
 use Rattle.judge_verdict.specs.declared.verdict.verdict.Verdict.TheVariants as verdict
 use Rattle.judge_split.specs.Trees.{SplitTree, Yes, Undecided, Split, are_yes}
 use Rattle.judge_split.specs.Leaves.{Leaf, leaves, Splits}
@@ -19,10 +21,10 @@ use Rattle.judge_split.specs.Search.{Found, Tree, Fails, IsVerdictOf, IsSplitAt,
 use Rattle.judge_split.specs.Search.{IsSearch, yes, no, deepest, narrow, first_fails, second_fails}
 use Rattle.judge_split.specs.Search.{split}
 use Rattle.judge_split.specs.{Known.Known, Widths.middle, Widths.IsWidest}
-use Rattle.judge_split.proofs.EndsWith.{ends_with-elsewhere, ends_with-here, exchanged}
-use Rattle.judge_split.proofs.WidthLaws.{split_no_delay, middle_inside}
+use Rattle.judge_split.proofs.WidthLaws.{middle_inside}
 use Rattle.model_history.specs.ListLaws.{at_append}
-use Rattle.judge_split.proofs.{LeafLaws.held_leaves, SearchLaws.both_true}
+use Rattle.judge_split.proofs.LeafLaws.{held_leaves}
+use Rattle.judge_split.specs.WidthLaws.{split_no_delay}
 
 -- ---- boxes that are the same
 
@@ -212,7 +214,7 @@ sound_leaves line script k Yes box held all zero leaf at =
 sound_leaves line script k Yes box held all (suc i) leaf at = absurd (cc)
 sound_leaves line script k Undecided box held all i leaf at = absurd (cc)
 sound_leaves line script k (Split param mid first second) box sound all i leaf at =
-    let each = both_true (are_yes first) (are_yes second) all in
+    let each = and_parts (are_yes first) (are_yes second) all in
     ⊎_elim
     (λ early. sound_leaves line script k first (lower_half box param mid) sound.1.0 each.0 i leaf
     early)

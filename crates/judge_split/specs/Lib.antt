@@ -1,9 +1,11 @@
 pub mod Known
 pub mod Trees
 pub mod Widths
+pub mod WidthLaws
 pub mod Search
 pub mod Found
 pub mod Leaves
 pub mod Parts
 pub mod Quiet
 pub mod Laws
+pub mod TreeLaws

@@ -2,7 +2,6 @@ pub mod ToldHistory
 pub mod TrackLaws
 pub mod FirstWithin
 pub mod FirstTicks
-pub mod BlockLaws
 pub mod FailingLaws
 pub mod StandingLaws
 pub mod VerdictLaws

@@ -8,9 +8,10 @@ use Rattle.std.specs.Prelude.{nat_le, nat_lt, IsTrue, Decides}
 use Rattle.model_history.specs.Rails.{Rails, Ends, Covers, rails_delayed, rails_at, must_of, may_of}
 use Rattle.model_history.specs.Comes.{Comes, AllCome, SomeComes}
 use Rattle.model_history.specs.{Elements.delayed, Recorded.first_ticks}
-use Rattle.model_history.specs.{FirstTickLaws.length-first_ticks}
-use Rattle.model_history.proofs.ElementLaws.{Decides-le, Decides-true, Decides-every, Decides-some}
+use Rattle.model_history.specs.FirstTickLaws.{length-first_ticks}
+use Rattle.model_history.proofs.ElementLaws.{Decides-every, Decides-some}
 use Rattle.model_history.proofs.RailsBridge.{rails_at-first_ticks}
+use Rattle.model_history.specs.TruthLaws.{Decides-true, Decides-le}
 
 pub Decides-delayed : (u : ℕ → Bool) (c t : ℕ) → Decides (delayed u c t) (Comes u c t)
 unfolding delayed

@@ -1,19 +1,15 @@
 -- Each element is what its facts say, it grows with its input, and only the ticks so far matter.
 use Rattle.std.proofs.Common.{◌≡◌, ℕ, suc, ◌+◌, ◌-◌, ◌<◌, ◌≤◌, Bool, ◌&&◌, ◌||◌, refl, sym, ◌∙◌}
 use Rattle.std.proofs.Common.{subst, arith, inl, inr, ⊎_elim, ◌⊎◌}
-use Rattle.std.proofs.lemmas.Bool.{leb-true, le-leb, cases_lt}
+use Rattle.std.proofs.lemmas.Bool.{cases_lt}
 use Rattle.std.proofs.lemmas.Bool.Decides.{Decides-like, Decides-and, Decides-or, Decides-below_and}
-use Rattle.std.proofs.lemmas.Bool.Decides.{Decides-below_or, same_from_decides}
+use Rattle.std.proofs.lemmas.Bool.Decides.{Decides-below_or}
 use Rattle.std.specs.Prelude.{nat_le, IsTrue, Decides}
+use Rattle.std.specs.Cmp.{both_ways}
 use Rattle.model_history.specs.Elements.{every_below, some_below, hold, timed, sealed, Holds}
 use Rattle.model_history.specs.Elements.{IsTimed}
 use Rattle.model_history.specs.Elements.{IsSealed, SameUpTo, Below}
-
-pub Decides-le : (a b : ℕ) → Decides (nat_le a b) (a ≤ b)
-Decides-le a b = (leb-true a b, le-leb a b)
-
-pub Decides-true : (b : Bool) → Decides b (IsTrue b)
-Decides-true b = (λ e. e, λ e. e)
+use Rattle.model_history.specs.TruthLaws.{Decides-true, Decides-le}
 
 pub Decides-every : (q : ℕ → Bool) (Q : ℕ → Type 0) (n : ℕ) → ((k : ℕ) → Decides (q k) (Q k)) →
     Decides (every_below q n) ((k : ℕ) → k < n → Q k)
@@ -116,9 +112,6 @@ sealed-below a b c e t set keep on =
 
 -- ---- only the ticks up to t matter
 
-same_both_ways : (a b : Bool) → (IsTrue a → IsTrue b) → (IsTrue b → IsTrue a) → a ≡ b
-same_both_ways a b f g = same_from_decides {P = IsTrue a} a b (Decides-true a) (g, f)
-
 Below-same : (u v : ℕ → Bool) (t : ℕ) → SameUpTo u v t → Below u v t
 Below-same u v t same r le on = sym (same r le) ∙ on
 
@@ -127,13 +120,13 @@ Below-same' u v t same r le on = same r le ∙ on
 
 pub timed-same : (u v : ℕ → Bool) (p d t : ℕ) → SameUpTo u v t → timed u p d t ≡ timed v p d t
 timed-same u v p d t same =
-    same_both_ways (timed u p d t) (timed v p d t)
+    both_ways (timed u p d t) (timed v p d t)
     (timed-below u v p p d d t (Below-same u v t same) (omega arith) (omega arith))
     (timed-below v u p p d d t (Below-same' u v t same) (omega arith) (omega arith))
 
 pub sealed-same : (a b c e : ℕ → Bool) (t : ℕ) → SameUpTo a c t → SameUpTo b e t →
     sealed a b t ≡ sealed c e t
 sealed-same a b c e t set keep =
-    same_both_ways (sealed a b t) (sealed c e t)
+    both_ways (sealed a b t) (sealed c e t)
     (sealed-below a b c e t (Below-same a c t set) (Below-same b e t keep))
     (sealed-below c e a b t (Below-same' a c t set) (Below-same' b e t keep))

@@ -1,7 +1,6 @@
 -- From the lists that cells stand for to histories as functions of the tick, and covering.
-use Rattle.std.proofs.Common.{◌≡◌, ℕ, suc, ◌+◌, ◌<◌, ◌≤◌, Bool, List, [], ◌∷◌, ◌++◌, length, map}
+use Rattle.std.proofs.Common.{◌≡◌, ℕ, suc, ◌+◌, ◌<◌, ◌≤◌, Bool, List, [], ◌∷◌, ◌++◌, length}
 use Rattle.std.proofs.Common.{take, get_or-take, refl, ◌∙◌, ap, arith}
-use Rattle.std.proofs.Math.ListN.{get_or-map}
 use Rattle.std.specs.Prelude.{false}
 use Rattle.model_history.specs.Rails.{Rails, Ends, Covers, both, must_of, may_of, rails_timed}
 use Rattle.model_history.specs.Rails.{rails_sealed, rails_at, SameRails}
@@ -32,13 +31,6 @@ rails_sealed-same a b u v t f g =
     ∙ ap (λ (x : Bool). record { must = sealed (λ r. (u r).must) (λ r. (v r).must) t; may = x })
     (sealed-same (λ r. (a r).may) (λ r. (b r).may) (λ r. (u r).may) (λ r. (v r).may) t
     (λ r le. ap may_of (f r le)) (λ r le. ap may_of (g r le)))
-
--- one rail of a recorded history
-pub must_at : (l : List Rails) (r : ℕ) → at (map must_of l) r ≡ (rails_at l r).must
-must_at l r = get_or-map must_of l r (both false)
-
-pub may_at : (l : List Rails) (r : ℕ) → at (map may_of l) r ≡ (rails_at l r).may
-may_at l r = get_or-map may_of l r (both false)
 
 -- the timed element over the ticks recorded so far is that over the history
 pub timed_of_ticks : (u : ℕ → Rails) (p d : Ends) (t : ℕ) →

@@ -3,8 +3,9 @@ use Rattle.std.proofs.Common.{ℕ, ◌≤◌}
 use Rattle.model_history.specs.Rails.{Rails, Ends, IsSound, rails_not, rails_and, rails_or}
 use Rattle.model_history.specs.Rails.{rails_timed}
 use Rattle.model_history.specs.Rails.{rails_sealed}
-use Rattle.model_history.proofs.Fields.{not_back, and_both, or_both}
+use Rattle.model_history.proofs.Fields.{not_back}
 use Rattle.model_history.proofs.ElementLaws.{timed-below, sealed-below}
+use Rattle.model_history.specs.TruthLaws.{and_both, or_both}
 
 pub not_sound : (x : Rails) → IsSound x → IsSound (rails_not x)
 not_sound x h = not_back x.must x.may h

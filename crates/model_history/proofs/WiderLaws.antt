@@ -1,13 +1,15 @@
 -- Over rails that cover, and spans that contain, each operation's rails cover.
-use Rattle.std.proofs.Common.{◌≡◌, ℕ, ◌-◌, ◌<◌, ◌≤◌, Bool, not, ◌&&◌, ◌||◌, sym, ◌∙◌, arith}
+use Rattle.std.proofs.Common.{ℕ, ◌-◌, ◌<◌, ◌≤◌, Bool, not, ◌&&◌, ◌||◌, arith}
 use Rattle.std.specs.Prelude.{IsTrue}
 use Rattle.model_history.specs.Rails.{Rails, Ends, both, rails_not, rails_and, rails_or}
 use Rattle.model_history.specs.Rails.{rails_timed}
 use Rattle.model_history.specs.Rails.{rails_sealed, rails_delayed, Covers, RailsCover, IsPartOf}
 use Rattle.model_history.specs.Comes.{Comes, SomeComes}
-use Rattle.model_history.proofs.Fields.{not_back, and_both, or_both}
+use Rattle.model_history.proofs.Fields.{not_back}
 use Rattle.model_history.proofs.ElementLaws.{timed-below, sealed-below}
 use Rattle.model_history.proofs.DelayLaws.{Decides-must, Decides-may}
+use Rattle.model_history.specs.RailLaws.{covers_both, both_covered}
+use Rattle.model_history.specs.TruthLaws.{and_both, or_both}
 
 -- ---- covering is an order
 
@@ -20,9 +22,6 @@ covers_on x y z f g = record { must = λ h. g.must (f.must h); may = λ h. f.may
 -- what is covered by covered rails is covered
 pub covers_value_on : (x y : Rails) (v : Bool) → RailsCover x y → Covers y v → Covers x v
 covers_value_on x y v f g = record { must = λ h. g.must (f.must h); may = λ h. f.may (g.may h) }
-
-pub covers_same : (x y : Bool) → x ≡ y → RailsCover (both x) (both y)
-covers_same x y e = record { must = λ h. sym e ∙ h; may = λ h. e ∙ h }
 
 -- ---- over rails
 
@@ -97,12 +96,6 @@ rails_delayed-wider u v wide narrow t some part h =
     }
 
 -- ---- over a truth value: its own rails are both the same
-
-pub covers_both : (x : Rails) (v : Bool) → Covers x v → RailsCover x (both v)
-covers_both x v h = record { must = h.must; may = h.may }
-
-pub both_covered : (x : Rails) (v : Bool) → RailsCover x (both v) → Covers x v
-both_covered x v h = record { must = h.must; may = h.may }
 
 pub not_covers : (x : Rails) (v : Bool) → Covers x v → Covers (rails_not x) (not v)
 not_covers x v h = both_covered (rails_not x) (not v)

@@ -1,7 +1,7 @@
 -- Tests of every number below a bound, as loops make them one number at a time.
 use Rattle.std.proofs.Common.{◌≡◌, ◌&&◌, ◌||◌, ℕ, zero, suc, ◌+◌, ◌-◌, ◌<◌, ◌≤◌, Bool, true, false}
-use Rattle.std.proofs.Common.{refl, sym, ap, ◌∙◌, ⊎_elim, arith, le-leb}
-use Rattle.std.proofs.lemmas.Bool.{cases_lt, cases_Bool}
+use Rattle.std.proofs.Common.{◌⊎◌, inl, inr, refl, sym, ap, subst, ◌∙◌, ⊎_elim, arith, le-leb}
+use Rattle.std.proofs.lemmas.Bool.{cases_lt, cases_Bool, cases_eq}
 use Rattle.std.specs.Prelude.{nat_le}
 use Rattle.model_history.specs.Elements.{some_below, every_below, hold, timed, sealed}
 
@@ -106,3 +106,34 @@ pub timed_no : (u : ℕ → Bool) (p d t n : ℕ) → n ≡ suc t
     → some_below (λ s. nat_le t (s + d) && hold u p s) n ≡ false → false ≡ timed u p d t
 unfolding timed
 timed_no u p d t n e h = sym h ∙ ap (λ m. some_below (λ s. nat_le t (s + d) && hold u p s) m) e
+
+-- values that are the same below a bound have one that passes there in common
+pub some_below-same : (u v : ℕ → Bool) (n : ℕ) → ((t : ℕ) → t < n → u t ≡ v t)
+    → some_below u n ≡ some_below v n
+some_below-same u v zero same = refl
+some_below-same u v (suc n) same =
+    ap (λ (b : Bool). b || some_below u n) (same n (omega arith))
+    ∙ ap (λ (b : Bool). v n || b) (some_below-same u v n (λ t lt. same t (omega arith)))
+
+-- each number below a bound passes, or there is a first that does not
+pub first_of : (P F : ℕ → Type 0) (n : ℕ) → ((i : ℕ) → i < n → P i ⊎ F i)
+    → ((i : ℕ) → i < n → P i)
+    ⊎ ((i : ℕ) × (i < n) × F i × ((j : ℕ) → j < i → P j))
+first_of P F zero told = inl (λ i lt. absurd (omega (arith, lt)))
+first_of P F (suc n) told = elim (first_of P F n (λ i lt. told i (omega (arith, lt)))) [
+  | inr first ↦ inr (first.0, omega (arith, first.1), first.2, first.3)
+  | inl all ↦ elim (told n (omega arith)) [
+    | inr fails ↦ inr (n, omega arith, fails, all)
+    | inl passes ↦ inl (λ i lt. elim (cases_eq i n) [
+      | inl same ↦ subst P (sym same) passes
+      | inr other ↦ all i (omega (arith, lt, other))
+    ])
+  ]
+]
+
+-- two numbers of which neither is the smaller
+pub neither_below : (a b : ℕ) → (a < b → ⊥) → (b < a → ⊥) → a ≡ b
+neither_below a b above below =
+    ⊎_elim (λ lt. absurd (above lt))
+    (λ le. ⊎_elim (λ lt. absurd (below lt)) (λ ge. omega arith) (cases_lt b a))
+    (cases_lt a b)

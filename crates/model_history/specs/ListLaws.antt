@@ -1,10 +1,12 @@
--- Elements of lists: what holds of each, and those of lists that grow, that are joined, or of which
--- one is written.
+-- Elements of lists: what holds of each, and those of lists that grow, that are joined, that are
+-- parts of others, that are made element by element, or of which one is written.
 use Rattle.std.proofs.Common.{◌≡◌, ◌≢◌, ◌⊎◌, ◌<◌, ◌+◌, ℕ, zero, suc, List, [], ◌∷◌, ◌++◌, length, Some}
+use Rattle.std.proofs.Common.{map}
+use Rattle.std.proofs.Math.ListN.{take, drop}
 use Rattle.std.proofs.Common.{refl, sym, ◌∙◌, ap, subst, arith, inl, inr, ⊎_elim}
 use Rattle.std.proofs.lemmas.List.Elements.{All-head, All-tail}
-use Rattle.std.proofs.lemmas.Option.{same_Some}
-use Rattle.std.specs.Prelude.{slice_get, slice_set}
+use Rattle.std.proofs.lemmas.Option.{same_Some, slice_get-get_or}
+use Rattle.std.specs.Prelude.{slice_get, slice_set, get_or}
 use Rattle.std.specs.List.{All}
 
 -- what holds of all holds of the one at a place
@@ -13,6 +15,18 @@ pub all_at : {X : Type 0} (P : X → Type 0) (xs : List X) (i : ℕ) (x : X) →
 all_at P [] i x all at = absurd (cc)
 all_at P (y ∷ xs) zero x all at = subst P (same_Some y x at) (All-head P y xs all)
 all_at P (y ∷ xs) (suc i) x all at = all_at P xs i x (All-tail P y xs all) at
+
+-- an element of a list that is made of another, element by element, is made of one there
+pub mapped : {A B : Type 0} (f : A → B) (xs : List A) (k : ℕ) (y : B)
+    → slice_get (map f xs) k ≡ Some y → (x : A) × (slice_get xs k ≡ Some x) × (f x ≡ y)
+mapped f [] k y e = absurd (cc)
+mapped f (x ∷ xs) zero y e = let same : f x ≡ y = cc in (x, refl, same)
+mapped f (x ∷ xs) (suc k) y e = mapped f xs k y e
+
+-- an element that is read by its index
+pub at_index : {X : Type 0} (xs : List X) (k : ℕ) (x : X) → k < length xs → x ≡ get_or xs k x
+    → slice_get xs k ≡ Some x
+at_index xs k x inside is = slice_get-get_or xs k x inside ∙ ap Some (sym is)
 
 module _ {X : Type 0} where
   pub one_value : (xs : List X) (i j : ℕ) (a b : X) → i ≡ j → slice_get xs i ≡ Some a
@@ -60,6 +74,32 @@ module _ {X : Type 0} where
   after_append (x ∷ xs) ys i =
       let e : length (x ∷ xs) + i ≡ suc (length xs + i) = omega arith in
       ap (λ (j : ℕ). slice_get (x ∷ xs ++ ys) j) e ∙ after_append xs ys i
+
+  -- an element of the front of a list, and of what is left behind it
+  pub at_taken : (n : ℕ) (xs : List X) (i : ℕ) → i < n
+      → slice_get (take n xs) i ≡ slice_get xs i
+  at_taken zero xs i lt = absurd (omega arith)
+  at_taken (suc n) [] i lt = refl
+  at_taken (suc n) (x ∷ xs) zero lt = refl
+  at_taken (suc n) (x ∷ xs) (suc i) lt = at_taken n xs i (omega arith)
+
+  pub from_taken : (n : ℕ) (xs : List X) (i : ℕ) (x : X) → slice_get (take n xs) i ≡ Some x
+      → slice_get xs i ≡ Some x
+  from_taken zero [] i x at = absurd (cc)
+  from_taken zero (y ∷ xs) i x at = absurd (cc)
+  from_taken (suc n) [] i x at = absurd (cc)
+  from_taken (suc n) (y ∷ xs) zero x at = at
+  from_taken (suc n) (y ∷ xs) (suc i) x at = from_taken n xs i x at
+
+  pub at_dropped : (n : ℕ) (xs : List X) (i : ℕ)
+      → slice_get (drop n xs) i ≡ slice_get xs (n + i)
+  at_dropped zero [] i = refl
+  at_dropped zero (x ∷ xs) i =
+      let same : i ≡ zero + i = omega arith in ap (slice_get (x ∷ xs)) same
+  at_dropped (suc n) [] i = refl
+  at_dropped (suc n) (x ∷ xs) i =
+      let same : suc (n + i) ≡ suc n + i = omega arith in
+      at_dropped n xs i ∙ ap (slice_get (x ∷ xs)) same
 
   -- an element of a list with one more
   pub at_push : (xs : List X) (x y : X) (i : ℕ) → slice_get (xs ++ x ∷ []) i ≡ Some y

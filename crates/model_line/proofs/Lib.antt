@@ -1,6 +1,5 @@
 pub mod Copying
 pub mod Counts
-pub mod Deadlines
 pub mod DeclaredIntervals
 pub mod Groups
 pub mod Intervals

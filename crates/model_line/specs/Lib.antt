@@ -23,3 +23,9 @@ pub mod Laws
 pub mod ParamNameLaws
 pub mod SettingFlagLaws
 pub mod NamesByNumber
+pub mod DeadlineLaws
+pub mod DelayOrderLaws
+pub mod SameLineLaws
+pub mod SettingPlaceLaws
+pub mod SameParamLaws
+pub mod TextLaws

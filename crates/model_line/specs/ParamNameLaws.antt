@@ -21,6 +21,12 @@ name_at-get [] i d lt = absurd (omega arith)
 name_at-get (t ∷ ts) zero d lt = refl
 name_at-get (t ∷ ts) (suc i) d lt = name_at-get ts i d (omega arith)
 
+-- and of one that stands at a place
+pub name_of-got : (ts : List Terminal) (k : ℕ) (t : Terminal) → k < length ts → t ≡ get_or ts k t
+    → name_at ts k ≡ t.name
+name_of-got ts k t below got =
+    name_at-get ts k t below ∙ ap (λ (x : Terminal). x.name) (sym got)
+
 pub pair_name_is :
     (ts : List Terminal) (c : Channel) (a b : Terminal) → c.from < length ts → c.to < length ts →
     a ≡ get_or ts c.from a → b ≡ get_or ts c.to b →

@@ -16,10 +16,10 @@ use Rattle.model_logic.specs.{declared.time.Time.Time, Tree.Tree, Mean.mean, Sol
 use Rattle.model_line.specs.{declared.line.Line.Line, declared.script.Script.Script}
 use Rattle.model_line.specs.Parameters.{param_count}
 use Rattle.model_logic.proofs.CoverLaws.{pair_mean-wider, claims_wider, solution_wider}
-use Rattle.model_logic.proofs.WorldLaws.{pair_world_delayed}
 use Rattle.model_logic.proofs.HistoryLaws.{keys_named, point_mean, point_history}
 use Rattle.model_logic.proofs.LogicNames.{names_trip_tree}
 use Rattle.model_logic.proofs.PlainLaws.{lifted}
+use Rattle.model_logic.specs.BoxLaws.{pair_world_delayed}
 
 -- intervals by number are part of one another where those of the parameters are
 time_part : (line : Line) (inner outer : ℕ → Ends)

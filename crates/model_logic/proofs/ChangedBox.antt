@@ -1,9 +1,8 @@
 -- The declared box of a line with another interval for one parameter.
 use Rattle.std.proofs.Common.{◌≡◌, ◌<◌, ℕ, List, length, get_or, set, sym, ◌∙◌, ap, arith, inl, inr}
-use Rattle.std.proofs.Common.{eq-eqb, cond}
-use Rattle.std.proofs.lemmas.Bool.{cases_eq, ne_eqb}
+use Rattle.std.proofs.lemmas.Bool.{cases_eq}
 use Rattle.std.proofs.lemmas.List.{length-map, get_or-set_same, get_or-set_other}
-use Rattle.std.specs.Prelude.{Bool, IsTrue}
+use Rattle.std.specs.Prelude.{IsTrue}
 use Rattle.model_history.specs.Rails.{Ends}
 use Rattle.model_line.specs.Parameters.{param_count, channel_count, delay_param, is_delay}
 use Rattle.model_line.specs.Parameters.{declared_ends}
@@ -12,17 +11,7 @@ use Rattle.model_line.specs.SameCountLaws.{delay_same}
 use Rattle.model_line.specs.{declared.line.Line.Line, WithBounds.IsWithBounds, DelayLaws.delay_at}
 use Rattle.model_logic.specs.Boxes.{ends_with, box_with, declared_with, IsSameBox}
 use Rattle.model_logic.specs.Choice.{declared_box}
-
--- at the parameter the new interval, elsewhere the old one
-pub ends_with-here : (ends : ℕ → Ends) (param : ℕ) (new : Ends) (i : ℕ) → i ≡ param
-    → ends_with ends param new i ≡ new
-ends_with-here ends param new i here =
-    ap (λ (b : Bool). cond b new (ends i)) (eq-eqb i param here)
-
-pub ends_with-elsewhere : (ends : ℕ → Ends) (param : ℕ) (new : Ends) (i : ℕ)
-    → (i ≡ param → ⊥) → ends_with ends param new i ≡ ends i
-ends_with-elsewhere ends param new i other =
-    ap (λ (b : Bool). cond b new (ends i)) (ne_eqb i param other)
+use Rattle.model_logic.specs.BoxLaws.{ends_with-here, ends_with-elsewhere}
 
 ends_made : ℕ → ℕ → Ends
 ends_made least greatest = record { least = least; greatest = greatest }

@@ -9,7 +9,8 @@ use Rattle.model_line.specs.WithBounds.{IsWithBounds}
 use Rattle.model_line.specs.{declared.line.Line.Line, SetBounds.SameButParams}
 use Rattle.model_logic.specs.Choice.{Choice, Box, IsIn, IsWithin, IsInside, declared_box}
 use Rattle.model_logic.specs.Boxes.{box_with, IsSameBox}
-use Rattle.model_logic.proofs.ChangedBox.{ends_with-here, ends_with-elsewhere, number_changed}
+use Rattle.model_logic.proofs.ChangedBox.{number_changed}
+use Rattle.model_logic.specs.BoxLaws.{ends_with-here, ends_with-elsewhere}
 
 -- a choice in a box whose number lies in the new interval is in the box with that interval
 pub within_with : (line : Line) (choice : Choice) (box : Box) (param : ℕ) (new : Ends)

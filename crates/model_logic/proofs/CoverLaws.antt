@@ -1,18 +1,16 @@
 -- In a wider world each pair covers that of the narrower one.
-use Rattle.std.proofs.Common.{◌≡◌, ◌∙◌, ℕ, zero, suc, ◌<◌, ◌≤◌, Bool, refl, sym, subst, arith}
+use Rattle.std.proofs.Common.{◌≡◌, ℕ, zero, suc, ◌<◌, ◌≤◌, refl, sym, subst, arith}
 use Rattle.std.proofs.Common.{⊎_elim}
 use Rattle.std.proofs.lemmas.Bool.{cases_lt}
 use Rattle.model_history.specs.Laws.{HistoryLaws}
-use Rattle.model_history.specs.Rails.{Rails, both, rails_delayed, RailsCover}
+use Rattle.model_history.specs.Rails.{Rails, rails_delayed, RailsCover}
+use Rattle.model_history.specs.RailLaws.{covers_same}
 use Rattle.model_line.specs.declared.line.Line.{Line}
 use Rattle.model_logic.specs.Tree.{Tree, Const, Seen, Loss, Raw, Not, And, Or, Timer, Seal}
 use Rattle.model_logic.specs.PairMean.{PairWorld, PairSignals, pair_mean}
 use Rattle.model_logic.specs.Covering.{IsWider, CoverBefore, CoverOwn}
 use Rattle.model_logic.specs.Names.{Names, AllNamed}
 use Rattle.model_logic.specs.Solution.{IsDelayed, Solves}
-
-covers_same : (x y : Bool) → x ≡ y → RailsCover (both x) (both y)
-covers_same x y e = record { must = λ h. sym e ∙ h; may = λ h. e ∙ h }
 
 cover_earlier : (line : Line) (a b : PairSignals) (r t : ℕ) → r ≤ t
     → CoverBefore line a b t → CoverBefore line a b r

@@ -9,10 +9,10 @@ use Rattle.model_logic.specs.{Names.Names, Tree.Tree}
 use Rattle.model_line.specs.{declared.line.Line.Line, declared.script.Script.Script}
 use Rattle.model_line.specs.Parameters.{terminal_count}
 use Rattle.model_logic.proofs.BoxLaws.{wider_world, point_within}
-use Rattle.model_logic.proofs.WorldLaws.{pair_world_delayed}
 use Rattle.model_logic.proofs.CoverLaws.{pair_mean-wider}
 use Rattle.model_logic.proofs.HistoryLaws.{point_mean}
 use Rattle.model_logic.proofs.PlainLaws.{lifted}
+use Rattle.model_logic.specs.BoxLaws.{pair_world_delayed}
 
 module _ (laws : HistoryLaws) where
   pub covering_keys : (line : Line) (script : Script) (box : Box) (choice : Choice)

@@ -3,12 +3,13 @@ use Rattle.std.proofs.Common.{◌≡◌, ◌<◌, ℕ, ◌∙◌, ap, arith}
 use Rattle.model_history.specs.Laws.{HistoryLaws}
 use Rattle.model_line.specs.{declared.line.Line.Line, declared.script.Script.Script}
 use Rattle.model_line.specs.{Parameters.terminal_count, SetBounds.SameButParams}
+use Rattle.model_line.specs.SameLineLaws.{exchanged}
 use Rattle.model_logic.specs.Choice.{Choice, Box, IsWithin, IsBoxWithin, LeastFromOne, declared_box}
 use Rattle.model_logic.specs.Histories.{History, IsLineHistory, Meets, PairHistory, IsPairHistory}
 use Rattle.model_logic.specs.Rule.{Held, rule_by, rule_of}
 use Rattle.model_logic.specs.{Boxes.IsSameBox, HeldOver.IsHeldOver}
 use Rattle.model_logic.proofs.DeclaredChoices.{declared_from_one}
-use Rattle.model_logic.proofs.SameHistories.{exchanged, pair_history_same, same_box}
+use Rattle.model_logic.proofs.SameHistories.{pair_history_same, same_box}
 use Rattle.model_logic.proofs.BoxLaws.{box_covers_choice}
 use Rattle.model_logic.proofs.HistoryLaws.{pair_history_exists}
 use Rattle.model_logic.proofs.RuleLaws.{held_rule_met}

@@ -17,7 +17,8 @@ use Rattle.model_logic.proofs.LogicNames.{names_key_tree, names_trip_tree}
 use Rattle.model_logic.proofs.PairLaws.{pair_mean-past, solution_once, the_keys-solve}
 use Rattle.model_logic.proofs.PlainLaws.{lifted, plain_of, pair_mean-single, pair_mean-world}
 use Rattle.model_logic.proofs.PlainLaws.{mean-past, plain_once, plain_exists}
-use Rattle.model_logic.proofs.WorldLaws.{world_delayed, pair_world_delayed, point_world}
+use Rattle.model_logic.proofs.WorldLaws.{world_delayed, point_world}
+use Rattle.model_logic.specs.BoxLaws.{pair_world_delayed}
 
 pub keys_named : (line : Line) → AllNamed line (key_tree line)
 keys_named line k lt = names_key_tree line k lt

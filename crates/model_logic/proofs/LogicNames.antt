@@ -19,6 +19,7 @@ use Rattle.model_line.specs.{declared.line.Line.Line, declared.line.Scheme.Schem
 use Rattle.model_line.specs.{declared.line.Setting.Setting, declared.script.Element.Element}
 use Rattle.model_line.specs.{Parameters.terminal_count, NumberLaws.number_within}
 use Rattle.model_line.specs.declared.script.Element.TheVariants as element
+use Rattle.model_line.specs.SettingPlaceLaws.{in_group}
 use Rattle.model_logic.specs.declared.time.Time.TheVariants.{Zero, Param}
 use Rattle.model_logic.specs.Names.{Names, HasTime, HasOwnTime, IsLocal}
 use Rattle.model_logic.specs.Tree.{Tree, Const, Seen, Loss, Raw, Not, And, Or, Timer, Seal}
@@ -34,7 +35,7 @@ use Rattle.model_logic.specs.Logic.{blocking_key, blocking_pilot, underreach_pil
 use Rattle.model_logic.specs.Logic.{key_by, pilot_by, key_tree, set_tree, trip_tree}
 use Rattle.model_logic.specs.declared.time.Time.{Time}
 use Rattle.model_logic.proofs.OwnSettings.{own_setting, own_channel_setting}
-use Rattle.model_logic.proofs.OwnSettings.{own_channel, in_group}
+use Rattle.model_logic.proofs.OwnSettings.{own_channel}
 
 module _ (line : Line) (k : ℕ) (lt : k < terminal_count line) where
   -- ---- what a terminal sees

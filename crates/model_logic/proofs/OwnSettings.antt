@@ -1,20 +1,19 @@
 -- Each setting that the logic names is a parameter of the line, and each channel exists.
-use Rattle.std.proofs.Common.{◌≡◌, ◌≢◌, ℕ, zero, suc, ◌+◌, ◌*◌, ◌<◌, Bool, true, false, List, []}
-use Rattle.std.proofs.Common.{◌∷◌, length, take}
-use Rattle.std.proofs.Common.{get_or, Option, Some, None, refl, sym, ap, ◌∙◌, subst}
+use Rattle.std.proofs.Common.{◌≡◌, ◌≢◌, ℕ, ◌+◌, ◌*◌, ◌<◌, true, false, List, []}
+use Rattle.std.proofs.Common.{length, take}
+use Rattle.std.proofs.Common.{get_or, Option, Some, None, refl, sym, ap, subst}
 use Rattle.std.proofs.lemmas.List.{get_or-map, get_or_default}
 use Rattle.std.specs.Prelude.{unwrap_or, is_some}
 use Rattle.std.specs.List.{list_any}
 use Rattle.model_line.specs.Settings.{settings_of_terminals, channel_settings, terminal_settings}
-use Rattle.model_line.specs.Settings.{groups_with, all_of, same_setting, setting_place}
-use Rattle.model_line.specs.FirstPositionLaws.{is_some-position, list_any-append_left}
-use Rattle.model_line.specs.FirstPositionLaws.{list_any-append_right}
+use Rattle.model_line.specs.Settings.{groups_with, all_of, same_setting}
 use Rattle.model_line.specs.Parameters.{param_number, terminal_count}
 use Rattle.model_line.specs.PositionLaws.{terminal_number, channel_number_of}
 use Rattle.model_line.specs.{declared.line.Line.Line, declared.line.Terminal.Terminal}
 use Rattle.model_line.specs.{declared.line.Owner.Owner, declared.line.Setting.Setting}
 use Rattle.model_line.specs.{Channels.channel_number, ChannelLaws.channel_ends}
 use Rattle.model_line.specs.declared.line.Owner.TheVariants as owner
+use Rattle.model_line.specs.SettingPlaceLaws.{has_place}
 use Rattle.model_logic.specs.Names.{IsChannelTo, HasSettingsOf, IsOwnParam, HasOwnTime}
 use Rattle.model_logic.specs.Elements.{is_guarded, is_weak, setting_of}
 use Rattle.model_logic.specs.Received.{channel_to}
@@ -26,22 +25,6 @@ unfolding setting_of
 own_number line k o x i own number =
     subst (λ (n : ℕ). IsOwnParam line k n) (sym (ap (λ n. unwrap_or n 0) number))
     (record { of = o; setting = x; own = own; number = number })
-
--- what stands in group j stands in all of them
-pub in_group : (p : Setting → Bool) (j : ℕ) (groups : List (List Setting))
-    → list_any p (get_or groups j []) ≡ true → list_any p (all_of groups) ≡ true
-in_group p j [] has = absurd (cc)
-in_group p zero (group ∷ groups) has = list_any-append_left p group (all_of groups) has
-in_group p (suc j) (group ∷ groups) has =
-    list_any-append_right p group (all_of groups) (in_group p j groups has)
-
--- a setting that stands in a list has a place there
-has_place : (ss : List Setting) (x : Setting) → list_any (same_setting x) ss ≡ true
-    → (p : ℕ) × (setting_place ss x ≡ Some p)
-has_place ss x has = from (setting_place ss x) (is_some-position (same_setting x) 0 ss ∙ has) where
-  from : (o : Option ℕ) → is_some o ≡ true → (p : ℕ) × (o ≡ Some p)
-  from None some = absurd (cc)
-  from (Some p) some = (p, refl)
 
 -- a setting of the terminal's list is the terminal's
 pub own_setting : (line : Line) (k : ℕ) (x : Setting) → k < terminal_count line

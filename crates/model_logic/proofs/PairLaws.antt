@@ -5,25 +5,15 @@ use Rattle.std.proofs.Common.{⊎_elim, eq-eqb}
 use Rattle.std.proofs.lemmas.Bool.{cases_lt, ne_eqb}
 use Rattle.std.specs.Prelude.{cond}
 use Rattle.model_history.specs.Laws.{HistoryLaws}
-use Rattle.model_history.specs.Rails.{Rails, Ends, rails_not, rails_and, rails_or, rails_delayed}
+use Rattle.model_history.specs.Rails.{rails_not, rails_and, rails_or}
 use Rattle.model_logic.specs.Tree.{Tree, Const, Seen, Loss, Raw, Not, And, Or, Timer, Seal}
 use Rattle.model_logic.specs.PairMean.{PairWorld, PairSignals, pair_mean}
 use Rattle.model_logic.specs.Solution.{IsDelayed, Solves, SameBefore, keys_before, the_keys}
 use Rattle.model_logic.specs.Names.{Names, AllNamed}
+use Rattle.model_logic.specs.BoxLaws.{same_earlier}
 use Rattle.model_line.specs.declared.line.Line.{Line}
 
 module _ (laws : HistoryLaws) where
-  -- delays of at least 1 read the ticks before t alone
-  delayed_past : (u v : ℕ → Rails) (c : Ends) (t : ℕ) → 1 ≤ c.least
-      → ((r : ℕ) → r < t → u r ≡ v r) → rails_delayed u c t ≡ rails_delayed v c t
-  delayed_past u v c t later same =
-      laws.delays_earlier.rails u v (λ _. c) t (λ r low high. same r (omega arith))
-
-  -- keys that agree before a tick agree before each earlier one
-  pub same_earlier : (line : Line) (u v : PairSignals) (r t : ℕ) → r ≤ t
-      → SameBefore line u v t → SameBefore line u v r
-  same_earlier line u v r t le same k s kn lt = same k s kn (omega arith)
-
   module _ (line : Line) (w : PairWorld) (d : IsDelayed line w) where
     -- the pair at t is the same wherever the keys before t are
     pub pair_mean-past : (u v : PairSignals) (x : Tree) (t : ℕ) → t < line.horizon → Names line x
@@ -33,8 +23,9 @@ module _ (laws : HistoryLaws) where
     pair_mean-past u v (Seen p) t early h same = refl
     pair_mean-past u v (Loss c) t early h same = refl
     pair_mean-past u v (Raw c) t early h same =
-        delayed_past (u (w.from c)) (v (w.from c)) (w.delay c t) t (d.later c t h early)
-        (λ r lt. same (w.from c) r (d.from c h) lt)
+        let later : 1 ≤ (w.delay c t).least = d.later c t h early in
+        laws.delays_earlier.rails (u (w.from c)) (v (w.from c)) (w.delay c) t
+        (λ r low high. same (w.from c) r (d.from c h) (omega arith))
     pair_mean-past u v (Not x) t early h same = ap rails_not (pair_mean-past u v x t early h same)
     pair_mean-past u v (And x y) t early h same =
         ap (λ a. rails_and a (pair_mean w u y t)) (pair_mean-past u v x t early h.0 same)

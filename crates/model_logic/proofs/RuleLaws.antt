@@ -1,8 +1,9 @@
 -- The rule is told by its facts, and speaks for every history that the pairs cover.
-use Rattle.std.proofs.Common.{◌≡◌, ◌||◌, ℕ, zero, suc, ◌<◌, ◌≤◌, Bool, true, false, not, refl, sym}
+use Rattle.std.proofs.Common.{◌≡◌, ◌||◌, ℕ, zero, suc, ◌<◌, ◌≤◌, Bool, true, false, not, refl}
 use Rattle.std.proofs.Common.{◌∙◌, ap, arith}
 use Rattle.std.proofs.lemmas.Bool.Decides.{Decides-like}
 use Rattle.std.specs.Prelude.{IsTrue, IsFalse, Decides, cond}
+use Rattle.std.proofs.lemmas.Bool.{false_from_ne_true, not-true}
 use Rattle.model_history.specs.{Laws.HistoryLaws, Elements.some_below, Rails.Rails, Rails.Covers}
 use Rattle.model_line.specs.declared.script.Kind.TheVariants.{Internal, External}
 use Rattle.model_line.specs.{declared.line.Line.Line, declared.script.Script.Script}
@@ -11,19 +12,9 @@ use Rattle.model_logic.specs.Histories.{History, MeetsBy, Meets, PairHistory, Co
 use Rattle.model_logic.specs.Rule.{Rule, Held, Broken, Unknown, IsHeld, IsBroken, is_held}
 use Rattle.model_logic.specs.Rule.{is_broken, rule_by, rule_of}
 use Rattle.model_history.specs.BelowLaws.{some_below-some}
+use Rattle.model_history.specs.TruthLaws.{not_both}
 
 -- ---- what is tested is what is said
-
-not_true : (b : Bool) → (IsTrue b → ⊥) → IsFalse b
-not_true true h = absurd (h refl)
-not_true false h = refl
-
-off_not_on : (b : Bool) → IsTrue b → IsFalse b → ⊥
-off_not_on b on off = let same : true ≡ false = sym on ∙ off in cc
-
-on_of_not : (b : Bool) → IsTrue (not b) → IsFalse b
-on_of_not true h = absurd (cc)
-on_of_not false h = refl
 
 some_below-none : (u : ℕ → Bool) (n : ℕ) → ((t : ℕ) → t < n → IsFalse (u t))
     → IsFalse (some_below u n)
@@ -36,9 +27,9 @@ some_below-none u (suc n) all =
 Decides-none : (u : ℕ → Bool) (n : ℕ)
     → Decides (not (some_below u n)) ((t : ℕ) → t < n → IsFalse (u t))
 Decides-none u n = (
-  λ none t lt. not_true (u t) (λ on.
-      off_not_on (some_below u n) (some_below-some u n t lt on)
-      (on_of_not (some_below u n) none)),
+  λ none t lt. false_from_ne_true (u t) (λ on.
+      not_both (some_below u n) (not-true (some_below u n) none)
+      (some_below-some u n t lt on)),
   λ all. ap not (some_below-none u n all),
 )
 
@@ -96,10 +87,10 @@ module _ (laws : HistoryLaws) where
     unknown_test false false e = (refl, refl)
 
     given : (b : Bool) (P : Type 0) → Decides b P → IsFalse b → P → ⊥
-    given b P d off p = off_not_on b (d.1 p) off
+    given b P d off p = not_both b off (d.1 p)
 
     denied : (b : Bool) (P : Type 0) → Decides b P → (P → ⊥) → IsFalse b
-    denied b P d never = not_true b (λ on. never (d.0 on))
+    denied b P d never = false_from_ne_true b (λ on. never (d.0 on))
 
     pub rule_held : rule ≡ Held → IsHeld kind deadline horizon trip
     unfolding rule_by
@@ -157,7 +148,7 @@ module _ (laws : HistoryLaws) where
   -- ---- over trips that the pairs cover
 
   covered_off : (x : Rails) (v : Bool) → Covers x v → IsFalse x.may → IsFalse v
-  covered_off x v cover off = not_true v (λ on. off_not_on x.may (cover.may on) off)
+  covered_off x v cover off = false_from_ne_true v (λ on. not_both x.may off (cover.may on))
 
   module _ (deadline horizon : ℕ) (early : deadline < horizon) (trip : ℕ → Rails) (plain : ℕ → Bool)
       (cover : (t : ℕ) → t < horizon → Covers (trip t) (plain t)) where
@@ -172,12 +163,12 @@ module _ (laws : HistoryLaws) where
         → MeetsBy kind deadline horizon plain → ⊥
     broken_failed Internal broken met =
         let le : met.0 ≤ deadline = met.1 in
-        off_not_on (plain met.0) met.2
+        not_both (plain met.0)
         (covered_off (trip met.0) (plain met.0) (cover met.0 (omega arith))
-        (broken met.0 met.1))
+        (broken met.0 met.1)) met.2
     broken_failed External broken met =
-        off_not_on (plain broken.0) ((cover broken.0 broken.1).must broken.2)
-        (met broken.0 broken.1)
+        not_both (plain broken.0) (met broken.0 broken.1)
+        ((cover broken.0 broken.1).must broken.2)
 
   -- what the rule of a line's obligation says of a history that is covered
   module _ (line : Line) (script : Script) (w : PairHistory) (h : History) (k : ℕ)

@@ -1,32 +1,21 @@
 -- Histories rest on no declared interval, and interval histories on the intervals of their box.
-use Rattle.std.proofs.Common.{◌≡◌, ◌<◌, ℕ, List, refl, sym, ◌∙◌, ap, subst}
-use Rattle.model_history.specs.{Laws.HistoryLaws, Rails.Ends}
+use Rattle.std.proofs.Common.{◌≡◌, ◌<◌, ℕ, List, sym, ◌∙◌, ap, subst}
+use Rattle.model_history.specs.Laws.{HistoryLaws}
 use Rattle.model_line.specs.Seen.{is_seen, is_lost}
 use Rattle.model_line.specs.{declared.line.Line.Line, SetBounds.SameButParams}
 use Rattle.model_line.specs.{declared.line.Channel.Channel, declared.script.Script.Script}
-use Rattle.model_line.specs.{Channels.from_of, Parameters.param_count, SameCountLaws.terminals_same}
-use Rattle.model_logic.specs.declared.time.Time.TheVariants.{Zero, Param}
+use Rattle.model_line.specs.{Channels.from_of, SameCountLaws.terminals_same}
 use Rattle.model_logic.specs.Choice.{Choice, Box, time_by, ends_by, world_of, pair_world_of}
 use Rattle.model_logic.specs.Logic.{key_tree, trip_tree}
 use Rattle.model_logic.specs.Histories.{History, IsLineHistory, PairHistory, IsPairHistory}
 use Rattle.model_logic.specs.Mean.{World, mean}
 use Rattle.model_logic.specs.PairMean.{PairWorld, pair_mean}
-use Rattle.model_logic.specs.{declared.time.Time.Time, Names.HasTime, Tree.Tree}
-use Rattle.model_logic.specs.{Covering.IsSameWorld, Boxes.IsSameBox}
+use Rattle.model_logic.specs.Tree.{Tree}
+use Rattle.model_logic.specs.Boxes.{IsSameBox}
 use Rattle.model_logic.proofs.LogicNames.{names_key_tree, names_trip_tree}
 use Rattle.model_logic.proofs.SameTrees.{key_tree-same, trip_tree-same}
 use Rattle.model_logic.proofs.PlainLaws.{pair_mean-world}
-
--- the same with the two lines exchanged
-pub exchanged : (old new : Line) → SameButParams old new → SameButParams new old
-exchanged old new same = record {
-  tick_us = sym same.tick_us;
-  horizon = sym same.horizon;
-  scheme = sym same.scheme;
-  zone1_trip = sym same.zone1_trip;
-  terminals = sym same.terminals;
-  channels = sym same.channels;
-}
+use Rattle.model_logic.specs.BoxLaws.{same_world}
 
 module _ (old new : Line) (same : SameButParams old new) (script : Script) where
   world_same : (choice : Choice) → world_of new script choice ≡ world_of old script choice
@@ -89,30 +78,14 @@ module _ (old new : Line) (same : SameButParams old new) (script : Script) where
 
 -- ---- the same box
 
-time_same : (line : Line) (a b : ℕ → Ends) → ((i : ℕ) → i < param_count line → a i ≡ b i)
-    → (x : Time) → HasTime line x → ends_by a x ≡ ends_by b x
-time_same line a b same Zero has = refl
-time_same line a b same (Param i) has = same i has
-
-box_world_same : (line : Line) (script : Script) (a b : Box) → IsSameBox line a b
-    → IsSameWorld line (pair_world_of line script a) (pair_world_of line script b)
-unfolding pair_world_of
-box_world_same line script a b same = record {
-  seen = λ p t. refl;
-  lost = λ c t. refl;
-  from = λ c. refl;
-  delay = same.delays;
-  time = time_same line a.ends b.ends same.numbers;
-}
-
 module _ (laws : HistoryLaws) where
   pub same_box : (line : Line) (script : Script) (a b : Box) (w : PairHistory) → IsSameBox line a b
       → IsPairHistory line script a w → IsPairHistory line script b w
   same_box line script a b w same is = record {
     keys = λ k t kn lt. is.keys k t kn lt
         ∙ pair_mean-world laws line (pair_world_of line script a) (pair_world_of line script b) w.key
-        (key_tree line k) t lt (names_key_tree line k kn) (box_world_same line script a b same);
+        (key_tree line k) t lt (names_key_tree line k kn) (same_world line script a b same);
     trips = λ k t kn lt. is.trips k t kn lt
         ∙ pair_mean-world laws line (pair_world_of line script a) (pair_world_of line script b) w.key
-        (trip_tree line k) t lt (names_trip_tree line k kn) (box_world_same line script a b same);
+        (trip_tree line k) t lt (names_trip_tree line k kn) (same_world line script a b same);
   }

@@ -1,8 +1,9 @@
 -- What must be may be in an interval history over a box that a choice lies in, since it covers the
 -- history of that choice. So there a rule is broken wherever what it says of the pairs is.
-use Rattle.std.proofs.Common.{◌≡◌, ◌<◌, ◌≤◌, ℕ, Bool, true, false, sym, ◌∙◌, arith}
-use Rattle.std.specs.Prelude.{◌↔◌, IsTrue, IsFalse}
+use Rattle.std.proofs.Common.{◌≡◌, ◌<◌, ◌≤◌, ℕ, Bool, arith}
+use Rattle.std.specs.Prelude.{◌↔◌}
 use Rattle.model_history.specs.{Laws.HistoryLaws, Rails.Rails, Rails.Covers, Rails.IsSound}
+use Rattle.model_history.specs.TruthLaws.{not_both}
 use Rattle.model_line.specs.declared.script.Kind.TheVariants.{Internal, External}
 use Rattle.model_line.specs.{declared.line.Line.Line, declared.script.Script.Script}
 use Rattle.model_line.specs.{declared.script.Kind.Kind, Parameters.terminal_count}
@@ -36,18 +37,15 @@ module _ (laws : HistoryLaws) where
         trips = λ k t kn lt. covering_sound (w.trip k t) (h.trip k t) (cover.trips k t kn lt);
       }
 
-  on_and_off : (b : Bool) → IsTrue b → IsFalse b → ⊥
-  on_and_off b on off = let same : true ≡ false = sym on ∙ off in cc
-
   -- over pairs of which what must be may be, what is broken is not held
   never_both : (kind : Kind) (deadline horizon : ℕ) (trip : ℕ → Rails) → deadline < horizon
       → ((t : ℕ) → t < horizon → IsSound (trip t)) → IsBroken kind deadline horizon trip
       → IsHeld kind deadline horizon trip → ⊥
   never_both Internal deadline horizon trip early sound broken held =
       let le : held.0 ≤ deadline = held.1 in
-      on_and_off (trip held.0).may (sound held.0 (omega arith) held.2) (broken held.0 held.1)
+      not_both (trip held.0).may (broken held.0 held.1) (sound held.0 (omega arith) held.2)
   never_both External deadline horizon trip early sound broken held =
-      on_and_off (trip broken.0).may (sound broken.0 broken.1 broken.2) (held broken.0 broken.1)
+      not_both (trip broken.0).may (held broken.0 broken.1) (sound broken.0 broken.1 broken.2)
 
   pub sound_broken : (line : Line) (script : Script) (w : PairHistory) (k : ℕ)
       → script.deadline < line.horizon → IsSoundHistory line w → k < terminal_count line

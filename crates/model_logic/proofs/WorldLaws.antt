@@ -1,11 +1,11 @@
 -- The worlds of a line at a choice and over a box: their delays are at least 1 where those are.
 use Rattle.std.proofs.Common.{◌≡◌, ℕ, ◌<◌, ◌≤◌, List, refl}
 use Rattle.std.specs.Prelude.{get_or}
-use Rattle.model_history.specs.{Rails.single}
+use Rattle.model_history.specs.Rails.{single}
 use Rattle.model_line.specs.Parameters.{channel_count, delay_param}
 use Rattle.model_line.specs.{declared.script.Script.Script, declared.line.Line.Line}
 use Rattle.model_logic.specs.declared.time.Time.TheVariants.{Zero, Param}
-use Rattle.model_logic.specs.Choice.{Choice, Box, DelaysFromOne, LeastFromOne, steady_choice}
+use Rattle.model_logic.specs.Choice.{Choice, DelaysFromOne, steady_choice}
 use Rattle.model_logic.specs.Choice.{point_box, time_by, ends_by, world_of, pair_world_of}
 use Rattle.model_logic.specs.{Solution.IsDelayed, Covering.IsSameWorld}
 use Rattle.model_logic.specs.{declared.time.Time.Time, PairMean.singles}
@@ -14,11 +14,6 @@ pub world_delayed : (line : Line) (script : Script) (choice : Choice) → Delays
     → IsDelayed line (singles (world_of line script choice))
 unfolding world_of
 world_delayed line script choice d = record { from = line.pairs_once.from; later = d }
-
-pub pair_world_delayed : (line : Line) (script : Script) (box : Box) → LeastFromOne line box
-    → IsDelayed line (pair_world_of line script box)
-unfolding pair_world_of
-pair_world_delayed line script box d = record { from = line.pairs_once.from; later = d }
 
 same_time : (number : ℕ → ℕ) (x : Time)
     → ends_by (λ i. single (number i)) x ≡ single (time_by number x)

@@ -16,3 +16,7 @@ pub mod Rule
 pub mod Solution
 pub mod Tree
 pub mod Unblocking
+pub mod BoxLaws
+pub mod RuleLaws
+pub mod SameTree
+pub mod SameTreeLaws

@@ -4,7 +4,7 @@ use Rattle.std.proofs.Common.{None, List, [], ◌∷◌, ◌++◌, length, map, 
 use Rattle.std.proofs.Common.{Some, refl, sym, ap, ◌∙◌, arith, subst, inl, inr, eq-eqb, ne_eqb}
 use Rattle.std.proofs.Common.{length-append, zero-add}
 use Rattle.std.proofs.lemmas.Slice.Eq.{bytes_eq-Decides}
-use Rattle.std.proofs.lemmas.Bool.{and_parts, and_from, cases_eq, cases_lt, cases_Bool}
+use Rattle.std.proofs.lemmas.Bool.{and_parts, and_from, cases_eq, cases_lt}
 use Rattle.std.proofs.lemmas.List.{get_or-map, length-map, take_all}
 use Rattle.std.proofs.lemmas.List.Folds.{list_all-append}
 use Rattle.std.proofs.lemmas.List.Elements.{All-nil, All-cons, All-append, All-head, All-tail}
@@ -26,6 +26,7 @@ use Rattle.model_line.specs.{declared.line.Param.Param, declared.line.Setting.Se
 use Rattle.model_line.specs.{declared.line.Terminal.Terminal, declared.line.Channel.Channel}
 use Rattle.model_line.specs.NamesByNumber.{parameter_name}
 use Rattle.model_names.specs.ParamNamesApart.{has_no, ParamNamesApart}
+use Rattle.model_line.specs.TextLaws.{bytes_differ}
 use Rattle.model_names.proofs.SettingTexts.{text_has_no_at, is_other_text, differ}
 use Rattle.model_names.proofs.SettingTexts.{terminal_settings_differ, channel_settings_differ}
 
@@ -289,12 +290,6 @@ module _ {X : Type 0} (name : X → List ℕ) (settings : X → List Setting)
       (λ y h. each_setting (λ u. dotted (name x) s ≢ dotted (name y) u) (settings y)
       (λ u. owners_differ (name x) (name y) s u here h.0 h.1))
       (all_both (λ y. has_no 46 (name y) ≡ true) (λ y. name x ≢ name y) xs rest apart.0)))))
-
-bytes_differ : (a b : List ℕ) → a ≢ b → bytes_eq a b ≡ false
-bytes_differ a b other = elim (cases_Bool (bytes_eq a b)) [
-  | inl same ↦ absurd (other ((bytes_eq-Decides a b).0 same))
-  | inr differ ↦ differ
-]
 
 -- ---- the names of a line's parameters
 

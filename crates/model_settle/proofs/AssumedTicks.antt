@@ -11,10 +11,11 @@ use Rattle.model_logic.specs.Permissive.{echo_wanted, permission, quiet, termina
 use Rattle.model_logic.specs.declared.time.Time.{Time}
 use Rattle.model_logic.specs.declared.time.Time.TheVariants.{Zero}
 use Rattle.model_logic.specs.Tree.{Tree, Const, And, Timer}
+use Rattle.model_logic.specs.SameTreeLaws.{tree-itself}
+use Rattle.model_logic.specs.SameTree.{same_tree}
 use Rattle.model_settle.specs.Assumed.{Assumption, wanted, assumed_level}
-use Rattle.model_settle.specs.{CaseTrees.with_case, SameTree.same_tree}
+use Rattle.model_settle.specs.CaseTrees.{with_case}
 use Rattle.model_settle.specs.Under.{assumed_or, pair_under, own_pair}
-use Rattle.model_settle.proofs.TreesCompared.{tree-itself}
 
 -- a timer of which a level is assumed has it on both rails
 timer_level : (level : Tree → ℕ → Option Bool) (w : PairWorld) (keys : PairSignals) (x : Tree)

@@ -1,10 +1,11 @@
 -- Over worse numbers each tree is worse on the rail that reads it.
 use Rattle.std.proofs.Common.{◌≡◌, ◌&&◌, ◌||◌, ℕ, zero, suc, ◌<◌, ◌≤◌, ◌-◌, Bool, true, false, not}
-use Rattle.std.proofs.Common.{refl, sym, ◌∙◌, ap, subst, arith, ⊎_elim}
+use Rattle.std.proofs.Common.{refl, sym, ap, subst, arith, ⊎_elim}
 use Rattle.std.proofs.lemmas.Bool.{cases_lt, both_ways, false_from_ne_true}
 use Rattle.std.specs.Prelude.{IsTrue}
 use Rattle.model_history.specs.{Laws.HistoryLaws, Elements.timed, Elements.sealed, Elements.delayed}
 use Rattle.model_history.specs.Comes.{Comes}
+use Rattle.model_history.specs.TruthLaws.{and_both, or_both}
 use Rattle.model_logic.specs.Tree.{Tree, Const, Seen, Loss, Raw, Not, And, Or, Timer, Seal}
 use Rattle.model_logic.specs.declared.time.Time.TheVariants.{Zero, Param}
 use Rattle.model_logic.specs.Names.{Names, HasTime}
@@ -41,26 +42,15 @@ leads_not : (rail : Rail) (a b : Bool) → Leads (turned rail) a b → Leads rai
 leads_not Must a b h = not_back b a h
 leads_not May a b h = not_back a b h
 
-and_on : (a b c d : Bool) → (IsTrue a → IsTrue c) → (IsTrue b → IsTrue d) → IsTrue (a && b)
-    → IsTrue (c && d)
-and_on true b c d f g on = ap (λ x. x && d) (f refl) ∙ g on
-and_on false b c d f g on = absurd (cc)
-
-or_on : (a b c d : Bool) → (IsTrue a → IsTrue c) → (IsTrue b → IsTrue d) → IsTrue (a || b)
-    → IsTrue (c || d)
-or_on true b c d f g on = ap (λ x. x || d) (f refl)
-or_on false b true d f g on = refl
-or_on false b false d f g on = g on
-
 leads_and : (rail : Rail) (a b c d : Bool) → Leads rail a c → Leads rail b d
     → Leads rail (a && b) (c && d)
-leads_and Must a b c d f g = and_on c d a b f g
-leads_and May a b c d f g = and_on a b c d f g
+leads_and Must a b c d f g = and_both c d a b f g
+leads_and May a b c d f g = and_both a b c d f g
 
 leads_or : (rail : Rail) (a b c d : Bool) → Leads rail a c → Leads rail b d
     → Leads rail (a || b) (c || d)
-leads_or Must a b c d f g = or_on c d a b f g
-leads_or May a b c d f g = or_on a b c d f g
+leads_or Must a b c d f g = or_both c d a b f g
+leads_or May a b c d f g = or_both a b c d f g
 
 toward_same : (end : End) (a b : ℕ) → a ≡ b → Toward end a b
 toward_same Least a b e = omega arith

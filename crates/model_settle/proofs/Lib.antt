@@ -1,4 +1,3 @@
-pub mod TreesCompared
 pub mod UnderPast
 pub mod WantedNamed
 pub mod UnderCovers

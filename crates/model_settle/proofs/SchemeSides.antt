@@ -14,6 +14,7 @@ use Rattle.model_line.specs.Settings.{same_setting, groups_with, guard_settings,
 use Rattle.model_line.specs.Channels.{from_of}
 use Rattle.model_line.specs.{declared.line.Line.Line, declared.line.Scheme.Scheme}
 use Rattle.model_line.specs.{declared.line.Setting.Setting, Parameters.terminal_count}
+use Rattle.model_line.specs.SettingPlaceLaws.{in_group}
 use Rattle.model_logic.specs.Tree.{Tree, Const, And, Or, Timer}
 use Rattle.model_logic.specs.Elements.{is_guarded, is_weak, seen_timed, zone1, zone2, reverse}
 use Rattle.model_logic.specs.Elements.{current}
@@ -28,7 +29,7 @@ use Rattle.model_settle.specs.Sides.{Rail, Must, May, turned, IsReadOn}
 use Rattle.model_settle.specs.Sides.{IsTakenAt}
 use Rattle.model_settle.specs.Schemes.{IsOneRailedBy, key_rail, end_for, scheme_sides}
 use Rattle.model_settle.specs.Schemes.{all_terminals}
-use Rattle.model_settle.proofs.SettingSides.{taken, in_group}
+use Rattle.model_settle.proofs.SettingSides.{taken}
 
 -- ---- what holds of each tree holds of all joined
 

@@ -1,22 +1,21 @@
 -- Each setting of a terminal is asked for at its side's end.
 use Rattle.std.proofs.Common.{◌≡◌, ℕ, zero, suc, ◌+◌, ◌<◌, Bool, true, false, List, [], ◌∷◌}
-use Rattle.std.proofs.Common.{length, take, get_or, cond, Option, Some, None, refl, sym, ap, ◌∙◌}
+use Rattle.std.proofs.Common.{length, take, get_or, cond, Some, refl, sym, ap, ◌∙◌}
 use Rattle.std.proofs.Common.{arith, rules}
 use Rattle.std.proofs.lemmas.Bool.{and_parts}
 use Rattle.std.proofs.lemmas.List.{get_or-map, get_or_default}
-use Rattle.std.specs.Prelude.{unwrap_or, is_some, option_map}
+use Rattle.std.specs.Prelude.{unwrap_or, option_map}
 use Rattle.std.specs.List.{position_from, list_any}
 use denote.Enum.Bare.{same_true}
 use Rattle.model_line.specs.Settings.{OwnedSetting, line_settings, settings_of_terminals}
 use Rattle.model_line.specs.Settings.{terminal_settings, groups_with, all_of, is_owned_setting}
-use Rattle.model_line.specs.Settings.{same_setting, same_owner, setting_place}
-use Rattle.model_line.specs.FirstPositionLaws.{is_some-position, list_any-append_left}
-use Rattle.model_line.specs.FirstPositionLaws.{list_any-append_right}
+use Rattle.model_line.specs.Settings.{same_setting, same_owner}
 use Rattle.model_line.specs.Parameters.{param_number, terminal_count}
 use Rattle.model_line.specs.{contracts.line.Setting.the_type, declared.line.Line.Line}
 use Rattle.model_line.specs.{declared.line.Terminal.Terminal, declared.line.Owner.Owner}
 use Rattle.model_line.specs.{declared.line.Setting.Setting, declared.line.Setting.TheVariants.Delay}
 use Rattle.model_line.specs.declared.line.Owner.TheVariants as owner
+use Rattle.model_line.specs.SettingPlaceLaws.{has_place}
 use Rattle.model_logic.specs.Elements.{is_guarded, is_weak, setting_of}
 use Rattle.model_logic.specs.Laws.{LineLaws}
 use Rattle.model_settle.specs.Sides.{Rail, IsTakenAt}
@@ -57,13 +56,6 @@ module _ (line : Line) where
       same_true the_type (search rules) x (get_or all j d).setting parts.1 in
       ap (setting_at line) (sym e) ∙ get_or-map (λ s. s.setting) all j d Delay lt ∙ sym same
 
-  has_place : (ss : List Setting) (x : Setting) → list_any (same_setting x) ss ≡ true
-      → (p : ℕ) × (setting_place ss x ≡ Some p)
-  has_place ss x has = from (setting_place ss x) (is_some-position (same_setting x) 0 ss ∙ has) where
-    from : (o : Option ℕ) → is_some o ≡ true → (p : ℕ) × (o ≡ Some p)
-    from None some = absurd (cc)
-    from (Some p) some = (p, refl)
-
   module _ (laws : LineLaws) (rail : Rail) (k : ℕ) (kn : k < terminal_count line) where
     taken_by_number : (x : Setting) (i : ℕ) → param_number line (owner.Terminal k) x ≡ Some i
         → IsTakenAt (scheme_sides line rail) (setting_of line (owner.Terminal k) x) (end_for rail x)
@@ -87,11 +79,3 @@ module _ (line : Line) where
         taken_by_number x (length (settings_of_terminals line.scheme 0 (take k ts)) + place.0)
         (laws.parameters.of_terminal line k x t kn is
         ∙ ap (option_map (λ i. length (settings_of_terminals line.scheme 0 (take k ts)) + i)) place.1)
-
--- what stands in group j stands in all of them
-pub in_group : (p : Setting → Bool) (j : ℕ) (groups : List (List Setting))
-    → list_any p (get_or groups j []) ≡ true → list_any p (all_of groups) ≡ true
-in_group p j [] has = absurd (cc)
-in_group p zero (group ∷ groups) has = list_any-append_left p group (all_of groups) has
-in_group p (suc j) (group ∷ groups) has =
-    list_any-append_right p group (all_of groups) (in_group p j groups has)

@@ -1,8 +1,9 @@
 -- Over keys that are the rails of pairs, in a world that is the worst for these, the value of a tree
 -- that is read on a rail is that rail of the tree's pair.
-use Rattle.std.proofs.Common.{◌≡◌, ◌&&◌, ◌||◌, ℕ, ◌<◌, ◌≤◌, Bool, true, false, not, refl, sym, ◌∙◌}
+use Rattle.std.proofs.Common.{◌≡◌, ◌&&◌, ◌||◌, ℕ, ◌<◌, ◌≤◌, Bool, not, refl, ◌∙◌}
 use Rattle.std.proofs.Common.{ap, arith, ⊎_elim, inr}
 use Rattle.std.specs.Prelude.{◌⊎◌, IsTrue}
+use Rattle.std.specs.Cmp.{both_ways}
 use Rattle.model_history.specs.{Laws.HistoryLaws, Elements.timed, Elements.sealed, Elements.delayed}
 use Rattle.model_history.specs.Rails.{Rails, Ends, Covers, rails_not, rails_and, rails_or}
 use Rattle.model_history.specs.Rails.{rails_timed}
@@ -53,16 +54,11 @@ value_sealed May a b t = refl
 
 -- where both rails are the same, a value that they cover is either
 
-same_from_both : (a b : Bool) → (IsTrue a → IsTrue b) → (IsTrue b → IsTrue a) → a ≡ b
-same_from_both true b to from = sym (to refl)
-same_from_both false true to from = from refl
-same_from_both false false to from = refl
-
 known_value : (rail : Rail) (x : Rails) (b : Bool) → x.must ≡ x.may → Covers x b
     → b ≡ value_on rail x
-known_value Must x b known cover = same_from_both b x.must (λ on. known ∙ cover.may on) cover.must
+known_value Must x b known cover = both_ways b x.must (λ on. known ∙ cover.may on) cover.must
 known_value May x b known cover =
-    same_from_both b x.may cover.may (λ on. cover.must (known ∙ on))
+    both_ways b x.may cover.may (λ on. cover.must (known ∙ on))
 
 -- what is read whatever is known is read
 pub read_stays : (known : Tree → Type 0) (from : ℕ → ℕ) (cone : ℕ → Bool) (sides : Sides)

@@ -17,10 +17,10 @@ use Rattle.model_logic.specs.Choice.{world_of, pair_world_of}
 use Rattle.model_logic.specs.Histories.{History, IsLineHistory, PairHistory, CoversHistory}
 use Rattle.model_logic.specs.Logic.{key_tree, trip_tree}
 use Rattle.model_logic.specs.{Laws.TreesNameTheLine, Names.Names, Names.HasTime}
+use Rattle.model_logic.specs.SameTree.{same_tree}
+use Rattle.model_logic.specs.SameTreeLaws.{tree-same}
 use Rattle.model_settle.specs.Assumed.{Assumption, wanted, Agrees, AgreesWithAll, assumed_level}
 use Rattle.model_settle.specs.Under.{assumed_or, pair_under, own_pair, IsPairHistoryUnder, Excludes}
-use Rattle.model_settle.specs.SameTree.{same_tree}
-use Rattle.model_settle.proofs.TreesCompared.{tree-same}
 
 -- ---- what is assumed of a tree is its value
 

@@ -1,42 +1,28 @@
 -- One interval history for each box and what is assumed; what is shown over one is so over each.
-use Rattle.std.proofs.Common.{◌≡◌, ◌<◌, ◌≤◌, ℕ, Bool, refl, sym, ◌∙◌, ap, subst, arith}
+use Rattle.std.proofs.Common.{◌≡◌, ◌<◌, ℕ, Bool, refl, sym, ◌∙◌, subst, arith}
 use Rattle.std.proofs.Common.{⊎_elim, inl, inr, List, []}
 use Rattle.std.specs.Prelude.{◌↔◌, ◌⊎◌, Option}
 use Rattle.model_history.specs.{Laws.HistoryLaws, Rails.Rails}
-use Rattle.model_line.specs.declared.script.Kind.TheVariants.{Internal, External}
 use Rattle.model_line.specs.{declared.line.Line.Line, declared.script.Script.Script}
-use Rattle.model_line.specs.{declared.script.Kind.Kind, Parameters.terminal_count}
+use Rattle.model_line.specs.Parameters.{terminal_count}
 use Rattle.model_logic.specs.Tree.{Tree, Timer}
 use Rattle.model_logic.specs.PairMean.{PairWorld, PairSignals}
 use Rattle.model_logic.specs.Choice.{Box, LeastFromOne, pair_world_of}
 use Rattle.model_logic.specs.Histories.{PairHistory, IsPairHistory, IsSamePairHistory}
 use Rattle.model_logic.specs.Logic.{key_tree, trip_tree}
-use Rattle.model_logic.specs.Solution.{IsDelayed, SameBefore}
+use Rattle.model_logic.specs.Solution.{SameBefore}
 use Rattle.model_logic.specs.{Laws.LineLaws, Laws.TreesNameTheLine, Names.Names}
-use Rattle.model_logic.specs.Rule.{Held, IsHeld, rule_of}
+use Rattle.model_logic.specs.Rule.{Held, rule_of}
 use Rattle.model_settle.specs.Assumed.{Assumption, wanted, assumed_level}
 use Rattle.model_settle.specs.Under.{pair_under, own_pair, IsPairHistoryUnder, Excludes}
 use Rattle.model_settle.specs.Under.{SomeIsExcluded}
-use Rattle.model_logic.specs.{HeldOver.IsHeldOver}
+use Rattle.model_logic.specs.HeldOver.{IsHeldOver}
+use Rattle.model_logic.specs.BoxLaws.{pair_world_delayed}
+use Rattle.model_logic.specs.RuleLaws.{held_same}
 use Rattle.model_settle.specs.CaseTrees.{IsShownUnder}
 use Rattle.model_settle.proofs.UnderPast.{pair_under-past, pair_under-nothing, solution_once}
 use Rattle.model_settle.proofs.UnderPast.{keys_under, keys_under-solve}
 use Rattle.model_settle.proofs.WantedNamed.{wanted_named}
-
-over_box_delayed : (line : Line) (script : Script) (box : Box) → LeastFromOne line box
-    → IsDelayed line (pair_world_of line script box)
-unfolding pair_world_of
-over_box_delayed line script box d = record { from = line.pairs_once.from; later = d }
-
--- a rule is held wherever the trips are the same
-held_same : (kind : Kind) (deadline horizon : ℕ) (u v : ℕ → Rails) → deadline < horizon
-    → ((t : ℕ) → t < horizon → u t ≡ v t) → IsHeld kind deadline horizon u
-    → IsHeld kind deadline horizon v
-held_same Internal deadline horizon u v early same held =
-    let le : held.0 ≤ deadline = held.1 in
-    (held.0, held.1, sym (ap (λ (r : Rails). r.must) (same held.0 (omega arith))) ∙ held.2)
-held_same External deadline horizon u v early same held =
-    λ t lt. sym (ap (λ (r : Rails). r.may) (same t lt)) ∙ held t lt
 
 module _ (laws : HistoryLaws) (names : TreesNameTheLine) (line : Line) (script : Script) (box : Box)
     (assumed : List Assumption) (d : LeastFromOne line box) where
@@ -51,7 +37,7 @@ module _ (laws : HistoryLaws) (names : TreesNameTheLine) (line : Line) (script :
       let keys : PairSignals = keys_under laws level over (key_tree line) in (
         record { key = keys; trip = λ k t. pair_under level over keys (trip_tree line k) t },
         record {
-          keys = keys_under-solve laws level line over (over_box_delayed line script box d)
+          keys = keys_under-solve laws level line over (pair_world_delayed line script box d)
               (key_tree line) (names.keys line);
           trips = λ k t kn lt. refl;
         },
@@ -61,13 +47,13 @@ module _ (laws : HistoryLaws) (names : TreesNameTheLine) (line : Line) (script :
       (is_w : IsPairHistoryUnder line script box assumed w) where
     same_keys : SameBefore line v.key w.key line.horizon
     same_keys =
-        solution_once laws level line over (over_box_delayed line script box d) (key_tree line)
+        solution_once laws level line over (pair_world_delayed line script box d) (key_tree line)
         v.key w.key (names.keys line) is_v.keys is_w.keys line.horizon (omega arith)
 
     same_pair : (x : Tree) (t : ℕ) → t < line.horizon → Names line x
         → pair_under level over v.key x t ≡ pair_under level over w.key x t
     same_pair x t lt named =
-        pair_under-past laws level line over (over_box_delayed line script box d) v.key w.key x t lt
+        pair_under-past laws level line over (pair_world_delayed line script box d) v.key w.key x t lt
         named (λ j r jn before. same_keys j r jn (omega arith))
 
     pub under_once : IsSamePairHistory line v w

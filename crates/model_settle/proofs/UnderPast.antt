@@ -11,6 +11,7 @@ use Rattle.model_logic.specs.Tree.{Tree, Const, Seen, Loss, Raw, Not, And, Or, T
 use Rattle.model_logic.specs.PairMean.{PairWorld, PairSignals, pair_mean}
 use Rattle.model_logic.specs.Solution.{IsDelayed, SameBefore}
 use Rattle.model_logic.specs.Names.{Names, AllNamed}
+use Rattle.model_logic.specs.BoxLaws.{same_earlier}
 use Rattle.model_line.specs.Parameters.{terminal_count}
 use Rattle.model_settle.specs.Under.{assumed_or, pair_under}
 
@@ -22,10 +23,6 @@ SolvesUnder line level w trees keys =
     → keys k t ≡ pair_under level w keys (trees k) t
 
 module _ (laws : HistoryLaws) (level : Tree → ℕ → Option Bool) where
-  same_earlier : (line : Line) (u v : PairSignals) (r t : ℕ) → r ≤ t
-      → SameBefore line u v t → SameBefore line u v r
-  same_earlier line u v r t le same k s kn lt = same k s kn (omega arith)
-
   module _ (line : Line) (w : PairWorld) (d : IsDelayed line w) where
     -- the pair at t is the same wherever the keys before t are
     pub pair_under-past : (u v : PairSignals) (x : Tree) (t : ℕ) → t < line.horizon

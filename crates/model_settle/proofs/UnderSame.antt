@@ -9,16 +9,17 @@ use Rattle.model_line.specs.{declared.line.Line.Line, declared.script.Script.Scr
 use Rattle.model_line.specs.declared.line.Terminal.{Terminal}
 use Rattle.model_line.specs.declared.line.Channel.{Channel}
 use Rattle.model_line.specs.{SetBounds.SameButParams, Parameters.terminal_count}
-use Rattle.model_line.specs.{Channels.from_of}
+use Rattle.model_line.specs.Channels.{from_of}
+use Rattle.model_line.specs.SameLineLaws.{exchanged}
 use Rattle.model_logic.specs.Tree.{Tree, Const, Seen, Loss, Raw, Not, And, Or, Timer, Seal}
 use Rattle.model_logic.specs.declared.time.Time.{Time}
-use Rattle.model_logic.specs.declared.time.Time.TheVariants.{Zero, Param}
 use Rattle.model_logic.specs.PairMean.{PairWorld, PairSignals}
-use Rattle.model_logic.specs.Choice.{Box, ends_by, pair_world_of}
+use Rattle.model_logic.specs.Choice.{Box, pair_world_of}
 use Rattle.model_logic.specs.{Boxes.IsSameBox, Covering.IsSameWorld, Names.Names, Names.HasTime}
 use Rattle.model_logic.specs.{Histories.PairHistory, IntervalLaws.TreesRestOnNoInterval}
 use Rattle.model_logic.specs.Logic.{key_tree, trip_tree}
 use Rattle.model_logic.specs.{Laws.TreesNameTheLine, Rule.rule_by}
+use Rattle.model_logic.specs.BoxLaws.{turned, same_world}
 use Rattle.model_settle.specs.Assumed.{Assumption, wanted, assumed_level}
 use Rattle.model_settle.specs.Under.{assumed_or, pair_under, own_pair, IsPairHistoryUnder, Excludes}
 use Rattle.model_settle.specs.Under.{SomeIsExcluded}
@@ -74,22 +75,6 @@ module _ (laws : HistoryLaws) (line : Line) (level other : Tree → ℕ → Opti
 
 -- ---- boxes that are the same
 
-same_time : (line : Line) (a b : Box) → IsSameBox line a b → (x : Time) → HasTime line x
-    → ends_by a.ends x ≡ ends_by b.ends x
-same_time line a b same Zero has = refl
-same_time line a b same (Param i) has = same.numbers i has
-
-same_world : (line : Line) (script : Script) (a b : Box) → IsSameBox line a b
-    → IsSameWorld line (pair_world_of line script a) (pair_world_of line script b)
-unfolding pair_world_of
-same_world line script a b same = record {
-  seen = λ p t. refl;
-  lost = λ c t. refl;
-  from = λ c. refl;
-  delay = same.delays;
-  time = same_time line a b same;
-}
-
 module _ (laws : HistoryLaws) (names : TreesNameTheLine) (line : Line) (script : Script)
     (a b : Box) (same : IsSameBox line a b) (assumed : List Assumption) where
   pub under_same_box : (w : PairHistory) → IsPairHistoryUnder line script a assumed w
@@ -123,12 +108,6 @@ module _ (laws : HistoryLaws) (names : TreesNameTheLine) (line : Line) (script :
         (wanted_named line x.one.terminal names x.terminal)) x.excluded;
   }
 
-turned : (line : Line) (a b : Box) → IsSameBox line a b → IsSameBox line b a
-turned line a b same = record {
-  numbers = λ i lt. sym (same.numbers i lt);
-  delays = λ c t lt early. sym (same.delays c t lt early);
-}
-
 pub shown_same_box : HistoryLaws → TreesNameTheLine → (line : Line) (script : Script) (k : ℕ)
     (a b : Box) (assumed : List Assumption) → IsSameBox line b a
     → IsShownUnder line script k a assumed → IsShownUnder line script k b assumed
@@ -140,16 +119,6 @@ shown_same_box laws names line script k a b assumed same shown = record {
 }
 
 -- ---- lines that differ in their intervals alone
-
-exchanged : (line other : Line) → SameButParams line other → SameButParams other line
-exchanged line other same = record {
-  tick_us = sym same.tick_us;
-  horizon = sym same.horizon;
-  scheme = sym same.scheme;
-  zone1_trip = sym same.zone1_trip;
-  terminals = sym same.terminals;
-  channels = sym same.channels;
-}
 
 module _ (laws : HistoryLaws) (names : TreesNameTheLine) (trees : TreesRestOnNoInterval)
     (line other : Line) (same : SameButParams line other) (script : Script) (box : Box)

@@ -6,6 +6,7 @@ use Rattle.model_line.specs.declared.line.Scheme.TheVariants.{Pott, Putt, Dcb, D
 use Rattle.model_line.specs.declared.line.Setting.TheVariants.{EchoPickup, EchoPulse}
 use Rattle.model_line.specs.{declared.line.Line.Line, declared.line.Scheme.Scheme}
 use Rattle.model_line.specs.{SetBounds.SameButParams, Terminals.flags_fit}
+use Rattle.model_line.specs.SettingFlagLaws.{none_weak}
 use Rattle.model_logic.specs.{Elements.is_weak, IntervalLaws.TreesRestOnNoInterval}
 use Rattle.model_logic.specs.Elements.{zone2}
 use Rattle.model_logic.specs.Logic.{key_by, key_tree}
@@ -14,9 +15,8 @@ use Rattle.model_logic.specs.Permissive.{reversal_guard, echo_wanted, echo, perm
 use Rattle.model_logic.specs.{Received.all_received, Unblocking.all_open}
 use Rattle.model_logic.specs.declared.time.Time.TheVariants.{Zero}
 use Rattle.model_logic.specs.Tree.{Tree, Const, Not, And, Or, Timer}
+use Rattle.model_logic.specs.SameTree.{same_tree}
 use Rattle.model_settle.specs.Assumed.{Assumption, wanted, assumed_level}
-use Rattle.model_settle.specs.SameTree.{same_tree}
-use Rattle.model_settle.proofs.WantedNamed.{none_weak}
 
 -- where it stands in a key tree
 wanted_in : Tree → Tree

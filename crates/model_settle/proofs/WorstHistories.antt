@@ -21,11 +21,7 @@ use Rattle.model_settle.specs.Known.{IsKnown, IsReadOver, IsReadIn, IsOneRailedI
 use Rattle.model_settle.specs.Worst.{worst_delay, worst_choice, IsOrdered}
 use Rattle.model_settle.proofs.WorstDelays.{worst_within, worst_value}
 use Rattle.model_settle.proofs.TreesOnRails.{IsWorstWorld, tree_on_rail, AreRailsBefore}
-
-number_within : (end : End) (ends : Ends) → ends.least ≤ ends.greatest
-    → IsIn (number_at end ends) ends
-number_within Least ends ordered = record { least = omega arith; greatest = ordered }
-number_within Greatest ends ordered = record { least = ordered; greatest = omega arith }
+use Rattle.model_settle.specs.SideLaws.{number_within}
 
 pub choice_within : (line : Line) (box : Box) (sides : Sides) (w : PairHistory)
     → IsOrdered line box → IsWithin line (worst_choice line sides box w.key) box

@@ -5,7 +5,7 @@ use Rattle.model_line.specs.{declared.line.Line.Line, declared.script.Script.Scr
 use Rattle.model_logic.specs.Choice.{Choice, world_of}
 use Rattle.model_logic.specs.{Histories.History, Mean.mean, Tree.Tree}
 use Rattle.model_logic.specs.Permissive.{echo_wanted, permission}
-use Rattle.model_settle.specs.SameTree.{same_tree}
+use Rattle.model_logic.specs.SameTree.{same_tree}
 
 -- what the echo of terminal k starts from, and its trip as a weak infeed (WANT)
 abbrev pub wanted : Line → ℕ → Tree

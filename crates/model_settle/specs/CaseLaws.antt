@@ -11,12 +11,12 @@ use Rattle.model_logic.specs.{Mean.mean, Names.Names, Rule.Held, Rule.rule_of, T
 use Rattle.model_logic.specs.{PairMean.PairWorld, PairMean.PairSignals, Elements.is_weak}
 use Rattle.model_line.specs.SetBounds.{SameButParams}
 use Rattle.model_logic.specs.{HeldOver.IsHeldOver, Boxes.IsSameBox}
-use Rattle.model_settle.specs.SameTree.{same_tree}
 use Rattle.model_settle.specs.Assumed.{Assumption, Agrees, AgreesWithAll, assumed_level, wanted}
 use Rattle.model_settle.specs.Under.{pair_under, own_pair, IsPairHistoryUnder, IsExcluded}
 use Rattle.model_settle.specs.Under.{SomeIsExcluded}
 use Rattle.model_settle.specs.CaseTrees.{CaseTree, are_yes}
 use Rattle.model_logic.specs.Boxes.{CanSplit, lower_half, upper_half}
+use Rattle.model_logic.specs.SameTree.{same_tree}
 use Rattle.model_settle.specs.CaseTrees.{with_case, IsShownUnder, AreSound}
 
 -- the test of trees is equality

@@ -1,4 +1,3 @@
-pub mod SameTree
 pub mod Assumed
 pub mod Under
 pub mod CaseTrees
@@ -12,3 +11,4 @@ pub mod PolarityLaws
 pub mod Schemes
 pub mod Leads
 pub mod Limits
+pub mod SideLaws

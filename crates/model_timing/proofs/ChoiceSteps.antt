@@ -11,6 +11,7 @@ use Rattle.std.specs.List.{All, Contains, range_with_len}
 use Rattle.model_line.specs.Parameters.{param_count, channel_count, delay_param, declared_ends}
 use Rattle.model_line.specs.Laws.{SettingsAreCounted, DelaysAreParameters}
 use Rattle.model_line.specs.declared.line.Line.{Line}
+use Rattle.model_line.specs.DelayOrderLaws.{delays_ascend}
 use Rattle.model_logic.specs.Choice.{Choice, IsIn, IsInside, declared_box}
 use Rattle.model_timing.specs.declared.step.Step.{Step}
 use Rattle.model_timing.specs.Timing.{TimingValues, comes_before, ascend, IsLatest}
@@ -18,7 +19,6 @@ use Rattle.model_timing.specs.Choice.{timing_choice, IsSameChoice}
 use Rattle.model_timing.specs.Inside.{IsStepInside, IsTimingInside}
 use Rattle.model_timing.specs.LatestStepLaws.{before_by_param, before_by_tick, ascend-append}
 use Rattle.model_timing.specs.LatestStepLaws.{number_at-latest}
-use Rattle.model_timing.proofs.DelayOrder.{delays_ascend}
 
 -- ---- the steps of one delay
 

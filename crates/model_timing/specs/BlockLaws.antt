@@ -58,7 +58,8 @@ value_at line number param inside =
     get_or-map-range_with_len (candidate_value line number) 0 (param_count line) param param 0
     inside (omega arith)
 
-no_step : (i t : ℕ) (o : Option (List ℕ)) → option_map (number_at [] i t) o ≡ o
+-- without steps each number stays
+pub no_step : {A : Type 0} (i t : ℕ) (o : Option A) → option_map (number_at [] i t) o ≡ o
 no_step i t None = refl
 no_step i t (Some span) = refl
 

@@ -4,30 +4,20 @@ use Rattle.std.proofs.Common.{replicate, Bool, List, [], ◌∷◌, ◌++◌, le
 use Rattle.std.proofs.Common.{subst, arith}
 use Rattle.std.proofs.lemmas.Bool.{cases_lt}
 use Rattle.std.proofs.lemmas.List.{map-append, length-map}
-use Rattle.std.proofs.Math.ListN.{get_or-map}
-use Rattle.std.specs.Prelude.{false, nat_lt}
+use Rattle.std.specs.Prelude.{nat_lt}
 use Rattle.model_history.specs.Rails.{Rails, Ends, IsSound, both, must_of, may_of, rails_timed}
 use Rattle.model_history.specs.Rails.{rails_at}
 use Rattle.model_history.specs.{Elements.timed, Recorded.at, Laws.HistoryLaws}
+use Rattle.model_history.specs.RailLaws.{must_at, may_at}
 use Rattle.run_signal.specs.Counts.{steady_of}
-use Rattle.run_signal.specs.Cells.{CellNumbers, AreBounded, AllSound, RailStandsFor, RailsStandFor}
+use Rattle.run_signal.specs.Cells.{CellNumbers, AreBounded, RailStandsFor, RailsStandFor}
 use Rattle.run_signal.specs.Cells.{fresh_numbers, numbers_after}
 use Rattle.run_signal.specs.Ahead.{next_on, next_rails, IsSteadyFor, IsRailSteadyFor}
 use Rattle.run_signal.proofs.CountLaws.{timed_of_standing}
 use Rattle.run_signal.proofs.AheadLaws.{standing_fresh, standing_skip, steady_from_numbers}
+use Rattle.run_signal.specs.SoundLaws.{sound_at, sound_more}
 
 -- ---- what must be may be, at each tick
-
-AreSound-skip : (l : List Rails) (x : Rails) (n : ℕ) → AllSound l → IsSound x →
-    AllSound (l ++ replicate n x)
-AreSound-skip [] x zero h now = tt
-AreSound-skip [] x (suc n) h now = (now, AreSound-skip [] x n h now)
-AreSound-skip (y ∷ l) x n h now = (h.0, AreSound-skip l x n h.1 now)
-
-sound_at : (l : List Rails) (r : ℕ) → AllSound l → IsSound (rails_at l r)
-sound_at [] r h on = on
-sound_at (x ∷ l) zero h on = h.0 on
-sound_at (x ∷ l) (suc r) h on = sound_at l r h.1 on
 
 -- ---- one rail of a list of rails
 
@@ -39,12 +29,6 @@ map-append_replicate : (f : Rails → Bool) (l : List Rails) (x : Rails) (n : �
     map f l ++ replicate n (f x) ≡ map f (l ++ replicate n x)
 map-append_replicate f l x n = ap (λ (k : List Bool). map f l ++ k) (sym (map-replicate f n x))
     ∙ sym (map-append f l (replicate n x))
-
-must_at : (l : List Rails) (r : ℕ) → at (map must_of l) r ≡ (rails_at l r).must
-must_at l r = get_or-map must_of l r (both false)
-
-may_at : (l : List Rails) (r : ℕ) → at (map may_of l) r ≡ (rails_at l r).may
-may_at l r = get_or-map may_of l r (both false)
 
 -- numbers that counted n more ticks of the rail
 rail_skip : (f : Rails → Bool) (c : CellNumbers) (p d : ℕ) (l : List Rails) (x : Rails) (n : ℕ) →
@@ -102,7 +86,7 @@ rails_skip m n p d l x count now some h = record {
   may_stands = rail_skip may_of n p.least d.greatest l x count h.may_stands some;
   pickup_ordered = h.pickup_ordered;
   dropout_ordered = h.dropout_ordered;
-  sound = AreSound-skip l x count h.sound now;
+  sound = sound_more l x count h.sound now;
 }
 
 -- the same, where the numbers and the input's rails are known by equations

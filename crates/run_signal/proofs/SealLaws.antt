@@ -10,10 +10,8 @@ use Rattle.std.specs.Prelude.{IsTrue, Decides}
 use Rattle.model_history.specs.Elements.{sealed, IsSealed}
 use Rattle.model_history.specs.Rails.{Rails, both, rails_or, rails_and, rails_sealed, rails_at}
 use Rattle.model_history.specs.Laws.{HistoryLaws}
+use Rattle.model_history.specs.TruthLaws.{Decides-true}
 use Rattle.run_signal.specs.Seals.{last_seal, SealStandsFor}
-
-Decides-true : (b : Bool) → Decides b (IsTrue b)
-Decides-true b = (λ e. e, λ e. e)
 
 rails_at_push : (l : List Rails) (x : Rails) (r : ℕ) → r < length l →
     rails_at (l ++ x ∷ []) r ≡ rails_at l r

@@ -2,7 +2,7 @@
 use Rattle.std.proofs.Common.{◌≡◌, ◌≢◌, ◌⊎◌, ℕ, zero, suc, ◌+◌, ◌<◌, ◌≤◌, Bool, true, false, ◌&&◌}
 use Rattle.std.proofs.Common.{◌||◌, cond, List, [], ◌∷◌, ◌++◌, length, take, drop, Some, refl, sym}
 use Rattle.std.proofs.Common.{◌∙◌, ap, subst, arith, inl, inr, ⊎_elim}
-use Rattle.std.proofs.lemmas.Bool.{cases_lt, ne_eqb, ltb-true, leb-true, le-leb}
+use Rattle.std.proofs.lemmas.Bool.{cases_lt, ne_eqb, ltb-true, leb-true, le-leb, and_parts}
 use Rattle.std.proofs.lemmas.List.{take-append-drop}
 use Rattle.std.proofs.lemmas.Option.{slice_get_read}
 use Rattle.std.proofs.lemmas.Bool.Decides.{Decides-or, Decides-and, Decides-ltb, Decides-eqb}
@@ -21,14 +21,6 @@ AreAscending steps = (i j : ℕ) (a b : Step _) → i < j
     → slice_get steps i ≡ Some a → slice_get steps j ≡ Some b → IsEarlier a b
 
 -- ---- steps that ascend one by one ascend
-
-and_left : (a b : Bool) → (a && b) ≡ true → a ≡ true
-and_left true b h = refl
-and_left false b h = absurd (cc)
-
-and_right : (a b : Bool) → (a && b) ≡ true → b ≡ true
-and_right true b h = h
-and_right false b h = absurd (cc)
 
 module _ {P : Type 0} where
   is_earlier : (a b : Step P) → comes_before a b ≡ true → IsEarlier a b
@@ -49,17 +41,17 @@ module _ {P : Type 0} where
 
   rest_ascend : (x : Step P) (xs : List (Step P)) → ascend (x ∷ xs) ≡ true → ascend xs ≡ true
   rest_ascend x [] h = refl
-  rest_ascend x (y ∷ rest) h = and_right (comes_before x y) (ascend (y ∷ rest)) h
+  rest_ascend x (y ∷ rest) h = (and_parts (comes_before x y) (ascend (y ∷ rest)) h).1
 
   first_before : (x : Step P) (xs : List (Step P)) → ascend (x ∷ xs) ≡ true → (j : ℕ) (b : Step P)
       → slice_get xs j ≡ Some b → IsEarlier x b
   first_before x [] h j b at = absurd (cc)
   first_before x (y ∷ rest) h zero b at =
       let same : y ≡ b = cc in
-      subst (IsEarlier x) same (is_earlier x y (and_left (comes_before x y) (ascend (y ∷ rest)) h))
+      subst (IsEarlier x) same (is_earlier x y (and_parts (comes_before x y) (ascend (y ∷ rest)) h).0)
   first_before x (y ∷ rest) h (suc j) b at =
-      earlier_on x y b (is_earlier x y (and_left (comes_before x y) (ascend (y ∷ rest)) h))
-      (first_before y rest (and_right (comes_before x y) (ascend (y ∷ rest)) h) j b at)
+      earlier_on x y b (is_earlier x y (and_parts (comes_before x y) (ascend (y ∷ rest)) h).0)
+      (first_before y rest (and_parts (comes_before x y) (ascend (y ∷ rest)) h).1 j b at)
 
   pub all_ascend : (xs : List (Step P)) → ascend xs ≡ true → AreAscending xs
   all_ascend [] h i j a b lt at_i at_j = absurd (cc)

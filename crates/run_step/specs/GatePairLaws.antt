@@ -23,7 +23,7 @@ module _ (w : PairWorld) (keys : PairSignals) (gates : List Gate) where
   kind_pair-is (Seal a b) t = refl
 
 -- each gate stands for its own kind over the trees of its arguments
-abbrev GatesAreTheirKinds : Type 0
+abbrev pub GatesAreTheirKinds : Type 0
 GatesAreTheirKinds = (gates : List Gate) (i : ℕ) (g : Gate) → AreGates gates
     → slice_get gates i ≡ Some g → formula_of gates i ≡ kind_over gates g
 

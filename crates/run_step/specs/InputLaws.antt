@@ -1,17 +1,15 @@
 -- What a script shows and what steps give, between their ticks.
 use Rattle.std.proofs.Common.{◌≡◌, ℕ, suc, ◌+◌, ◌<◌, ◌≤◌, List, [], ◌∷◌, Bool, ◌&&◌, ◌||◌, Some}
 use Rattle.std.proofs.Common.{refl, ◌∙◌, ap, arith, ⊎_elim}
-use Rattle.std.proofs.lemmas.Bool.{cases_lt, leb-true, le-leb, eqb-true}
+use Rattle.std.proofs.lemmas.Bool.{cases_lt, eqb-true}
 use Rattle.std.proofs.lemmas.Bool.Decides.{Decides-like, Decides-ltb, same_from_decides}
-use Rattle.std.specs.Prelude.{slice_get, nat_le, nat_lt, if◌then◌else◌, ◌==◌, Decides, true, false}
+use Rattle.std.specs.Prelude.{slice_get, nat_le, nat_lt, if◌then◌else◌, ◌==◌, true, false}
 use Rattle.std.specs.List.{list_any}
+use Rattle.model_history.specs.TruthLaws.{Decides-le}
 use Rattle.model_line.specs.Seen.{is_of_place, is_of_loss, shows, loses}
 use Rattle.model_line.specs.declared.script.SeenSpan.{SeenSpan}
 use Rattle.model_timing.specs.{declared.step.Step.Step, Timing.number_at}
 use Rattle.run_step.specs.Quiet.{Keeps, ScriptKeeps, SpanKeeps, NoStepIn}
-
-Decides-le : (a b : ℕ) → Decides (nat_le a b) (a ≤ b)
-Decides-le a b = (leb-true a b, le-leb a b)
 
 -- whether an event has come stays the same until it comes
 le_keeps : (event t n : ℕ) → (t < event → t + n ≤ event) → Keeps (λ r. nat_le event r) t n

@@ -26,3 +26,4 @@ pub mod ValueLaws
 pub mod RunLaws
 pub mod PointLaws
 pub mod TickLaws
+pub mod BlockLaws

@@ -1,3 +1,4 @@
 pub mod Claims
 pub mod Firsts
 pub mod Stretches
+pub mod FirstLaws

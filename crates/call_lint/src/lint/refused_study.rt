@@ -5,8 +5,8 @@ ghost use Rattle.std.specs.Prelude.{◌≤◌, IfOk, length};
 use crate::lint::rules::{study_rule, sweep_rule};
 use crate::lint::spots::{document_place, wrong_at};
 use crate::lint::text::{Spot, refused_text};
-use crate::pieces::joined;
 use crate::warnings::{Wanted, place_of_key};
+use base_text::pieces::text_of;
 use file_document::DocumentFault;
 use file_study::sweeps::StudySweepFault;
 use itoa::Buffer;
@@ -64,6 +64,6 @@ pub fn place_of_item(
 {
     let mut digits = Buffer::new();
     let number = digits.format(index).as_bytes();
-    let path = joined(alloc, &[array, b"[", number, b"].", key])?;
+    let path = text_of(alloc, &[array, b"[", number, b"].", key])?;
     place_of_key(alloc, bytes, &path)
 }

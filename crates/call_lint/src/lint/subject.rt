@@ -6,8 +6,9 @@ use crate::lint::owners::{parted, place_of_owner};
 use crate::lint::refused_study::place_of_item;
 use crate::lint::sheet::{Sheet, fault_of};
 use crate::lint::text::Spot;
-use crate::pieces::{joined, joint};
+use crate::pieces::joint;
 use crate::warnings::{Warning, place_of_key, place_of_record, place_of_table};
+use base_text::pieces::text_of;
 use model_line::{Line, Memory, Script, element_word, name_of_parameter, name_of_terminal};
 use std::alloc::Global;
 
@@ -148,6 +149,6 @@ fn place_of_setting<'a>(
 fn place_under(alloc: Global, bytes: &[u8], names: &[&[u8]]) -> Result<Option<usize>, Memory>
     ensures { IfOk result (λ place. IfSome place (λ at. at ≤ length bytes.now)) }
 {
-    let path = joined(alloc, names)?;
+    let path = text_of(alloc, names)?;
     place_of_table(alloc, bytes, &path)
 }

@@ -2,8 +2,8 @@
 
 ghost use Rattle.std.specs.Prelude.{◌≡◌, ◌≤◌, length};
 
-use crate::pieces::push_all;
 use crate::warnings::{column, line_number, line_text};
+use base_text::pieces::push_pieces;
 use itoa::Buffer;
 use model_line::Memory;
 use std::alloc::Global;
@@ -36,7 +36,7 @@ pub fn refused_text<F: fmt::Display>(
 pub fn push_place(text: &mut Vec<u8>, head: &[u8], spot: Spot<'_>) -> Result<(), Memory> {
     let mut digits = Buffer::new();
     let number = digits.format(line_number(spot.bytes, spot.at));
-    push_all(text, &[head, spot.name.as_bytes(), b":", number.as_bytes()])
+    push_pieces(text, &[head, spot.name.as_bytes(), b":", number.as_bytes()])
 }
 
 // Appends the place of an error with the line as it stands, and these words of it.
@@ -44,10 +44,10 @@ fn push_error(text: &mut Vec<u8>, spot: Spot<'_>, words: [&str; 3]) -> Result<()
     let mut digits = Buffer::new();
     let number = digits.format(column(spot.bytes, spot.at));
     push_place(text, b"error: ", spot)?;
-    push_all(text, &[b":", number.as_bytes(), b": `"])?;
+    push_pieces(text, &[b":", number.as_bytes(), b": `"])?;
     push_shown(text, line_text(spot.bytes, spot.at))?;
     let [rule, key, mistake] = words;
-    push_all(
+    push_pieces(
         text,
         &[
             b"`: ",

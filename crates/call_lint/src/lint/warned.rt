@@ -4,8 +4,8 @@ use crate::lint::sheet::{Sheet, fault_of};
 use crate::lint::subject::{name_of, spot_of, subject_of};
 use crate::lint::text::push_place;
 use crate::lint::words::{study_words, warning_words};
-use crate::pieces::push_all;
 use crate::warnings::Warning;
+use base_text::pieces::push_pieces;
 use model_line::{Line, Memory, Script};
 use std::alloc::Global;
 
@@ -39,8 +39,8 @@ fn push_warning<'a>(
     let subject = subject_of(line, warning);
     let spot = spot_of(alloc, sheet, line, scripts, subject)?;
     push_place(text, b"warning: ", spot)?;
-    push_all(text, &name_of(scripts, subject))?;
-    push_all(text, &[b": ", words_of(sheet, warning).as_bytes(), b"\n"])
+    push_pieces(text, &name_of(scripts, subject))?;
+    push_pieces(text, &[b": ", words_of(sheet, warning).as_bytes(), b"\n"])
 }
 
 // What it says, of a study or of a line file.

@@ -1,7 +1,8 @@
 //! Paths of tables and keys, as bytes.
 
-use crate::pieces::{joint, push_all};
+use crate::pieces::joint;
 use base_memory::Memory;
+use base_text::pieces::push_pieces;
 use itoa::Buffer;
 use std::alloc::Global;
 
@@ -48,13 +49,13 @@ pub fn parent_and_key(name: &[u8]) -> (&[u8], &[u8]) {
 /// Appends a key of the table at the path; no key is none.
 pub fn push_key(path: &mut Vec<u8>, key: &[u8]) -> Result<(), Memory> {
     let dot: &[u8] = if path.is_empty() { b"" } else { b"." };
-    push_all(path, &[joint(dot, key), key])
+    push_pieces(path, &[joint(dot, key), key])
 }
 
 /// Appends the number of a table of an array.
 pub fn push_index(path: &mut Vec<u8>, number: u32) -> Result<(), Memory> {
     let mut digits = Buffer::new();
-    push_all(path, &[b"[", digits.format(number).as_bytes(), b"]"])
+    push_pieces(path, &[b"[", digits.format(number).as_bytes(), b"]"])
 }
 
 /// Whether one path is the other, or a table in which the other stands.

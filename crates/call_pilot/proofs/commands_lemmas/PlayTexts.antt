@@ -33,7 +33,7 @@ pieces_once IsPiece P once (x ∷ rest) a b all p q =
     p.4 ∙ ap (λ z. z ++ p.1) first ∙ ap (λ z. q.0 ++ z) others ∙ sym q.4
 
 -- each element of any list
-any : {X : Type 0} (xs : List X) → All (λ x. Unit {0}) xs
+pub any : {X : Type 0} (xs : List X) → All (λ x. Unit {0}) xs
 any xs k d lt = tt
 
 module _

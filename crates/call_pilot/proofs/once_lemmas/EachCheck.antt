@@ -1,5 +1,5 @@
 -- Each certificate is accepted, or has a first fault.
-use Rattle.std.proofs.Common.{◌≡◌, ◌≢◌, ◌<◌, ◌⊎◌, inl, inr, ℕ, zero, suc, Bool, true, false, List}
+use Rattle.std.proofs.Common.{◌≡◌, ◌<◌, ◌⊎◌, inl, inr, ℕ, zero, suc, Bool, true, false, List}
 use Rattle.std.proofs.Common.{[]}
 use Rattle.std.proofs.Common.{◌∷◌, Some, get_or, length, refl, sym, ◌∙◌, subst, arith}
 use Rattle.std.proofs.lemmas.Bool.{cases_lt}
@@ -9,9 +9,11 @@ use Rattle.std.specs.Prelude.{IsTrue, slice_get}
 use Rattle.std.specs.List.{All, concat}
 use Rattle.model_history.specs.Rails.{Ends, IsSound, Rails, RailsCover}
 use Rattle.run_signal.specs.Terns.{tern_with}
-use Rattle.run_signal.specs.TernLaws.{rails_told, tern_sound}
+use Rattle.run_signal.specs.TernLaws.{rails_told}
 use Rattle.run_signal.specs.declared.tern.Tern.{Tern}
 use Rattle.model_history.specs.TruthLaws.{not_both}
+use Rattle.model_history.specs.BelowLaws.{first_of}
+use Rattle.model_history.specs.ListLaws.{all_at, exists_at}
 use Rattle.model_line.specs.declared.script.Kind.TheVariants.{Internal, External}
 use Rattle.model_line.specs.Parameters.{declared_ends, param_count, terminal_count}
 use Rattle.model_line.specs.declared.script.Kind.{Kind}
@@ -19,9 +21,9 @@ use Rattle.model_line.specs.{declared.line.Line.Line, declared.script.Script.Scr
 use Rattle.model_logic.specs.Choice.{DelaysFromOne, IsIn, declared_box}
 use Rattle.model_logic.specs.Histories.{AreCovered, MeetsBy}
 use Rattle.model_logic.specs.{Laws.LineLaws, Logic.key_tree, PairMean.PairSignals, Rule.rule_of}
+use Rattle.model_logic.specs.RuleLaws.{rule_told, same_meets}
 use Rattle.model_timing.specs.{Inside.IsStepInside, Inside.IsTimingInside}
 use Rattle.model_timing.specs.Laws.{TimingsInsideAreChoicesInside}
-use Rattle.run_waves.specs.waves.Waves.{wave_at}
 use Rattle.cert_claims.specs.text.Grammar.{AreNumbers, Claims, HasNumbers, HasOneEach, IsCertificate}
 use Rattle.cert_claims.specs.text.Grammar.{Verdict, no, undecided, yes}
 use Rattle.cert_claims.specs.text.Text.{CanBeWritten}
@@ -36,6 +38,7 @@ use Rattle.cert_claims.specs.check.Verdicts.{AreAccepted, IsCovered, IsFaultOf, 
 use Rattle.cert_claims.specs.check.Verdicts.{IsFirstUncovered, IsKeyCovered, IsSupported, AreSupported}
 use Rattle.cert_claims.specs.check.Verdicts.{IsVerdictFault}
 use Rattle.run_waves.specs.derived.Claims.{derived_key, derived_trip}
+use Rattle.run_waves.specs.waves.WaveLaws.{wave_sound}
 use Rattle.cert_claims.specs.declared.check.claim.ClaimFault.{ClaimFault}
 use Rattle.cert_claims.specs.declared.check.claim.ClaimFault.TheVariants as wrong
 use Rattle.cert_claims.specs.declared.check.claim.Uncovered.{Uncovered}
@@ -44,11 +47,11 @@ use Rattle.cert_claims.specs.declared.check.fault.CheckFault.{CheckFault}
 use Rattle.cert_claims.specs.declared.check.fault.CheckFault.TheVariants as fault
 use Rattle.cert_claims.specs.declared.check.no.NoFault.{NoFault}
 use Rattle.cert_claims.specs.declared.check.no.NoFault.TheVariants as number
+use Rattle.cert_claims.specs.check.MetLaws.{met_same}
 use Rattle.call_pilot.specs.{commands.Check.check_answer, commands.Check.rejected_pieces}
 use Rattle.call_engine.specs.Checked.{accepted_pieces}
 use Rattle.call_answer.specs.declared.done.Done.{Done}
 use Rattle.call_answer.specs.declared.done.Done.TheVariants as done
-use Rattle.call_pilot.proofs.once_lemmas.EachMargin.{at_place, first_of, fits_at, rule_told}
 use Rattle.call_pilot.proofs.once_lemmas.EachText.{each_text}
 
 -- ---- what is so, or is not
@@ -80,11 +83,6 @@ off_or_on : (b : Bool) → (b ≡ false) ⊎ (b ≡ true)
 off_or_on false = inl refl
 off_or_on true = inr refl
 
-wave_sound : (wave : List Tern) (t : ℕ) → IsSound (wave_at wave t)
-wave_sound [] t = λ on. on
-wave_sound (x ∷ wave) zero = tern_sound x
-wave_sound (x ∷ wave) (suc t) = wave_sound wave t
-
 -- ---- an obligation that a history meets
 
 met_told : (kind : Kind) (deadline horizon : ℕ) (trip : ℕ → Bool)
@@ -108,26 +106,6 @@ met_told External deadline horizon trip = elim (first_of (λ t. trip t ≡ false
       | inl off ↦ inl (horizon, (refl, λ r from lt. off r lt))
       | inr first ↦ inr (λ met. not_both (trip first.0) (met first.0 first.1) first.2)
     ]
-
-met_on : (kind : Kind) (deadline horizon : ℕ) (u v : ℕ → Bool) (t : ℕ) → deadline < horizon
-    → ((r : ℕ) → r < horizon → u r ≡ v r) → IsMetAt kind deadline horizon u t
-    → IsMetAt kind deadline horizon v t
-met_on Internal deadline horizon u v t early same is = record {
-  from_there = is.from_there;
-  within = is.within;
-  on = sym (same t (omega (arith, is.within, early))) ∙ is.on;
-  before = λ r from lt.
-      sym (same r (omega (arith, lt, is.within, early))) ∙ is.before r from lt;
-}
-met_on External deadline horizon u v t early same is =
-    (is.0, λ r from lt. sym (same r lt) ∙ is.1 r from lt)
-
-meets_by : (kind : Kind) (deadline horizon : ℕ) (u v : ℕ → Bool) → deadline < horizon
-    → ((t : ℕ) → t < horizon → u t ≡ v t) → MeetsBy kind deadline horizon u
-    → MeetsBy kind deadline horizon v
-meets_by Internal deadline horizon u v early same (t, le, on) =
-    (t, le, sym (same t (omega (arith, le, early))) ∙ on)
-meets_by External deadline horizon u v early same off = λ t lt. sym (same t lt) ∙ off t lt
 
 -- ---- the claims of a script
 
@@ -211,7 +189,7 @@ module _ (lines : LineLaws) (timings : TimingsInsideAreChoicesInside) (line : Li
           record {
             inside = inside;
             passes = λ g is_g.
-                met_on script.kind script.deadline line.horizon (h.trip k) (g.trip k) met.0 early
+                met_same script.kind script.deadline line.horizon (h.trip k) (g.trip k) met.0 early
                 (λ t lt. (lines.histories.only line script choice h g late is is_g).trips k t there lt)
                 met.1;
           },
@@ -219,9 +197,8 @@ module _ (lines : LineLaws) (timings : TimingsInsideAreChoicesInside) (line : Li
         | inr not_met ↦ inl (record {
           inside = inside;
           fails = λ g is_g met.
-              not_met (meets_by script.kind script.deadline line.horizon (g.trip k) (h.trip k) early
-              (λ t lt. (lines.histories.only line script choice g h late is_g is).trips k t there lt)
-              met);
+              not_met (same_meets line script k g h early there
+              (lines.histories.only line script choice g h late is_g is) met);
         })
       ]
 
@@ -261,14 +238,6 @@ module _ (lines : LineLaws) (timings : TimingsInsideAreChoicesInside) (line : Li
   ]
   verdict_told k there trip undecided numbers = inl tt
 
-  numbers_at : (vs : List Verdict) (k : ℕ) (v : Verdict) → All (HasNumbers line) vs
-      → slice_get vs k ≡ Some v → HasNumbers line v
-  numbers_at [] k v all at = absurd (cc)
-  numbers_at (x ∷ vs) zero v all at =
-      subst (HasNumbers line) (same_Some x v at) (All-head (HasNumbers line) x vs all)
-  numbers_at (x ∷ vs) (suc k) v all at =
-      numbers_at vs k v (All-tail (HasNumbers line) x vs all) at
-
   module _ (claims : PairSignals) (vs : List Verdict) (many : length vs ≡ terminal_count line)
       (all : All (HasNumbers line) vs) where
     abbrev trips : ℕ → ℕ → Rails
@@ -282,8 +251,9 @@ module _ (lines : LineLaws) (timings : TimingsInsideAreChoicesInside) (line : Li
 
     place_told : (k : ℕ) → k < length vs → Stands' k ⊎ Fails' k
     place_told k lt =
-        let (v, at) = at_place vs k lt in
-        elim (verdict_told k (omega (arith, lt, many)) (trips k) v (numbers_at vs k v all at)) [
+        let (v, at) = exists_at vs k lt in
+        elim (verdict_told k (omega (arith, lt, many)) (trips k) v
+        (all_at (HasNumbers line) vs k v all at)) [
           | inr found ↦ inr (v, at, found)
           | inl is ↦ inl (λ x at_x.
               subst (IsSupported line script k (trips k))
@@ -368,10 +338,10 @@ module _ (lines : LineLaws) (timings : TimingsInsideAreChoicesInside)
 
     script_told : (i : ℕ) → i < length scripts → Good' i ⊎ Wrong' i
     script_told i lt =
-        let (script, at) = at_place scripts i lt in
-        let (said, at_said) = at_place claims i (omega (arith, lt, is.many)) in
+        let (script, at) = exists_at scripts i lt in
+        let (said, at_said) = exists_at claims i (omega (arith, lt, is.many)) in
         let can = can_at claims i said (written line scripts claims bytes is) at_said in
-        let early = lines.deadlines line script (fits_at line scripts i script fit at) in
+        let early = lines.deadlines line script (all_at (Fits line) scripts i script fit at) in
         elim (claims_told lines timings line script early said can.each can.numbers) [
           | inl good ↦ inl (λ s d at_s at_d.
               let same_script : script ≡ s = (let e : Some script ≡ Some s = sym at ∙ at_s in cc) in

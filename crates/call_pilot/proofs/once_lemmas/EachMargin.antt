@@ -1,19 +1,20 @@
 -- Each parameter has a margin, or none at all, and an obligation that is lost.
-use Rattle.std.proofs.Common.{◌≡◌, ◌+◌, ◌<◌, ◌≤◌, ◌⊎◌, inl, inr, ℕ, zero, suc, List, [], ◌∷◌, None}
+use Rattle.std.proofs.Common.{◌≡◌, ◌+◌, ◌<◌, ◌≤◌, ◌⊎◌, inl, inr, ℕ, zero, suc, List, None}
 use Rattle.std.proofs.Common.{Some}
 use Rattle.std.proofs.Common.{length, refl, sym, ◌∙◌, subst, arith}
 use Rattle.std.proofs.lemmas.Bool.{cases_eq, cases_lt, eqb-true}
-use Rattle.std.proofs.lemmas.List.Elements.{All-head, All-tail}
-use Rattle.std.proofs.lemmas.Option.{slice_get_within, same_Some}
+use Rattle.std.proofs.lemmas.Option.{slice_get_within}
 use Rattle.std.specs.Prelude.{Option, Bool, true, false, cond, is_some, slice_get, ◌==◌}
-use Rattle.std.specs.List.{All}
 use Rattle.model_history.specs.Rails.{Ends}
+use Rattle.model_history.specs.BelowLaws.{first_of}
+use Rattle.model_history.specs.ListLaws.{exists_at}
 use Rattle.model_line.specs.Parameters.{declared_ends, delay_param, terminal_count}
-use Rattle.model_line.specs.{declared.line.Line.Line, declared.script.Script.Script, Fits.Fits}
+use Rattle.model_line.specs.{declared.line.Line.Line, declared.script.Script.Script}
 use Rattle.model_logic.specs.Choice.{Box, LeastFromOne}
-use Rattle.model_logic.specs.Rule.{Rule, Held, Broken, Unknown, rule_of}
+use Rattle.model_logic.specs.Rule.{rule_of}
 use Rattle.model_logic.specs.IntervalLaws.{TheRuleOverABox}
 use Rattle.model_logic.specs.{Boxes.ends_with, HeldOver.IsHeldOver, Laws.LineLaws}
+use Rattle.model_logic.specs.RuleLaws.{rule_told}
 use Rattle.judge_report.specs.declared.upper_end.Lost.{Lost}
 use Rattle.judge_report.specs.declared.upper_end.UpperEnd.{UpperEnd}
 use Rattle.judge_report.specs.Lost.{AllHeld, IsFirstLost, IsFirstTerminal, IsLoss}
@@ -23,42 +24,6 @@ use Rattle.judge_report.specs.{Margin.IsLostAt, MarginText.margin_line, Raised.r
 use Rattle.call_pilot.specs.commands.Margin.{margin_answer}
 use Rattle.call_answer.specs.declared.done.Done.{Done}
 use Rattle.call_answer.specs.declared.done.Done.TheVariants as done
-
--- each number passes, or there is a first that does not
-pub first_of : (P F : ℕ → Type 0) (n : ℕ) → ((i : ℕ) → i < n → P i ⊎ F i)
-    → ((i : ℕ) → i < n → P i)
-    ⊎ ((i : ℕ) × (i < n) × F i × ((j : ℕ) → j < i → P j))
-first_of P F zero told = inl (λ i lt. absurd (omega (arith, lt)))
-first_of P F (suc n) told = elim (first_of P F n (λ i lt. told i (omega (arith, lt)))) [
-  | inr first ↦ inr (first.0, omega (arith, first.1), first.2, first.3)
-  | inl all ↦ elim (told n (omega arith)) [
-    | inr fails ↦ inr (n, omega arith, fails, all)
-    | inl passes ↦ inl (λ i lt. elim (cases_eq i n) [
-      | inl same ↦ subst P (sym same) passes
-      | inr other ↦ all i (omega (arith, lt, other))
-    ])
-  ]
-]
-
-pub rule_told : (rule : Rule) → (rule ≡ Held) ⊎ (¬ (rule ≡ Held))
-rule_told Held = inl refl
-rule_told Broken = inr (λ e. cc)
-rule_told Unknown = inr (λ e. cc)
-
-pub at_place : {X : Type 0} (xs : List X) (i : ℕ) → i < length xs
-    → (x : X) × (slice_get xs i ≡ Some x)
-at_place [] i lt = absurd (omega (arith, lt))
-at_place (x ∷ xs) zero lt = (x, refl)
-at_place (x ∷ xs) (suc i) lt = at_place xs i (omega (arith, lt))
-
--- what holds of all holds of the one at a place
-pub fits_at : (line : Line) (scripts : List Script) (s : ℕ) (script : Script)
-    → All (Fits line) scripts → slice_get scripts s ≡ Some script → Fits line script
-fits_at line [] s script fit at = absurd (cc)
-fits_at line (x ∷ scripts) zero script fit at =
-    subst (Fits line) (same_Some x script at) (All-head (Fits line) x scripts fit)
-fits_at line (x ∷ scripts) (suc s) script fit at =
-    fits_at line scripts s script (All-tail (Fits line) x scripts fit) at
 
 by_bool : (b : Bool) (x y : Ends) → (b ≡ true → 1 ≤ x.least) → 1 ≤ y.least
     → 1 ≤ (cond b x y).least
@@ -91,7 +56,7 @@ module _ (lines : LineLaws) (rules : TheRuleOverABox) (line : Line) (scripts : L
 
     script_told : (s : ℕ) → s < length scripts → Holds s ⊎ Loses s
     script_told s lt =
-        let (script, at) = at_place scripts s lt in
+        let (script, at) = exists_at scripts s lt in
         elim (first_of (λ k. IsHeldOver line script k box) (λ k. ¬ (IsHeldOver line script k box))
         (terminal_count line) (λ k there. held_or_not script k (early s script at) there)) [
           | inl held ↦ inl (λ other at_other.

@@ -1,5 +1,5 @@
 -- A text is a certificate, or a line of it is the first that leaves the grammar.
-use Rattle.std.proofs.Common.{◌≡◌, ◌+◌, ◌^◌, ◌<◌, ◌⊎◌, inl, inr, ℕ, zero, suc, Bool, true, false}
+use Rattle.std.proofs.Common.{◌≡◌, ◌+◌, ◌^◌, ◌<◌, ◌⊎◌, inl, inr, ℕ, zero, suc, Bool, true}
 use Rattle.std.proofs.Common.{List, []}
 use Rattle.std.proofs.Common.{◌∷◌, ◌++◌, length, map, refl, sym, ◌∙◌, ap, subst, arith}
 use Rattle.std.proofs.lemmas.Bool.{cases_eq, ne_eqb}
@@ -7,9 +7,10 @@ use Rattle.std.proofs.lemmas.List.{length-map}
 use Rattle.std.proofs.lemmas.List.Concat.{flat_map-cons}
 use Rattle.std.proofs.lemmas.List.Elements.{All-cons, All-head, All-nil, All-tail}
 use Rattle.std.proofs.lemmas.Slice.Eq.{bytes_eq-Decides}
-use Rattle.std.specs.Prelude.{◌&&◌, Decides, not}
+use Rattle.std.specs.Prelude.{◌&&◌, not}
 use Rattle.std.specs.Str.{bytes_eq}
 use Rattle.std.specs.List.{All, AllZip, flat_map}
+use Rattle.model_history.specs.TruthLaws.{told}
 use Rattle.model_line.specs.Parameters.{param_count, terminal_count}
 use Rattle.model_line.specs.{declared.line.Line.Line, declared.script.Script.Script}
 use Rattle.run_signal.specs.declared.tern.Tern.{Tern}
@@ -24,10 +25,6 @@ use Rattle.cert_claims.specs.text.Grammar.{says_verdict, terminal_names, undecid
 use Rattle.cert_claims.specs.text.Grammar.{verdict_of, verdict_text, yes}
 
 -- ---- what is there, or is not
-
-told : {P : Type 0} (b : Bool) → Decides b P → P ⊎ (¬ P)
-told true tells = inl (tells.0 refl)
-told false tells = inr (λ p. let e : false ≡ true = tells.1 p in cc)
 
 same_or_not : (xs ys : List ℕ) → (xs ≡ ys) ⊎ (¬ (xs ≡ ys))
 same_or_not xs ys = told (bytes_eq xs ys) (bytes_eq-Decides xs ys)

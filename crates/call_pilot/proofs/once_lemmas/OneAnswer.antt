@@ -1,11 +1,12 @@
 -- That a command has one answer.
-use Rattle.std.proofs.Common.{◌≡◌, ◌≢◌, ◌<◌, ◌||◌, ◌++◌, ℕ, zero, suc, Bool, true, false, List, []}
+use Rattle.std.proofs.Common.{◌≡◌, ◌<◌, ◌++◌, ℕ, suc, Bool, true, false, List, []}
 use Rattle.std.proofs.Common.{◌∷◌}
 use Rattle.std.proofs.Common.{map, not, refl, sym, ◌∙◌, ap, arith}
 use Rattle.std.proofs.lemmas.List.Elements.{All-head, All-tail}
 use Rattle.std.specs.Prelude.{codes, is_some, Option, if◌then◌else◌}
 use Rattle.std.specs.List.{All, concat, count_by}
-use Rattle.model_history.specs.{Elements.some_below, Rails.Rails}
+use Rattle.model_history.specs.Rails.{Rails}
+use Rattle.model_history.specs.BelowLaws.{some_below-same}
 use Rattle.model_line.specs.declared.script.Kind.TheVariants.{Internal, External}
 use Rattle.model_line.specs.{declared.script.Kind.Kind, declared.line.Line.Line}
 use Rattle.model_line.specs.{declared.script.Script.Script, Fits.Fits, Parameters.terminal_count}
@@ -13,7 +14,7 @@ use Rattle.model_logic.specs.Histories.{IsPairHistory, IsSamePairHistory, PairHi
 use Rattle.model_logic.specs.Rule.{Held, Broken, Unknown, Rule, is_broken, is_held, rule_by}
 use Rattle.model_logic.specs.Rule.{rule_of}
 use Rattle.model_logic.specs.Choice.{declared_box}
-use Rattle.run_changes.specs.rows.PlayRows.{each_below}
+use Rattle.run_changes.specs.rows.RowLaws.{each_below-same}
 use Rattle.run_waves.specs.waves.FirstTick.{first_on}
 use Rattle.run_waves.specs.waves.FirstTickLaws.{first_on-same}
 use Rattle.judge_report.specs.ReportText.{AreHistories, fields_text, report_header}
@@ -129,37 +130,23 @@ split_once line scripts n one s t a b p q =
 
 -- ---- reports
 
-below_same : (n : ℕ) (u v : ℕ → List ℕ) → ((i : ℕ) → i < n → u i ≡ v i)
-    → each_below n u ≡ each_below n v
-below_same zero u v same = refl
-below_same (suc n) u v same =
-    ap (λ (t : List ℕ). t ++ u n) (below_same n u v (λ i lt. same i (omega arith)))
-    ∙ ap (λ (t : List ℕ). each_below n v ++ t) (same n (omega arith))
-
-some_same : (n : ℕ) (u v : ℕ → Bool) → ((i : ℕ) → i < n → u i ≡ v i)
-    → some_below u n ≡ some_below v n
-some_same zero u v same = refl
-some_same (suc n) u v same =
-    ap (λ (x : Bool). x || some_below u n) (same n (omega arith))
-    ∙ ap (λ (x : Bool). v n || x) (some_same n u v (λ i lt. same i (omega arith)))
-
 module _ (deadline horizon : ℕ) (early : deadline < horizon) (v w : ℕ → Rails)
     (same : (t : ℕ) → t < horizon → v t ≡ w t) where
   held_same : (kind : Kind) → is_held kind deadline horizon v ≡ is_held kind deadline horizon w
   held_same Internal =
-      some_same (suc deadline) (λ t. (v t).must) (λ t. (w t).must)
+      some_below-same (λ t. (v t).must) (λ t. (w t).must) (suc deadline)
       (λ t lt. ap (λ (x : Rails). x.must) (same t (omega arith)))
   held_same External =
-      ap not (some_same horizon (λ t. (v t).may) (λ t. (w t).may)
+      ap not (some_below-same (λ t. (v t).may) (λ t. (w t).may) horizon
       (λ t lt. ap (λ (x : Rails). x.may) (same t lt)))
 
   broken_same : (kind : Kind)
       → is_broken kind deadline horizon v ≡ is_broken kind deadline horizon w
   broken_same Internal =
-      ap not (some_same (suc deadline) (λ t. (v t).may) (λ t. (w t).may)
+      ap not (some_below-same (λ t. (v t).may) (λ t. (w t).may) (suc deadline)
       (λ t lt. ap (λ (x : Rails). x.may) (same t (omega arith))))
   broken_same External =
-      some_same horizon (λ t. (v t).must) (λ t. (w t).must)
+      some_below-same (λ t. (v t).must) (λ t. (w t).must) horizon
       (λ t lt. ap (λ (x : Rails). x.must) (same t lt))
 
   rule_same : (kind : Kind) → rule_by kind deadline horizon v ≡ rule_by kind deadline horizon w
@@ -196,7 +183,7 @@ module _ (line : Line) (script : Script) (early : script.deadline < line.horizon
 
   pub script_same : script_rows line script v ≡ script_rows line script w
   script_same =
-      below_same (terminal_count line) (λ k. row_text line script k (v.trip k))
+      each_below-same (terminal_count line) (λ k. row_text line script k (v.trip k))
       (λ k. row_text line script k (w.trip k)) row_same
 
 module _ (line : Line)

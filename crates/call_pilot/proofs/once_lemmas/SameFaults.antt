@@ -6,7 +6,6 @@ use Rattle.std.specs.List.{concat}
 use Rattle.model_history.specs.Rails.{Ends}
 use Rattle.model_line.specs.Laws.{CountsRestOnNoInterval}
 use Rattle.model_line.specs.{declared.line.Line.Line, declared.script.Script.Script}
-use Rattle.model_line.specs.{declared.line.Param.Param}
 use Rattle.model_line.specs.{Parameters.param_count, SetBounds.SameButParams}
 use Rattle.model_logic.specs.Choice.{Choice, IsIn}
 use Rattle.model_logic.specs.Histories.{IsLineHistory}
@@ -15,15 +14,15 @@ use Rattle.model_line.specs.NamesByNumber.{parameter_name, script_name, terminal
 use Rattle.file_line.specs.Lines.{line_values}
 use Rattle.file_tables.specs.script.Values.{ScriptValues, values_of}
 use Rattle.run_waves.specs.derived.Firsts.{IsFirstFailing}
-use Rattle.cert_claims.specs.{check.NoFaults.IsNoFault}
+use Rattle.cert_claims.specs.check.NoFaults.{IsNoFault}
 use Rattle.cert_claims.specs.check.Refutations.{IsFirstOutside, IsMetAt, IsMetInside, IsNumberIn}
 use Rattle.cert_claims.specs.check.Refutations.{choice_of, steady_timing}
 use Rattle.cert_claims.specs.declared.check.no.NoFault.{NoFault}
 use Rattle.cert_claims.specs.declared.check.no.NoFault.TheVariants.{Outside, Passes}
 use Rattle.call_engine.specs.Checked.{outside_pieces, passes_pieces, place}
 use Rattle.call_pilot.specs.top.SameFactLaws.{choice_same, ends_same, same_params}
-use Rattle.call_pilot.specs.{top.SamePlayLaws.timing_inside}
-use Rattle.call_pilot.specs.top.SameTextLaws.{script_names_same, terminal_same}
+use Rattle.call_pilot.specs.top.SamePlayLaws.{timing_inside}
+use Rattle.call_pilot.specs.top.SameTextLaws.{script_names_same, terminal_same, param_same}
 use Rattle.call_pilot.specs.top.SameValueLaws.{history_back, same_but_params}
 
 -- the first of several numbers
@@ -47,11 +46,6 @@ module _ (a b : Line) (lines : line_values b ≡ line_values a) where
       ∙ ap (λ (name : List ℕ). concat (codes " " ∷ script_name xs i ∷ codes " " ∷ name ∷ []))
       (terminal_same a b (same_but_params a b lines) (same_params a b lines) k)
 
-  parameter_same : (p : ℕ) → parameter_name b p ≡ parameter_name a p
-  parameter_same p =
-      ap (λ (ps : List Param). get_or (map (λ (x : Param). x.name) ps) p [])
-      (same_params a b lines)
-
   module _ (xs ys : List Script) (scripts : map values_of ys ≡ map values_of xs) (i k : ℕ) where
     pub outside_same : (p value : ℕ)
         → outside_pieces b ys i k p value ≡ outside_pieces a xs i k p value
@@ -60,7 +54,7 @@ module _ (a b : Line) (lines : line_values b ≡ line_values a) where
         codes "rejected Outside" ∷ at ∷ codes " " ∷ name ∷ codes " " ∷ decimal value
         ∷ codes "\n" ∷ [] in
         ap (λ (at : List ℕ). made at (parameter_name b p)) (place_same xs ys scripts i k)
-        ∙ ap (made (place a xs i k)) (parameter_same p)
+        ∙ ap (made (place a xs i k)) (param_same a b (same_but_params a b lines) (same_params a b lines) p)
 
     pub passes_same : (t : ℕ) → passes_pieces b ys i k t ≡ passes_pieces a xs i k t
     passes_same t =

@@ -1,23 +1,23 @@
 -- The clauses of the top call, from how it ends.
-use Rattle.std.proofs.Common.{◌≡◌, ◌⊎◌, ◌<◌, ℕ, List, [], ◌∷◌, Option, None, Some, OnOk, Result, Ok}
-use Rattle.std.proofs.Common.{Err, refl, ap, subst, inl, inr, arith}
-use Rattle.std.specs.Io.KnownBytes.{Appends, Keeps}
-use Rattle.base_text.specs.{store.Counts.Rose, store.Sink.GrewByPart, store.Sink.GrewByProper}
-use Rattle.base_text.specs.{store.SinkLaws.part_of_proper}
+use Rattle.std.proofs.Common.{◌≡◌, ◌⊎◌, ◌<◌, ℕ, List, [], Option, None, Some, OnOk, Result, Ok}
+use Rattle.std.proofs.Common.{Err, refl, subst, inl, inr}
+use Rattle.std.specs.Io.KnownBytes.{Keeps}
+use Rattle.base_text.specs.{store.Counts.Rose, store.CountLaws.not_more, store.Sink.GrewByPart}
+use Rattle.base_text.specs.store.Sink.{GrewByProper}
 use Rattle.call_engine.specs.Calls.{Calls}
-use Rattle.call_files.specs.Files.{NamedFile, NoneRose, StoreCause}
+use Rattle.call_files.specs.{FileLaws.no_cause, Files.NoneRose, Files.StoreCause}
 use Rattle.call_files.specs.Status.{IsAnswer, IsDone, IsEarly, status_of, stop_status}
 use Rattle.call_pilot.specs.{top.Call.Asked, top.Call.Told, top.Clauses.Call, top.Clauses.Clauses, top.Clauses.IsLine}
 use Rattle.call_pilot.specs.{top.Clauses.OutIsAnswer, top.Clauses.OutGrew}
 use Rattle.call_pilot.specs.{top.Ends.EndsOf, top.Headline.Headline, top.Words.Command}
 use Rattle.call_files.specs.Messages.{message_of}
-use Rattle.call_pilot.specs.{top.Words.files_named}
+use Rattle.call_pilot.specs.top.Words.{files_named}
 use Rattle.call_files.specs.{declared.stop.File.File, declared.stop.Status.Status}
 use Rattle.call_answer.specs.Sinks.{SinkView, GrewByAll, Puts}
 use Rattle.call_files.specs.declared.stop.Status.TheVariants as status
 use Rattle.call_files.specs.declared.stop.Stop.{Stop}
 use Rattle.call_files.specs.declared.stop.Stop.TheVariants as stop
-use Rattle.call_answer.specs.SinkLaws.{appends_none}
+use Rattle.call_answer.specs.SinkLaws.{put_or_part, same_faults, same_out}
 
 -- 0 to 3 is none of the other statuses
 not_done : {X : Type 0} (s t : Status) → IsDone s → (IsDone t → ⊥) → s ≡ t → X
@@ -34,29 +34,6 @@ not_early status.BadInput done early = done
 not_early status.StoreFault done early = done
 not_early status.SinkFault done early = done
 not_early status.Memory done early = done
-
--- no name's count rose, so there is no cause
-no_cause : (files : List ℕ → Option (List ℕ)) (c1 c2 : List ℕ → ℕ) (asked : List NamedFile)
-    (file : File)
-    → NoneRose c1 c2 asked → StoreCause files c1 c2 asked file → ⊥
-no_cause files c1 c2 [] file none cause = cause
-no_cause files c1 c2 (a ∷ rest) file none cause = elim cause [
-  | inl here ↦ none.0 here.1
-  | inr later ↦ no_cause files c1 c2 rest file none.1 later.1
-]
-
--- where no count rose in a call, none is greater
-not_more : {X : Type 0} (a b : ℕ) → b ≡ a → a < b → X
-not_more a b same more = absurd (omega arith)
-
--- a put of a line, whatever came of it
-put_or_part : {X Y : Type 0} (old new : SinkView) (line : List ℕ) (r : Result X Y)
-    → Puts old new line r
-    → GrewByAll old new line
-    ⊎ (Rose old.faults new.faults × GrewByPart old.written new.written line)
-put_or_part old new line (Ok x) puts = inl puts
-put_or_part old new line (Err y) puts =
-    inr (puts.0, part_of_proper old.written new.written line puts.1)
 
 -- 0 to 3 is an answer
 done_answers : (s : Status) → IsDone s → IsAnswer s
@@ -101,10 +78,6 @@ module _ {K : Type 0} (view : K → SinkView) (old new : K) (files : List ℕ �
     err_new = e2;
   }
 
-  -- nothing on out
-  same_out : new ≡ old → Appends (view old).written (view new).written []
-  same_out is = rw is (appends_none (view old).written)
-
   answered : (command : Option Command) (r : Result Status Stop)
       → EndsOf view command files c1 c2 old new r → IsAnswer (status_of r)
       → Told command files → OutIsAnswer (seen command) (status_of r)
@@ -112,7 +85,7 @@ module _ {K : Type 0} (view : K → SinkView) (old new : K) (files : List ℕ �
     text = [];
     line = message_of stop.Usage;
     is = (refl, refl, refl);
-    out = same_out e.2;
+    out = same_out view old new e.2;
   })
   answered (Some x) (Ok s) e =
       λ is told. record { text = e.1.1; line = []; is = e.1.2 told; out = e.1.3.taken }
@@ -121,7 +94,7 @@ module _ {K : Type 0} (view : K → SinkView) (old new : K) (files : List ℕ �
     text = [];
     line = message_of (stop.Refused why);
     is = e.1.0 told;
-    out = same_out e.1.1;
+    out = same_out view old new e.1.1;
   }
   answered (Some x) (Err (stop.Store f)) e = λ is told. absurd is
   answered (Some x) (Err stop.Sink) e = λ is told. absurd is
@@ -179,17 +152,14 @@ module _ {K : Type 0} (view : K → SinkView) (old new : K) (files : List ℕ �
   )
   sink_failed (Some x) (Err stop.Memory) e = λ is. cc
 
-  same_faults : {X : Type 0} → new ≡ old → (view old).faults < (view new).faults → X
-  same_faults is more = not_more _ _ (ap (λ k. (view k).faults) is) more
-
   sink_told : (command : Option Command) (r : Result Status Stop)
       → EndsOf view command files c1 c2 old new r → (view old).faults < (view new).faults
       → status_of r ≡ status.SinkFault
-  sink_told None r e = λ more. same_faults e.2 more
+  sink_told None r e = λ more. same_faults view old new e.2 more
   sink_told (Some x) (Ok s) e = λ more. not_more _ _ e.1.3.same more
   sink_told (Some x) (Err stop.Usage) e = absurd e.1
-  sink_told (Some x) (Err (stop.Refused why)) e = λ more. same_faults e.1.1 more
-  sink_told (Some x) (Err (stop.Store f)) e = λ more. same_faults e.1 more
+  sink_told (Some x) (Err (stop.Refused why)) e = λ more. same_faults view old new e.1.1 more
+  sink_told (Some x) (Err (stop.Store f)) e = λ more. same_faults view old new e.1 more
   sink_told (Some x) (Err stop.Sink) e = λ more. refl
   sink_told (Some x) (Err stop.Memory) e = λ more. not_more _ _ e.1.0 more
 

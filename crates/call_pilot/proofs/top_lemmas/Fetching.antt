@@ -1,10 +1,10 @@
 -- How a call ends, file after file.
-use Rattle.std.proofs.Common.{◌≡◌, ℕ, ◌≤◌, false, List, [], ◌∷◌, Option, None, Some, IsSome, IfSome}
-use Rattle.std.proofs.Common.{Result, Ok, Err, length, nat_lt, unwrap_or, refl, sym, ◌∙◌, inl, inr}
-use Rattle.std.proofs.Common.{subst, ap, arith}
-use Rattle.base_text.specs.store.Store.{SameCounts}
+use Rattle.std.proofs.Common.{◌≡◌, ℕ, ◌≤◌, List, [], ◌∷◌, Option, IfSome, Result, Ok, Err, length}
+use Rattle.std.proofs.Common.{refl, sym, ◌∙◌, inl, inr, subst, ap}
+use Rattle.base_text.specs.{store.CountLaws.same_both, store.Store.SameCounts}
 use Rattle.call_answer.specs.Sinks.{SinkView}
-use Rattle.call_files.specs.Files.{contents, in_front, limit_of, AllTold, NamedFile, StoreCause}
+use Rattle.call_files.specs.FileLaws.{cause_from, short_of, told_contents}
+use Rattle.call_files.specs.Files.{contents, in_front, limit_of, AllTold, NamedFile}
 use Rattle.call_files.specs.declared.stop.File.{File}
 use Rattle.call_pilot.specs.{top.CallAnswers.CallAnswers, top.Ends.Works, top.Ends.EndsOverFiles}
 use Rattle.call_files.specs.{declared.stop.Status.Status, declared.stop.Stop.Stop}
@@ -28,37 +28,6 @@ works_wider view A B old new (Err stop.Memory) wider w = (
     | inr grew ↦ inr (grew.0, grew.1, grew.2, wider grew.0 grew.1 grew.2 grew.3, grew.4)
   ],
 )
-
-opened : (o : Option (List ℕ)) (v : List ℕ) → IsSome o → IfSome o (λ b. b ≡ v) → unwrap_or o [] ≡ v
-opened None v some is = cc
-opened (Some b) v some is = is
-
-short_of : (o : Option (List ℕ)) (v : List ℕ) (limit : ℕ)
-    → length v ≤ limit → IfSome o (λ b. b ≡ v) → IfSome o (λ b. length b ≤ limit)
-short_of None v limit le is = tt
-short_of (Some b) v limit le is = rw is le
-
-not_above : (limit n : ℕ) → n ≤ limit → nat_lt limit n ≡ false
-not_above limit n le = grind arith
-
--- the bytes that were fetched are the first contents
-pub told_contents : (files : List ℕ → Option (List ℕ)) (a : NamedFile) (rest : List NamedFile) (v : List ℕ)
-    → length v ≤ limit_of a.file → IfSome (files a.name) (λ b. b ≡ v) → AllTold files (a ∷ rest)
-    → contents files (a ∷ rest) ≡ in_front v (contents files rest)
-told_contents files a rest v le is told =
-    let e = opened (files a.name) v told.0 is in
-    let t = not_above (limit_of a.file) (length v) le in
-    rw (e, t) refl
-
--- a cause from an earlier count
-pub cause_from : (files : List ℕ → Option (List ℕ)) (c1 c2 c3 : List ℕ → ℕ) (asked : List NamedFile)
-    (file : File)
-    → SameCounts c1 c2 → StoreCause files c2 c3 asked file → StoreCause files c1 c3 asked file
-cause_from files c1 c2 c3 [] file same cause = cause
-cause_from files c1 c2 c3 (a ∷ rest) file same cause = elim cause [
-  | inl here ↦ inl (here.0, rw (same a.name) at here.1)
-  | inr later ↦ inr (later.0, cause_from files c1 c2 c3 rest file same later.1)
-]
 
 module _ {K : Type 0} (view : K → SinkView) (next : Result (List (List ℕ)) File → CallAnswers)
     (files : List ℕ → Option (List ℕ)) (old new : K) where
@@ -99,9 +68,6 @@ module _ {K : Type 0} (view : K → SinkView) (next : Result (List (List ℕ)) F
       subst (λ (x : Result (List (List ℕ)) File). next x s text line)
       (sym (told_contents files a rest v short is told)) (p told.1))
       w
-
-  same_both : (c1 c2 c3 : List ℕ → ℕ) → SameCounts c1 c2 → SameCounts c2 c3 → SameCounts c1 c3
-  same_both c1 c2 c3 p q = λ name. q name ∙ p name
 
   -- a call whose first file was fetched
   pub ends_next : (c1 c2 c3 : List ℕ → ℕ) (r : Result Status Stop) → SameCounts c1 c2

@@ -5,7 +5,7 @@ use Rattle.std.proofs.lemmas.List.Elements.{All-head, All-tail}
 use Rattle.std.specs.List.{All, flat_map}
 use Rattle.model_line.specs.{declared.line.Line.Line, declared.script.Script.Script}
 use Rattle.model_logic.specs.Histories.{History}
-use Rattle.model_timing.specs.{Inside.IsTimingInside}
+use Rattle.model_timing.specs.Inside.{IsTimingInside}
 use Rattle.model_timing.specs.NamedValues.{NamedValues}
 use Rattle.file_tables.specs.timing.Timings.{timings_of}
 use Rattle.file_tables.specs.declared.timing.fault.TimingFault.{TimingFault}
@@ -28,6 +28,7 @@ use Rattle.call_pilot.specs.declared.top.words.ThreeFiles.TheVariants as three
 use Rattle.call_pilot.specs.top.SaidByFiles.{InFiles}
 use Rattle.call_pilot.proofs.{top_lemmas.SameFiles.Moves, top_lemmas.SameFiles.in_files, top_lemmas.SameFiles.in_files_then}
 use Rattle.call_pilot.specs.top.SamePlayLaws.{play_text_on, timing_inside, timings_same}
+use Rattle.call_pilot.proofs.commands_lemmas.PlayTexts.{any}
 use Rattle.call_pilot.proofs.top_lemmas.Told.{all_three, front_of, three_told}
 
 -- one piece after another is a text of pieces
@@ -42,9 +43,6 @@ pieces_of IsPiece P f is (x ∷ xs) all = (
   pieces_of IsPiece P f is xs (All-tail P x xs all),
   refl,
 )
-
-any : {X : Type 0} (xs : List X) → All (λ x. Unit {0}) xs
-any xs k d lt = tt
 
 -- the rows of all histories are a play text
 play_text : (line : Line) (scripts : List Script) (timings : List NamedValues)

@@ -10,7 +10,6 @@ use Rattle.base_memory.specs.declared.stopped.Stopped.{Stopped}
 use Rattle.base_memory.specs.declared.stopped.Stopped.TheVariants as stopped
 use Rattle.file_line.specs.declared.fault.LineFault.{LineFault}
 use Rattle.file_tables.specs.script.Scripts.{scripts_of}
-use Rattle.file_tables.specs.{script.Values.ScriptValues, declared.script.fault.ScriptFault.ScriptFault}
 use Rattle.call_engine.specs.Calls.{Calls}
 use Rattle.model_timing.specs.Inside.{IsTimingInside}
 use Rattle.model_timing.specs.NamedValues.{NamedValues}
@@ -18,7 +17,7 @@ use Rattle.file_tables.specs.declared.timing.fault.TimingFault.{TimingFault}
 use Rattle.judge_match.specs.{matching.Waves.SeenValues, declared.matching.fault.SeenFault.SeenFault}
 use Rattle.call_pilot.specs.top.CallAnswers.{CallAnswers, refuses}
 use Rattle.call_files.specs.Said.{of_line, of_parameter, of_record, of_scripts, of_study}
-use Rattle.call_files.specs.Said.{of_timings}
+use Rattle.call_files.specs.{FileLaws.timings_read, Said.of_timings}
 use Rattle.call_pilot.specs.top.Reading.{work_of_one}
 use Rattle.call_files.specs.Stops.{stop_by}
 use Rattle.call_files.specs.Study.{IsSaid, ReadsStudy}
@@ -28,6 +27,7 @@ use Rattle.call_answer.specs.{Sinks.SinkView, Study.IsStudy}
 use Rattle.call_files.specs.declared.refusal.Refusal.TheVariants as refusal
 use Rattle.call_files.specs.{declared.stop.Status.Status, declared.stop.Stop.Stop}
 use Rattle.call_files.specs.declared.stop.Stop.TheVariants as stop
+use Rattle.call_files.specs.FileLaws.{line_wider, scripts_wider}
 use Rattle.call_answer.specs.declared.study.Study.{Study}
 use Rattle.call_pilot.specs.declared.top.words.OneFile.{OneFile}
 use Rattle.call_pilot.specs.declared.top.words.OneFile.TheVariants as one
@@ -56,14 +56,6 @@ pub study_read : (line_bytes scripts_bytes : List ℕ) (study : Study)
 study_read line_bytes scripts_bytes study refused holds is said h =
     rw said.line_is (study.line, refl, rw said.scripts_are (study.scripts.items, refl, is.fit, h))
 
--- timings that were read
-pub timings_read : (l : Line) (said : Result (List NamedValues) TimingFault)
-    (timings : List NamedValues) (refused : Refusal → Type 0)
-    (holds : List NamedValues → Type 0)
-    → said ≡ Ok timings → All (λ timing. IsTimingInside l timing.timing) timings
-    → holds timings → of_timings l said refused holds
-timings_read l said timings refused holds is inside h = rw is (inside, h)
-
 -- records of the field that were read
 pub record_read : (said : Result (List SeenValues) SeenFault) (records : List SeenValues)
     (refused : Refusal → Type 0) (holds : List SeenValues → Type 0)
@@ -87,19 +79,6 @@ pub parameter_found : (said : Option ℕ) (param : ℕ) (refused : Refusal → T
 parameter_found said param refused holds is h = rw is h
 
 -- ---- refusals
-
-line_wider : (said : Result LineValues LineFault) (R S : Refusal → Type 0) (H P : Line → Type 0)
-    → ((why : Refusal) → R why → S why) → ((l : Line) → H l → P l)
-    → of_line said R H → of_line said S P
-line_wider (Ok values) R S H P refused holds h = (h.0, h.1, holds h.0 h.2)
-line_wider (Err e) R S H P refused holds h = refused _ h
-
-scripts_wider : (l : Line) (said : Result (List ScriptValues) ScriptFault)
-    (R S : Refusal → Type 0) (H P : List Script → Type 0)
-    → ((why : Refusal) → R why → S why) → ((scripts : List Script) → H scripts → P scripts)
-    → of_scripts l said R H → of_scripts l said S P
-scripts_wider l (Ok values) R S H P refused holds h = (h.0, h.1, h.2, holds h.0 h.3)
-scripts_wider l (Err e) R S H P refused holds h = refused _ h
 
 -- what the first refusal makes of a reading
 study_refused : (line_bytes scripts_bytes : List ℕ) (why : Refusal) (refused : Refusal → Type 0)

@@ -1,5 +1,5 @@
 -- What is said of an obligation rests on the values of a line and of a script alone.
-use Rattle.std.proofs.Common.{◌≡◌, ℕ, ◌<◌, ◌+◌, ◌*◌, List, [], ◌∷◌, map, get_or, refl, sym, ◌∙◌, ap}
+use Rattle.std.proofs.Common.{◌≡◌, ℕ, ◌<◌, ◌+◌, ◌*◌, List, [], map, get_or, refl, sym, ◌∙◌, ap}
 use Rattle.std.proofs.Common.{subst}
 use Rattle.std.proofs.Math.Path.{fun_ext}
 use Rattle.std.proofs.lemmas.List.Elements.{All-nil}
@@ -13,6 +13,7 @@ use Rattle.model_line.specs.{declared.line.Scheme.Scheme, declared.line.Terminal
 use Rattle.model_line.specs.{declared.script.Kind.Kind, declared.script.SeenSpan.SeenSpan}
 use Rattle.model_line.specs.{Laws.CountsRestOnNoInterval, Channels.from_of, ParamNames.param_name}
 use Rattle.model_line.specs.{Settings.line_settings, SetBounds.SameButParams}
+use Rattle.model_line.specs.SameParamLaws.{params_by}
 use Rattle.model_logic.specs.Choice.{Box, Choice, IsIn, IsWithin, declared_box, ends_by}
 use Rattle.model_logic.specs.Choice.{pair_world_of}
 use Rattle.model_logic.specs.Histories.{IsLineHistory, IsPairHistory, PairHistory}
@@ -39,26 +40,6 @@ use Rattle.call_pilot.specs.top.SameValueLaws.{inside_back, leasts_of, meets_bac
 use Rattle.call_pilot.specs.top.SameValueLaws.{same_but_params, same_ends}
 
 -- ---- parameters
-
-param_by : (x y : Param) → x.name ≡ y.name → x.least ≡ y.least → x.greatest ≡ y.greatest → x ≡ y
-param_by x y name least greatest =
-    ap (λ (n : List ℕ). record { name = n; least = x.least; greatest = x.greatest }) name
-    ∙ ap (λ (n : ℕ). record { name = y.name; least = n; greatest = x.greatest }) least
-    ∙ ap (λ (n : ℕ). record { name = y.name; least = y.least; greatest = n }) greatest
-
-params_by : (a b : List Param) → map (λ (p : Param). p.name) a ≡ map (λ (p : Param). p.name) b
-    → map (λ (p : Param). p.least) a ≡ map (λ (p : Param). p.least) b
-    → map (λ (p : Param). p.greatest) a ≡ map (λ (p : Param). p.greatest) b → a ≡ b
-params_by [] [] names low high = refl
-params_by [] (y ∷ b) names low high = absurd (cc)
-params_by (x ∷ a) [] names low high = absurd (cc)
-params_by (x ∷ a) (y ∷ b) names low high =
-    let name : x.name ≡ y.name = cc in
-    let least : x.least ≡ y.least = cc in
-    let greatest : x.greatest ≡ y.greatest = cc in
-    let same : x ≡ y = param_by x y name least greatest in
-    let later : a ≡ b = params_by a b (cc) (cc) (cc) in
-    ap (λ (p : Param). p ∷ a) same ∙ ap (λ (ps : List Param). y ∷ ps) later
 
 -- lines of the same values have the same parameters
 pub same_params : (a b : Line) → line_values b ≡ line_values a → b.params.items ≡ a.params.items

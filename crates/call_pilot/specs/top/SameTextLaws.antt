@@ -44,7 +44,7 @@ module _ (a b : Line) (rest : SameButParams a b) (params : b.params.items ≡ a.
   pub terminal_same : (k : ℕ) → terminal_name b k ≡ terminal_name a k
   terminal_same k = ap (λ (ts : List Terminal). name_at ts k) rest.terminals
 
-  param_same : (i : ℕ) → parameter_name b i ≡ parameter_name a i
+  pub param_same : (i : ℕ) → parameter_name b i ≡ parameter_name a i
   param_same i =
       ap (λ (ps : List Param). get_or (map (λ (p : Param). p.name) ps) i []) params
 

@@ -6,7 +6,8 @@ use Rattle.csv.specs.Writing.{row_text, default_writer}
 use Rattle.model_line.specs.declared.line.Line.{Line}
 use Rattle.model_line.specs.NamesByNumber.{terminal_name}
 use Rattle.model_timing.specs.{Timing.TimingValues, NamedValues.NamedValues}
-use Rattle.file_tables.specs.timing.Printed.{file_records, records_text}
+use Rattle.file_tables.specs.script.Printed.{records_text}
+use Rattle.file_tables.specs.timing.Printed.{file_records}
 use Rattle.judge_match.specs.matching.MatchText.{signal_word}
 use Rattle.run_changes.specs.rows.PlayRows.{level_word}
 use Rattle.judge_match.specs.declared.explain.paired.Paired.{Paired}

@@ -1,32 +1,18 @@
 -- What holds of the first refusal, or of what is read, holds of each that is wider.
-use Rattle.std.proofs.Common.{◌≡◌, List, ℕ, map, Result, Ok, Err}
+use Rattle.std.proofs.Common.{◌≡◌, List, ℕ, map}
 use Rattle.model_line.specs.{declared.line.Line.Line, declared.script.Script.Script}
-use Rattle.file_line.specs.{LineFiles.line_of, Lines.LineValues}
-use Rattle.file_line.specs.declared.fault.LineFault.{LineFault}
-use Rattle.file_tables.specs.{script.Scripts.scripts_of, script.Values.ScriptValues}
-use Rattle.file_tables.specs.declared.script.fault.ScriptFault.{ScriptFault}
+use Rattle.file_line.specs.LineFiles.{line_of}
+use Rattle.file_tables.specs.script.Scripts.{scripts_of}
 use Rattle.file_study.specs.sweeps.Groups.{group_values, single_group}
 use Rattle.file_study.specs.declared.sweeps.group.Group.{Group}
-use Rattle.call_files.specs.Said.{of_line, of_scripts, of_study}
+use Rattle.call_files.specs.Said.{of_scripts, of_study}
 use Rattle.call_files.specs.declared.refusal.Refusal.{Refusal}
+use Rattle.call_files.specs.FileLaws.{line_wider, scripts_wider}
 
 -- what holds of groups of which each is one script
 abbrev pub HasGroups : List Script → (List Group → Type 0) → Type 0
 HasGroups scripts holds =
     (groups : List Group) × (map group_values groups ≡ map single_group scripts) × holds groups
-
-line_wider : (said : Result LineValues LineFault) (R S : Refusal → Type 0) (H P : Line → Type 0)
-    → ((why : Refusal) → R why → S why) → ((l : Line) → H l → P l)
-    → of_line said R H → of_line said S P
-line_wider (Ok values) R S H P refused holds h = (h.0, h.1, holds h.0 h.2)
-line_wider (Err e) R S H P refused holds h = refused _ h
-
-scripts_wider : (l : Line) (said : Result (List ScriptValues) ScriptFault)
-    (R S : Refusal → Type 0) (H P : List Script → Type 0)
-    → ((why : Refusal) → R why → S why) → ((scripts : List Script) → H scripts → P scripts)
-    → of_scripts l said R H → of_scripts l said S P
-scripts_wider l (Ok values) R S H P refused holds h = (h.0, h.1, h.2, holds h.0 h.3)
-scripts_wider l (Err e) R S H P refused holds h = refused _ h
 
 pub study_wider : (line_bytes scripts_bytes : List ℕ) (R S : Refusal → Type 0)
     (H P : Line → List Script → Type 0) → ((why : Refusal) → R why → S why)

@@ -1,12 +1,9 @@
 -- Claims have one first fault.
-use Rattle.std.proofs.Common.{◌≡◌, ℕ, suc, Bool, List, get_or, sym}
-use Rattle.std.proofs.Common.{◌∙◌, ap, arith, subst}
+use Rattle.std.proofs.Common.{◌≡◌, ℕ, List, sym, ◌∙◌, ap, subst}
 use Rattle.model_history.specs.Rails.{Rails}
-use Rattle.run_signal.specs.{declared.tern.Tern.Tern}
-use Rattle.run_signal.specs.{TernLaws.tern_once}
-use Rattle.model_line.specs.declared.script.Kind.TheVariants.{Internal, External}
-use Rattle.model_line.specs.Parameters.{param_count, terminal_count}
-use Rattle.model_line.specs.declared.script.Kind.{Kind}
+use Rattle.run_signal.specs.declared.tern.Tern.{Tern}
+use Rattle.run_signal.specs.TernLaws.{tern_once}
+use Rattle.model_line.specs.Parameters.{terminal_count}
 use Rattle.model_line.specs.{declared.line.Line.Line, declared.script.Script.Script}
 use Rattle.model_logic.specs.PairMean.{PairSignals}
 use Rattle.cert_claims.specs.text.Grammar.{Claims, Verdict, yes, no, undecided}
@@ -14,10 +11,9 @@ use Rattle.cert_claims.specs.declared.check.claim.ClaimFault.{ClaimFault}
 use Rattle.cert_claims.specs.declared.check.claim.ClaimFault.TheVariants.{NotCovered, NotHeld, No}
 use Rattle.cert_claims.specs.declared.check.no.NoFault.{NoFault}
 use Rattle.cert_claims.specs.declared.check.no.NoFault.TheVariants.{Outside, Passes}
-use Rattle.run_waves.specs.waves.FirstTick.{IsFirstOnAt}
 use Rattle.run_waves.specs.derived.Firsts.{IsFirstFailing}
-use Rattle.cert_claims.specs.check.Refutations.{IsMetAt, IsNumberIn, IsFirstOutside, IsMetInside}
-use Rattle.cert_claims.specs.{check.NoFaults.IsNoFault, check.ScriptLaws.same_number}
+use Rattle.cert_claims.specs.check.Refutations.{IsFirstOutside, IsMetInside}
+use Rattle.cert_claims.specs.check.NoFaults.{IsNoFault}
 use Rattle.cert_claims.specs.{check.ScriptLaws.wrong_once, check.Verdicts.IsSupported}
 use Rattle.cert_claims.specs.check.Verdicts.{IsNotHeld, IsWrongNo, IsFaultOf, IsCovered, IsKeyCovered}
 use Rattle.cert_claims.specs.check.Verdicts.{IsFirstUncovered, IsVerdictFault, IsFirstVerdictFault}
@@ -25,21 +21,9 @@ use Rattle.cert_claims.specs.check.Verdicts.{IsFirstFault}
 use Rattle.run_waves.specs.derived.Claims.{derived_key, derived_trip}
 use Rattle.cert_claims.specs.declared.check.claim.Uncovered.{Uncovered}
 use Rattle.run_waves.specs.derived.Claims.{pairs_of}
-use Rattle.model_history.specs.TruthLaws.{not_both}
+use Rattle.run_waves.specs.derived.FirstLaws.{first_failing_once}
+use Rattle.cert_claims.specs.check.MetLaws.{met_once, outside_once}
 use Rattle.cert_claims.proofs.check_lemmas.Refusal.{HaveHistories, verdict_refused}
-
--- ---- first numbers
-
-first_failing_once : (fact : ℕ → Type 0) (count n m : ℕ) → IsFirstFailing fact count n
-    → IsFirstFailing fact count m → n ≡ m
-first_failing_once fact count n m a b =
-    same_number n m (λ lt. a.fails (b.before n lt)) (λ lt. b.fails (a.before m lt))
-
-first_on_once : (u : ℕ → Bool) (end n m : ℕ) → IsFirstOnAt u 0 end n → IsFirstOnAt u 0 end m
-    → n ≡ m
-first_on_once u end n m a b =
-    same_number n m (λ lt. not_both (u n) (b.before n (omega arith) lt) a.on)
-    (λ lt. not_both (u m) (a.before m (omega arith) lt) b.on)
 
 -- ---- keys
 
@@ -88,19 +72,7 @@ uncovered_once line script claims u v a b =
 
 -- ---- verdicts
 
-met_once : (kind : Kind) (deadline horizon : ℕ) (trip : ℕ → Bool) (t r : ℕ)
-    → IsMetAt kind deadline horizon trip t → IsMetAt kind deadline horizon trip r → t ≡ r
-met_once Internal deadline horizon trip t r a b = first_on_once trip (suc deadline) t r a b
-met_once External deadline horizon trip t r a b = a.0 ∙ sym b.0
-
 module _ (line : Line) (script : Script) (have : HaveHistories line script) (k : ℕ) where
-  outside_once : (values : List ℕ) (i x j y : ℕ) → IsFirstOutside line values i x
-      → IsFirstOutside line values j y → (i ≡ j) × (x ≡ y)
-  outside_once values i x j y a b =
-      let same : i ≡ j =
-      first_failing_once (IsNumberIn line values) (param_count line) i j a.first b.first in
-      (same, a.number ∙ ap (λ (n : ℕ). get_or values n 0) same ∙ sym b.number)
-
   outside_or_inside : (values : List ℕ) (i x t : ℕ) → IsFirstOutside line values i x
       → IsMetInside line script k values t → ⊥
   outside_or_inside values i x t a b =
@@ -116,7 +88,7 @@ module _ (line : Line) (script : Script) (have : HaveHistories line script) (k :
   pub no_once : (values : List ℕ) (f g : NoFault) → IsNoFault line script k values f
       → IsNoFault line script k values g → f ≡ g
   no_once values (Outside i x) (Outside m y) a b =
-      let same = outside_once values i x m y a b in
+      let same = outside_once line values i x m y a b in
       let param : i ≡ m = same.0 in
       let value : x ≡ y = same.1 in
       cc

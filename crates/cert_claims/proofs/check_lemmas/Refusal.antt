@@ -13,7 +13,7 @@ use Rattle.cert_claims.specs.check.Refutations.{IsRefutation, IsMetInside, choic
 use Rattle.cert_claims.specs.check.Verdicts.{IsSupported, IsNotHeld, IsWrongNo, IsFaultOf}
 use Rattle.cert_claims.specs.check.Verdicts.{IsFirstVerdictFault, IsFirstFault, AreAccepted}
 use Rattle.cert_claims.specs.check.NoFaults.{IsNoFault}
-use Rattle.cert_claims.proofs.check_lemmas.Refutations.{met_meets}
+use Rattle.cert_claims.specs.check.MetLaws.{met_meets}
 
 -- numbers that are inside have a history
 abbrev pub HaveHistories : Line → Script → Type 0

@@ -8,6 +8,7 @@ use Rattle.run_signal.specs.declared.tern.Tern.{Tern}
 use Rattle.model_line.specs.declared.line.Line.{Line}
 use Rattle.cert_claims.specs.text.Grammar.{Claims, HasOneEach, Verdict, part_said}
 use Rattle.cert_claims.specs.text.Grammar.{says_key, says_verdict}
+use Rattle.cert_claims.specs.text.ClaimLaws.{same_claims}
 
 fronts : {X : Type 0} (a b c d : List X) → length a ≡ length b → a ++ c ≡ b ++ d → a ≡ b
 fronts a b c d long same =
@@ -39,11 +40,6 @@ verdicts_tell (v ∷ verdicts) (u ∷ others) same =
     let first : says_verdict v ∷ map says_verdict verdicts
     ≡ says_verdict u ∷ map says_verdict others = same in
     cc
-
-same_claims : (c d : Claims) → c.keys ≡ d.keys → c.verdicts ≡ d.verdicts → c ≡ d
-same_claims c d keys verdicts =
-    ap (λ (k : List (List Tern)). record { keys = k; verdicts = c.verdicts }) keys
-    ∙ ap (λ (v : List Verdict). record { keys = d.keys; verdicts = v }) verdicts
 
 pub parts_tell : (line : Line) (claims others : List Claims) → length claims ≡ length others
     → All (HasOneEach line) claims → All (HasOneEach line) others

@@ -7,6 +7,7 @@ use Rattle.std.proofs.lemmas.Option.{same_Some, slice_get_read, slice_get_within
 use Rattle.std.proofs.Math.ListN.{get_or-map}
 use Rattle.std.specs.Prelude.{slice_get, Result, Ok, Err, IfOk}
 use Rattle.std.specs.List.{All}
+use Rattle.model_history.specs.BelowLaws.{neither_below}
 use Rattle.base_memory.specs.{Gives.OfFault, declared.stopped.Stopped.Stopped}
 use Rattle.base_memory.specs.declared.stopped.Stopped.TheVariants as stopped
 use Rattle.model_line.specs.declared.script.Script.{Script}
@@ -14,13 +15,6 @@ use Rattle.cert_claims.specs.text.Grammar.{Verdict}
 use Rattle.cert_claims.specs.declared.check.counts.Counts.{Counts}
 use Rattle.cert_claims.specs.check.Firsts.{EachOf, IsWrongFirst}
 use Rattle.cert_claims.specs.check.Scripts.{EachBelow, IsAllGood, IsFirstWrong}
-
--- neither of two numbers is below the other
-pub same_number : (n m : ℕ) → ¬ (n < m) → ¬ (m < n) → n ≡ m
-same_number n m a b =
-    ⊎_elim (λ lt. absurd (a lt))
-    (λ ge. ⊎_elim (λ lt. absurd (b lt)) (λ le. omega (arith, ge, le)) (cases_lt m n))
-    (cases_lt n m)
 
 -- ---- elements of lists, as loops meet them
 
@@ -95,7 +89,7 @@ module _ {X Fault : Type 0} (IsGood : ℕ → X → Type 0) (IsWrong : ℕ → X
       → (f g : Fault) → IsWrongFirst IsGood IsWrong xs f → IsWrongFirst IsGood IsWrong xs g → f ≡ g
   wrong_once once f g a b =
       let k : b.place ≡ a.place =
-      same_number b.place a.place (not_sooner g f b a) (not_sooner f g a b) in
+      neither_below b.place a.place (not_sooner g f b a) (not_sooner f g a b) in
       let x : b.item ≡ a.item =
       same_Some b.item a.item (sym b.is ∙ ap (slice_get xs) k ∙ a.is) in
       once a.place a.item f g a.wrong
@@ -190,7 +184,7 @@ module _ {Said Fault Whole : Type 0} (Says : List Said → Type 0) (leaves : ℕ
     script_once : (i j : ℕ) (f g : Fault) → IsFirstWrong Says IsGood IsWrong scripts i f
         → IsFirstWrong Says IsGood IsWrong scripts j g → in_script i f ≡ in_script j g
     script_once i j f g h k =
-        let place : i ≡ j = same_number i j (not_before i j f g h k) (not_before j i g f k h) in
+        let place : i ≡ j = neither_below i j (not_before i j f g h k) (not_before j i g f k h) in
         let claims : k.claims ≡ h.claims = text.one k.claims h.claims k.is h.is in
         let script : k.script ≡ h.script =
         same_Some k.script h.script

@@ -1,7 +1,6 @@
 -- What a result is, from what was found of it.
-use Rattle.std.proofs.Common.{◌≡◌, ◌<◌, ◌≤◌, ◌+◌, ◌^◌, ◌&&◌, ℕ, zero, suc, Bool, List, length, refl}
+use Rattle.std.proofs.Common.{◌≡◌, ◌<◌, ◌≤◌, ◌+◌, ◌^◌, ℕ, zero, suc, List, length, refl}
 use Rattle.std.proofs.Common.{sym, ◌∙◌, ap, subst, arith, length-append, IsTrue}
-use Rattle.std.proofs.lemmas.List.Folds.{list_all-append}
 use Rattle.std.specs.List.{list_all}
 use Rattle.model_line.specs.{declared.line.Line.Line, declared.script.Script.Script}
 use Rattle.model_line.specs.Parameters.{terminal_count}
@@ -10,6 +9,7 @@ use Rattle.model_logic.specs.Histories.{History, IsLineHistory, Meets}
 use Rattle.judge_split.specs.Trees.{SplitTree, Yes, Undecided, Split, preorder, height, are_yes}
 use Rattle.judge_split.specs.Trees.{is_decided}
 use Rattle.judge_split.specs.{declared.node.Node.Node, Leaves.leaves, Leaves.IsSoundSplit}
+use Rattle.judge_split.specs.TreeLaws.{decided_yes}
 use Rattle.cert_split.specs.text.Grammar.{SplitResult, tree, fails, AreTree}
 use Rattle.cert_split.specs.declared.check.tree.NotHeld.{NotHeld}
 use Rattle.cert_split.specs.check.Results.{IsSupported, IsTold}
@@ -63,14 +63,6 @@ whole_not_held line script k nodes t fault are h =
     }
 
 -- ---- what is supported is so
-
-decided_yes : (t : SplitTree) → list_all is_decided (preorder t) ≡ are_yes t
-decided_yes Yes = refl
-decided_yes Undecided = refl
-decided_yes (Split param mid first second) =
-    list_all-append is_decided (preorder first) (preorder second)
-    ∙ ap (λ (b : Bool). b && list_all is_decided (preorder second)) (decided_yes first)
-    ∙ ap (λ (b : Bool). are_yes first && b) (decided_yes second)
 
 -- what a sound tree with yes leaves alone says
 abbrev pub Speaks : Type 0

@@ -6,7 +6,6 @@ use Rattle.std.proofs.lemmas.List.{drop-drop, get_or-drop, length-drop}
 use Rattle.base_memory.specs.{Gives.OfFault, declared.stopped.Stopped.Stopped}
 use Rattle.base_memory.specs.declared.stopped.Stopped.TheVariants as stopped
 use Rattle.model_line.specs.{declared.line.Line.Line, declared.script.Script.Script}
-use Rattle.model_line.specs.SetBounds.{SameButParams}
 use Rattle.model_logic.specs.Choice.{Box, declared_box}
 use Rattle.model_logic.specs.HeldOver.{IsHeldOver}
 use Rattle.judge_split.specs.declared.node.Node.{Node}
@@ -231,15 +230,3 @@ module _ (line : Line) (script : Script) (k : ℕ) where
           (sound_held line script k first lower one.sound) h.leaf;
     }
     fault_second below between stopped.Memory one h = tt
-
--- ---- parts
-
-pub same_line : (line : Line) → SameButParams line line
-same_line line = record {
-  tick_us = refl;
-  horizon = refl;
-  scheme = refl;
-  zone1_trip = refl;
-  terminals = refl;
-  channels = refl;
-}

@@ -1,17 +1,16 @@
 -- What a node's line can say, in a part of a box and in the box.
-use Rattle.std.proofs.Common.{◌≡◌, ◌≢◌, ◌<◌, ◌^◌, ◌∙◌, ℕ, List, false, Bool, sym, ap, decimal, refl}
+use Rattle.std.proofs.Common.{◌≡◌, ◌≢◌, ◌<◌, ◌^◌, ◌∙◌, ℕ, List, false, Bool, sym, ap, decimal}
 use Rattle.std.proofs.lemmas.Option.{same_Some}
 use Rattle.base_text.specs.{store.Number.number_of, store.DecimalLaws.number_of-decimal}
 use Rattle.base_text.specs.lines.NamedLaws.{one_text}
 use Rattle.std.specs.Prelude.{codes}
 use Rattle.std.specs.Bool.{Decides}
 use Rattle.model_line.specs.{declared.line.Line.Line, Parameters.param_count}
-use Rattle.model_line.specs.SetBounds.{SameButParams}
 use Rattle.model_logic.specs.Choice.{Box, declared_box}
 use Rattle.judge_split.specs.declared.node.Node.{Node}
 use Rattle.judge_split.specs.declared.node.Node.TheVariants as node
 use Rattle.model_line.specs.NamesByNumber.{parameter_name}
-use Rattle.judge_split.specs.{Parts.IsPart}
+use Rattle.judge_split.specs.Parts.{IsPart}
 use Rattle.model_logic.specs.Boxes.{CanSplit}
 use Rattle.cert_split.specs.text.Known.{Known}
 use Rattle.cert_split.specs.text.Grammar.{Said, says_nothing, says_fails, says_node, MayStand}
@@ -77,13 +76,3 @@ pub not_result : (line : Line) (box : Box) (bytes : List ℕ)
 not_result line box bytes never none says_nothing is = is
 not_result line box bytes never none (says_fails numbers) is = never numbers is.0 is.1
 not_result line box bytes never none (says_node root) is = none root is.0 is.1
-
-pub same_line : (line : Line) → SameButParams line line
-same_line line = record {
-  tick_us = refl;
-  horizon = refl;
-  scheme = refl;
-  zone1_trip = refl;
-  terminals = refl;
-  channels = refl;
-}

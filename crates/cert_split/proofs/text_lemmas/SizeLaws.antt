@@ -24,7 +24,7 @@ use Rattle.cert_split.specs.{text.Known.Known, text.Text.nodes_text, text.Text.r
 use Rattle.cert_split.specs.{text.Text.part_text, text.Text.parts_text, text.Text.split_text}
 use Rattle.cert_split.specs.text.NameLaws.{IsLineUpTo, name_stands, terminals_stand, param_stands}
 use Rattle.cert_claims.specs.text.NameLaws.{names_count}
-use Rattle.cert_split.proofs.text_lemmas.WrittenLaws.{IsLow, low_declared, low_lower, low_upper}
+use Rattle.cert_split.specs.text.LowLaws.{IsLow, low_declared, low_lower, low_upper}
 
 -- ---- trees
 
@@ -99,8 +99,8 @@ numbers_short (n ∷ numbers) small =
 module _ (known : Known) (line : Line) where
   result_short : (r : SplitResult) → IsSplitResult line r → length (result_text line r) ≤ 18625
   result_short (tree nodes) is =
-      let short = tree_short line deepest (declared_box line) is.tree (low_declared known line)
-      is.splits is.low in
+      let short = tree_short line deepest (declared_box line) is.tree
+      (low_declared known.intervals line) is.splits is.low in
       let bytes : tree_bytes deepest ≡ 18625 = refl in
       omega (arith, short, bytes, ap (λ (l : List Node). length (nodes_text line l)) is.are)
   result_short (fails numbers) is =

@@ -1,8 +1,7 @@
 -- A line says one thing, and what it says has one text.
 use Rattle.std.proofs.Common.{◌≡◌, ◌<◌, ◌^◌, ℕ, List, drop, refl, sym, ◌∙◌, ap, arith}
-use Rattle.std.proofs.Common.{decimal, inl, inr}
-use Rattle.std.proofs.lemmas.Bool.{cases_order}
-use Rattle.model_line.specs.{declared.line.Line.Line, Parameters.param_count}
+use Rattle.std.proofs.Common.{decimal}
+use Rattle.model_line.specs.declared.line.Line.{Line}
 use Rattle.model_line.specs.NamesByNumber.{parameter_name}
 use Rattle.model_logic.specs.Choice.{Box}
 use Rattle.judge_split.specs.declared.node.Node.{Node}
@@ -14,8 +13,9 @@ use Rattle.cert_split.specs.text.Grammar.{Place, fixed, result_over, node_over, 
 use Rattle.cert_split.specs.text.Grammar.{Said}
 use Rattle.cert_split.specs.text.Grammar.{says_nothing, says_fails, says_node, MayStand, IsResult}
 use Rattle.cert_split.specs.text.Grammar.{node_text, split_line}
-use Rattle.cert_split.proofs.text_lemmas.NumberLaws.{IsSpace, no_space, one_number}
 use Rattle.cert_split.specs.text.StretchLaws.{backs_tell}
+use Rattle.cert_split.specs.text.NumberLaws.{IsSpace, no_space, one_number}
+use Rattle.cert_split.specs.text.ParamLaws.{one_param}
 
 -- ---- nodes
 
@@ -26,15 +26,6 @@ one_split name other mid middle small little same =
     let parts = backs_tell IsSpace name other (decimal mid) (decimal middle) 32 32 refl refl
     (no_space mid small) (no_space middle little) (ap (drop 6) same) in
     (parts.0, one_number mid middle small little parts.1)
-
-one_param : Known → (line : Line) (p q : ℕ) → p < param_count line → q < param_count line
-    → parameter_name line p ≡ parameter_name line q → p ≡ q
-one_param known line p q here there same =
-    elim (cases_order p q) [
-      | inl is ↦ is
-      | inr (inl less) ↦ absurd ((known.names line).differ p q less there same)
-      | inr (inr more) ↦ absurd ((known.names line).differ q p more here (sym same))
-    ]
 
 one_node : Known → (line : Line) (n m : ℕ) (box other : Box) (a b : Node) → MayStand line n box a
     → MayStand line m other b → node_text line a ≡ node_text line b → a ≡ b
@@ -55,7 +46,8 @@ one_node known line n m box other (node.Split p mid) node.Undecided may can same
 one_node known line n m box other (node.Split p mid) (node.Split q middle) may can same =
     let parts = one_split (parameter_name line p) (parameter_name line q) mid middle may.number
     can.number same in
-    let param : p ≡ q = one_param known line p q may.can.exists can.can.exists parts.0 in
+    let param : p ≡ q =
+    one_param line (known.names line) p q may.can.exists can.can.exists parts.0 in
     ap (λ (i : ℕ). node.Split i mid) param ∙ ap (λ (i : ℕ). node.Split q i) parts.1
 
 -- the line of a `no` is no node's

@@ -1,5 +1,5 @@
 -- The text of results is a text of split trees that says them.
-use Rattle.std.proofs.Common.{◌≡◌, ◌≤◌, ◌<◌, ◌-◌, ◌+◌, ◌^◌, ◌==◌, ℕ, Bool, true, false, cond, List}
+use Rattle.std.proofs.Common.{◌≡◌, ◌≤◌, ◌<◌, ◌-◌, ◌+◌, ◌^◌, ℕ, List}
 use Rattle.std.proofs.Common.{[], ◌∷◌, ◌++◌, length, map, refl, sym, ◌∙◌, ap, subst, arith}
 use Rattle.std.proofs.Common.{append_assoc}
 use Rattle.std.proofs.Math.Nat.{le-max_left, le-max_right}
@@ -7,9 +7,8 @@ use Rattle.std.proofs.lemmas.List.{map-append}
 use Rattle.std.proofs.lemmas.List.Concat.{flat_map-append}
 use Rattle.std.specs.Prelude.{codes}
 use Rattle.std.specs.List.{All, flat_map}
-use Rattle.model_history.specs.Rails.{Ends}
 use Rattle.model_line.specs.{declared.line.Line.Line, declared.script.Script.Script}
-use Rattle.model_line.specs.{Parameters.param_count, Fits.Fits}
+use Rattle.model_line.specs.Fits.{Fits}
 use Rattle.model_logic.specs.Choice.{Box, declared_box}
 use Rattle.cert_claims.specs.text.Grammar.{script_text, end_text, terminal_names, no_words}
 use Rattle.base_text.specs.lines.SpacedNumbers.{numbers_text}
@@ -32,6 +31,7 @@ use Rattle.cert_split.specs.{text.Text.part_text, text.Text.parts_text, text.Tex
 use Rattle.cert_split.specs.text.NameLaws.{IsLineUpTo, name_stands, terminals_stand}
 use Rattle.cert_claims.specs.{text.NameLaws.names_count, text.NumberLaws.numbers_whole}
 use Rattle.cert_split.specs.text.PairLaws.{stand_one, stand_headed, pairs_stand}
+use Rattle.cert_split.specs.text.LowLaws.{IsLow, low_declared, low_lower, low_upper}
 use Rattle.cert_split.proofs.text_lemmas.PrintLaws.{tree_lines, trees_both}
 use Rattle.cert_split.proofs.text_lemmas.WholeLaws.{split_whole}
 
@@ -40,32 +40,6 @@ abbrev Stood : Line → List Place → List Said → List ℕ → List Place →
 Stood line places said text left rest = Lines (Stands line) opens places said text left rest
 
 -- ---- a tree
-
--- no interval goes past 4,000 ticks
-abbrev pub IsLow : Line → Box → Type 0
-IsLow line box = (i : ℕ) → i < param_count line → (box.ends i).greatest ≤ 4000
-
-pub low_declared : Known → (line : Line) → IsLow line (declared_box line)
-unfolding declared_box
-low_declared known line = known.intervals.within line
-
-one_of_two : (b : Bool) (x y : Ends) → x.greatest ≤ 4000 → y.greatest ≤ 4000
-    → (cond b x y).greatest ≤ 4000
-one_of_two true x y a b = a
-one_of_two false x y a b = b
-
-pub low_lower : (line : Line) (box : Box) (param mid : ℕ) → mid ≤ 4000 → IsLow line box
-    → IsLow line (lower_half box param mid)
-low_lower line box param mid small low = λ i lt.
-    one_of_two (i == param) (record { least = (box.ends param).least; greatest = mid })
-    (box.ends i) small (low i lt)
-
-pub low_upper : (line : Line) (box : Box) (param mid : ℕ) → param < param_count line → IsLow line box
-    → IsLow line (upper_half box param mid)
-low_upper line box param mid here low = λ i lt.
-    one_of_two (i == param)
-    (record { least = mid + 1; greatest = (box.ends param).greatest })
-    (box.ends i) (low param here) (low i lt)
 
 -- the text of a split and of the two trees below it, in front of another
 split_lines : (line : Line) (root : Node) (pre post : List Node) (text : List ℕ)
@@ -154,7 +128,7 @@ module _ (known : Known) (line : Line) where
       let P : List Node → Type 0 = λ l. Stood line (result_over (declared_box line) ∷ later)
       (map says_node l ++ more) (nodes_text line l ++ text) left rest in
       subst P (sym is.are) (root_stands line (declared_box line) is.tree later more text left rest
-      (low_declared known line) is.splits is.low next)
+      (low_declared known.intervals line) is.splits is.low next)
   result_stands (fails numbers) later more text left rest is next =
       stand_one (Stands line) opens (result_over (declared_box line)) later (says_fails numbers) more
       (no_words numbers) text left rest

@@ -1,8 +1,8 @@
 -- Names stand in a line, and are short.
 use Rattle.std.proofs.Common.{◌≡◌, ◌≤◌, ◌+◌, ◌&&◌, ℕ, true, List, [], ◌∷◌, ◌++◌, length, map}
 use Rattle.std.proofs.Common.{get_or, zero, suc, refl, sym, subst, arith, length-append}
-use Rattle.std.proofs.Common.{inl, inr, Some, None}
-use Rattle.std.proofs.lemmas.Bool.Decides.{leb_tells}
+use Rattle.std.proofs.Common.{Some, None}
+use Rattle.std.proofs.lemmas.Bool.{leb-true}
 use Rattle.std.proofs.lemmas.List.Elements.{All-nil, All-cons}
 use Rattle.std.specs.Prelude.{nat_le, slice_get, Option}
 use Rattle.std.specs.List.{All, list_all}
@@ -26,15 +26,12 @@ pub record IsLineUpTo (most : ℕ) (text : List ℕ) : Type 0 where
 
 -- ---- plain names
 
-at_most : (a b : ℕ) → nat_le a b ≡ true → a ≤ b
-at_most a b test = elim (leb_tells a b) [ inl fits ↦ fits.1 | inr more ↦ cc (more.0, test) ]
-
 pub name_stands : (name : List ℕ) → is_plain_name name ≡ true → IsLineUpTo 16 name
 name_stands name plain =
     let long = both_true (nat_le 1 (length name))
     (nat_le (length name) 16 && list_all is_plain_byte name) plain in
     let bytes = both_true (nat_le (length name) 16) (list_all is_plain_byte name) long.1 in
-    record { whole = name_whole name plain; short = at_most (length name) 16 bytes.0 }
+    record { whole = name_whole name plain; short = leb-true (length name) 16 bytes.0 }
 
 -- the terminals have plain names
 abbrev ArePlain : List Terminal → Type 0

@@ -1,18 +1,10 @@
 -- A dump speaks of the net's gates and the line's ticks alone.
-use Rattle.std.proofs.Common.{◌≡◌, ℕ, zero, suc, ◌-◌, ◌<◌, ◌≤◌, Bool, List, ◌++◌, length, refl, ◌∙◌}
-use Rattle.std.proofs.Common.{ap, arith}
+use Rattle.std.proofs.Common.{◌≡◌, ℕ, suc, ◌-◌, ◌<◌, ◌≤◌, Bool, List, length, ◌∙◌, ap, arith}
 use Rattle.model_line.specs.declared.line.Line.{Line}
 use Rattle.net_gates.specs.NetOf.{NetOf}
-use Rattle.run_changes.specs.rows.PlayRows.{each_below}
+use Rattle.run_changes.specs.{rows.PlayRows.each_below, rows.RowLaws.each_below-same}
 use Rattle.draw_gates.specs.dump.Dump.{GateLevels, value_text, change_text, timed_text, first_text}
 use Rattle.draw_gates.specs.dump.Dump.{next_text, tick_text, changes_text, dump_text}
-
-each_below-same : (n : ℕ) (f g : ℕ → List ℕ) → ((k : ℕ) → k < n → f k ≡ g k)
-    → each_below n f ≡ each_below n g
-each_below-same zero f g same = refl
-each_below-same (suc n) f g same =
-    ap (λ (l : List ℕ). l ++ f n) (each_below-same n f g (λ k lt. same k (omega arith)))
-    ∙ ap (λ (l : List ℕ). each_below n g ++ l) (same n (omega arith))
 
 -- the two have the same value for each of n gates at each tick before the horizon
 abbrev pub AreSameLevels : ℕ → ℕ → GateLevels → GateLevels → Type 0

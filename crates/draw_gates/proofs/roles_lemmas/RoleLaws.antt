@@ -12,10 +12,9 @@ use Rattle.draw_gates.specs.declared.roles.role.Role.{Role}
 use Rattle.draw_gates.specs.declared.roles.role.Role.TheVariants.{Seen, Timed, Lost, Raw, Received}
 use Rattle.draw_gates.specs.declared.roles.role.Role.TheVariants.{Window, Lockout, Guard, Coordination}
 use Rattle.draw_gates.specs.declared.roles.role.Role.TheVariants.{Echo, Permission, AnyReceived}
-use Rattle.draw_gates.specs.roles.Each.{each_of}
+use Rattle.draw_gates.specs.{roles.Each.each_of, roles.EachLaws.All-each_of}
 use Rattle.draw_gates.specs.roles.Roles.{IsRoleOf, at, seen_roles, channel_roles, window_roles, if_so}
 use Rattle.draw_gates.specs.roles.Roles.{scheme_roles, roles_at, receiver}
-use Rattle.draw_gates.proofs.roles_lemmas.Lists.{All-each_of}
 
 module _ (line : Line) where
   one : (role : Role) (rest : List Role) → IsRoleOf line role → All (IsRoleOf line) rest

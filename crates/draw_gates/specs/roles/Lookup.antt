@@ -1,8 +1,8 @@
 -- Which gate of a net has a role, and which role a gate has.
 use Rattle.std.specs.Prelude.{ℕ, Bool, List, [], ◌∷◌, Option, Some, None, length}
 use Rattle.std.specs.Prelude.{if◌then◌else◌}
-use Rattle.model_line.specs.{declared.line.Line.Line}
-use Rattle.draw_gates.specs.roles.SameTree.{same_tree}
+use Rattle.model_logic.specs.SameTree.{same_tree}
+use Rattle.model_line.specs.declared.line.Line.{Line}
 use Rattle.net_gates.specs.{declared.gate.Gate.Gate, Formulas.formula_of}
 use Rattle.run_waves.specs.waves.FirstTick.{first_on}
 use Rattle.draw_gates.specs.{declared.roles.role.Role.Role, roles.Roles.tree_of}

@@ -4,7 +4,7 @@ use Rattle.model_line.specs.declared.line.Line.{Line}
 use Rattle.model_logic.specs.Tree.{Tree}
 use Rattle.model_logic.specs.Received.{received}
 use Rattle.model_logic.specs.Unblocking.{open_from}
-use Rattle.draw_gates.specs.roles.SameTree.{same_tree}
+use Rattle.model_logic.specs.SameTree.{same_tree}
 use Rattle.net_gates.specs.declared.{gate.Gate.Gate, gate.GateId.GateId}
 use Rattle.net_gates.specs.Formulas.{formula_of}
 use Rattle.draw_gates.specs.declared.roles.joined.Heard.{Heard}

@@ -3,7 +3,7 @@
 ghost use Rattle.std.specs.Prelude.{◌≡◌, ◌<◌, length, IfSome, false, Some, None, if◌then◌else◌};
 ghost use Rattle.model_logic.specs.Tree.{Tree};
 ghost use Rattle.model_logic.specs.Tree as tree;
-ghost use Rattle.draw_gates.specs.roles.SameTree.{same_tree};
+ghost use Rattle.model_logic.specs.SameTree.{same_tree};
 ghost use Rattle.net_gates.specs.{Formulas.formula_of, Formulas.kind_over, Gates.HasArguments};
 ghost use Rattle.draw_gates.specs.roles.Parts.{is_one, are_two};
 
@@ -22,7 +22,7 @@ pub fn gate_at(net: &Net, id: GateId) -> Gate
 }
 
 /// Whether a gate is never on.
-#[tactic(auto, unfolding(crate::specs::roles::SameTree::same_tree))]
+#[tactic(auto, unfolding(model_logic::specs::SameTree::same_tree))]
 pub fn is_never(net: &Net, id: GateId) -> bool
     requires { id.0 < length net.now.gates }
     ensures { result ≡ same_tree (formula_of net.now.gates id.0) (tree.Const false) }
@@ -34,7 +34,7 @@ pub fn is_never(net: &Net, id: GateId) -> bool
 }
 
 /// Whether a gate is what the script shows at a place.
-#[tactic(auto, unfolding(crate::specs::roles::SameTree::same_tree))]
+#[tactic(auto, unfolding(model_logic::specs::SameTree::same_tree))]
 pub fn is_seen(net: &Net, id: GateId, place: Place) -> bool
     requires { id.0 < length net.now.gates }
     ensures { result ≡ same_tree (formula_of net.now.gates id.0) (tree.Seen place) }
@@ -46,7 +46,7 @@ pub fn is_seen(net: &Net, id: GateId, place: Place) -> bool
 }
 
 /// Whether a gate is the loss of a channel.
-#[tactic(auto, unfolding(crate::specs::roles::SameTree::same_tree))]
+#[tactic(auto, unfolding(model_logic::specs::SameTree::same_tree))]
 pub fn is_lost(net: &Net, id: GateId, channel: u32) -> bool
     requires { id.0 < length net.now.gates }
     ensures { result ≡ same_tree (formula_of net.now.gates id.0) (tree.Loss channel) }
@@ -58,7 +58,7 @@ pub fn is_lost(net: &Net, id: GateId, channel: u32) -> bool
 }
 
 /// Whether a gate is what arrives over a channel.
-#[tactic(auto, unfolding(crate::specs::roles::SameTree::same_tree))]
+#[tactic(auto, unfolding(model_logic::specs::SameTree::same_tree))]
 pub fn is_raw(net: &Net, id: GateId, channel: u32) -> bool
     requires { id.0 < length net.now.gates }
     ensures { result ≡ same_tree (formula_of net.now.gates id.0) (tree.Raw channel) }
@@ -70,7 +70,7 @@ pub fn is_raw(net: &Net, id: GateId, channel: u32) -> bool
 }
 
 /// The gate that a gate denies.
-#[tactic(auto, unfolding(crate::specs::roles::SameTree::same_tree))]
+#[tactic(auto, unfolding(model_logic::specs::SameTree::same_tree))]
 pub fn denied(net: &Net, id: GateId) -> Option<GateId>
     requires { id.0 < length net.now.gates }
     ensures is { (x : Tree) →
@@ -84,7 +84,7 @@ pub fn denied(net: &Net, id: GateId) -> Option<GateId>
 }
 
 /// The input of a timer with this pickup and dropout.
-#[tactic(auto, unfolding(crate::specs::roles::SameTree::same_tree))]
+#[tactic(auto, unfolding(model_logic::specs::SameTree::same_tree))]
 pub fn timed_by(net: &Net, id: GateId, pickup: Time, dropout: Time) -> Option<GateId>
     requires { id.0 < length net.now.gates }
     ensures is { (x : Tree) →
@@ -106,7 +106,7 @@ fn input_if(a: GateId, so: bool) -> Option<GateId>
 }
 
 /// The two gates of which a gate is both.
-#[tactic(auto, unfolding(crate::specs::roles::SameTree::same_tree))]
+#[tactic(auto, unfolding(model_logic::specs::SameTree::same_tree))]
 pub fn both_of(net: &Net, id: GateId) -> Option<(GateId, GateId)>
     requires { id.0 < length net.now.gates }
     ensures is { (x y : Tree) →
@@ -122,7 +122,7 @@ pub fn both_of(net: &Net, id: GateId) -> Option<(GateId, GateId)>
 }
 
 /// The two gates of which a gate is either.
-#[tactic(auto, unfolding(crate::specs::roles::SameTree::same_tree))]
+#[tactic(auto, unfolding(model_logic::specs::SameTree::same_tree))]
 pub fn either_of(net: &Net, id: GateId) -> Option<(GateId, GateId)>
     requires { id.0 < length net.now.gates }
     ensures is { (x y : Tree) →
@@ -138,7 +138,7 @@ pub fn either_of(net: &Net, id: GateId) -> Option<(GateId, GateId)>
 }
 
 /// What sets a seal, and what holds it.
-#[tactic(auto, unfolding(crate::specs::roles::SameTree::same_tree))]
+#[tactic(auto, unfolding(model_logic::specs::SameTree::same_tree))]
 pub fn sealed_by(net: &Net, id: GateId) -> Option<(GateId, GateId)>
     requires { id.0 < length net.now.gates }
     ensures is { (x y : Tree) →

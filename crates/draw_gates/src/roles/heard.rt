@@ -7,7 +7,7 @@ ghost use Rattle.model_logic.specs.declared.time.Time.TheVariants.{Zero};
 ghost use Rattle.model_logic.specs.Received.{received, channel_to as channel_number_to};
 ghost use Rattle.model_logic.specs.Unblocking.{channel_setting, guard_seen, late, unblocked};
 ghost use Rattle.model_logic.specs.Unblocking.{locked_out, open_from};
-ghost use Rattle.draw_gates.specs.roles.SameTree.{same_tree};
+ghost use Rattle.model_logic.specs.SameTree.{same_tree};
 ghost use Rattle.net_gates.specs.Formulas.{formula_of};
 
 use crate::roles::gates::{both_of, denied, either_of, is_lost, is_raw, sealed_by, timed_by};

@@ -7,7 +7,7 @@ ghost use Rattle.model_logic.specs.Received.{all_others, join_of, over_others};
 ghost use Rattle.model_logic.specs.Received.{all_received, any_received};
 ghost use Rattle.model_logic.specs.Unblocking.{all_open};
 ghost use Rattle.model_logic.specs.Permissive.{permission};
-ghost use Rattle.draw_gates.specs.roles.SameTree.{same_tree};
+ghost use Rattle.model_logic.specs.SameTree.{same_tree};
 ghost use Rattle.net_gates.specs.Formulas.{formula_of};
 ghost use Rattle.draw_gates.specs.roles.Parts.{are_two, heard_tree, over_one_or_two};
 

@@ -8,7 +8,7 @@ ghost use Rattle.model_logic.specs.declared.time.Time.TheVariants.{Zero};
 ghost use Rattle.model_logic.specs.Elements.{seen_timed, zone2, reverse};
 ghost use Rattle.model_logic.specs.Permissive.{terminal_setting, permission, reversal_guard, quiet};
 ghost use Rattle.model_logic.specs.Permissive.{echo, echo_wanted};
-ghost use Rattle.draw_gates.specs.roles.SameTree.{same_tree};
+ghost use Rattle.model_logic.specs.SameTree.{same_tree};
 ghost use Rattle.net_gates.specs.Formulas.{formula_of};
 ghost use Rattle.draw_gates.specs.roles.Roles.{coordinated};
 

@@ -5,6 +5,7 @@ use Rattle.std.specs.List.{flat_map}
 use Rattle.net_gates.specs.declared.gate.Gate.{Gate}
 use Rattle.run_waves.specs.waves.FirstTick.{first_on}
 use Rattle.draw_gates.specs.{declared.roles.role.Role.Role, roles.Lookup.gate_of, roles.Lookup.has_role}
+use Rattle.draw_gates.specs.{roles.Each.each_of, roles.EachLaws.All-each_of}
 use Rattle.draw_gates.specs.roles.Roles.{explains, roles_at}
 use Rattle.draw_run.specs.diagram.Traces.{logic_row, logic_of, logic_at}
 use Rattle.std.proofs.lemmas.List.Elements.{All-nil, All-cons, All-append}
@@ -15,9 +16,8 @@ use Rattle.model_line.specs.Parameters.{terminal_count, channel_count}
 use Rattle.model_line.specs.{declared.line.Line.Line, Channels.to_of}
 use Rattle.draw_run.specs.declared.diagram.trace.Trace.{Trace}
 use Rattle.draw_run.specs.declared.diagram.trace.Trace.TheVariants.{Lost, Logic, Key, Trip}
-use Rattle.draw_run.specs.diagram.Traces.{IsTraceOf, each_of, loss_at, seen_at, seen_by, traces_at}
+use Rattle.draw_run.specs.diagram.Traces.{IsTraceOf, loss_at, seen_at, seen_by, traces_at}
 use Rattle.draw_run.specs.diagram.Traces.{traces_of}
-use Rattle.draw_run.proofs.diagram_lemmas.Lists.{All-each_of}
 
 module _ (line : Line) (gates : List Gate)
     (least : (u : ℕ → Bool) (n t : ℕ)

@@ -1,19 +1,8 @@
 -- Lists that are joined piece by piece.
-use Rattle.std.proofs.Common.{◌≡◌, ◌<◌, ◌+◌, ◌++◌, ℕ, suc, List, ◌∙◌, ap, sym, arith, append_assoc}
+use Rattle.std.proofs.Common.{◌≡◌, ◌<◌, ◌+◌, ◌++◌, ℕ, List, ◌∙◌, ap, sym, append_assoc}
 use Rattle.std.proofs.Common.{get_or, length, take}
 use Rattle.std.proofs.lemmas.List.{flat_map_more, take_more}
 use Rattle.std.specs.List.{flat_map}
-use Rattle.draw_run.specs.diagram.Traces.{each_of}
-
--- the list of one number more
-pub list_more : {A : Type 0} (pre old new : List A) (f : ℕ → List A) (k : ℕ)
-    → old ≡ pre ++ each_of k f → new ≡ old ++ f k → new ≡ pre ++ each_of (k + 1) f
-list_more {A = A} pre old new f k start step =
-    let next : suc k ≡ k + 1 = omega arith in
-    step
-    ∙ ap (λ (l : List A). l ++ f k) start
-    ∙ append_assoc pre (each_of k f) (f k)
-    ∙ ap (λ (m : ℕ). pre ++ each_of m f) next
 
 -- what one element more adds
 pub flat_more : {X A : Type 0} (f : X → List A) (pre old new : List A) (xs : List X) (i : ℕ) (d : X)

@@ -1,5 +1,5 @@
 -- What the rows of a diagram are of, and the pair that each has at a tick.
-use Rattle.std.specs.Prelude.{◌++◌, ◌==◌, ◌<◌, ℕ, zero, suc, Bool, true, false, List, [], ◌∷◌}
+use Rattle.std.specs.Prelude.{◌++◌, ◌==◌, ◌<◌, ℕ, Bool, true, false, List, [], ◌∷◌}
 use Rattle.std.specs.Prelude.{Option, Some, None, if◌then◌else◌}
 use Rattle.std.specs.List.{flat_map}
 use Rattle.model_history.specs.Rails.{Rails, both}
@@ -13,14 +13,10 @@ use Rattle.model_logic.specs.PairMean.{PairSignals}
 use Rattle.net_gates.specs.declared.gate.Gate.{Gate}
 use Rattle.run_step.specs.GatePairs.{GateSignals}
 use Rattle.draw_gates.specs.{declared.roles.role.Role.Role, roles.Lookup.gate_of}
+use Rattle.draw_gates.specs.roles.Each.{each_of}
 use Rattle.draw_gates.specs.roles.Roles.{explains, roles_at}
 use Rattle.draw_run.specs.declared.diagram.trace.Trace.{Trace}
 use Rattle.draw_run.specs.declared.diagram.trace.Trace.TheVariants.{Seen, Lost, Logic, Key, Trip}
-
--- the lists of all numbers below n, one after another
-abbrev pub each_of : {A : Type 0} → ℕ → (ℕ → List A) → List A
-each_of zero list = []
-each_of (suc n) list = each_of n list ++ list n
 
 abbrev pub seen_by : ℕ → Element → Trace
 seen_by k element = Seen (record { element = element; terminal = k })

@@ -2,10 +2,10 @@
 use Rattle.std.specs.Prelude.{◌++◌, ◌-◌, ◌%◌, ◌==◌, ◌&&◌, ℕ, List, [], ◌∷◌}
 use Rattle.std.specs.Prelude.{codes, decimal, nat_le, nat_lt, if◌then◌else◌}
 use Rattle.model_line.specs.declared.line.Line.{Line}
-use Rattle.draw_run.specs.diagram.Traces.{each_of}
+use Rattle.draw_gates.specs.roles.Each.{each_of}
 use Rattle.draw_run.specs.declared.layout.scale.Scale.{Scale}
 use Rattle.draw_shapes.specs.declared.class.Class.TheVariants as class
-use Rattle.draw_shapes.specs.{Seen.SeenFigure}
+use Rattle.draw_shapes.specs.Seen.{SeenFigure}
 use Rattle.draw_shapes.specs.Seen as seen
 use Rattle.draw_run.specs.{layout.Scale.place_of, layout.Scale.more, layout.Scale.step_of}
 use Rattle.draw_run.specs.{layout.Words.milliseconds_said, layout.Words.microseconds_of}

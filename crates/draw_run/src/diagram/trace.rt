@@ -2,10 +2,11 @@
 
 ghost use Rattle.std.specs.Prelude.{◌≡◌, ◌++◌, ◌<◌, OnOk, IfOk, length};
 ghost use Rattle.std.specs.List.{All, flat_map};
+ghost use Rattle.draw_gates.specs.roles.Each.{each_of};
 ghost use Rattle.draw_gates.specs.roles.Roles.{IsRoleOf};
 ghost use Rattle.draw_run.specs.diagram.Traces.{logic_at, logic_of, logic_row};
 ghost use Rattle.model_line.specs.Parameters.{terminal_count, channel_count};
-ghost use Rattle.draw_run.specs.diagram.Traces.{traces_of, traces_at, seen_at, loss_at, each_of};
+ghost use Rattle.draw_run.specs.diagram.Traces.{traces_of, traces_at, seen_at, loss_at};
 ghost use Rattle.draw_run.specs.diagram.Traces.{IsTraceOf};
 
 use draw_gates::roles::{Role, find_gate, roles_at};

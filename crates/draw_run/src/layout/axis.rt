@@ -6,7 +6,7 @@ ghost use Rattle.draw_run.specs.layout.Axis.{left_cut, right_cut};
 ghost use Rattle.draw_run.specs.layout.Scale.{step_of, more};
 ghost use Rattle.draw_run.specs.layout.Words.{microseconds_of, milliseconds_said};
 ghost use Rattle.draw_shapes.specs.Seen.{figures_seen, text};
-ghost use Rattle.draw_run.specs.diagram.Traces.{each_of};
+ghost use Rattle.draw_gates.specs.roles.Each.{each_of};
 
 use crate::layout::scale::{RIGHT, Scale, label_step, x_of};
 use crate::layout::words::Words;

@@ -1,6 +1,7 @@
 -- The spans that records come to fit their line.
 use Rattle.std.proofs.Common.{◌≡◌, ◌+◌, ◌-◌, ◌<◌, ◌≤◌, ◌++◌, ◌&&◌, ℕ, suc, zero, Bool, true, false}
 use Rattle.std.proofs.Common.{List, [], ◌∷◌, refl, arith, length, not, cond}
+use Rattle.std.proofs.lemmas.Bool.{and_parts}
 use Rattle.std.specs.List.{list_all}
 use Rattle.std.specs.Prelude.{nat_lt, nat_le}
 use Rattle.model_line.specs.declared.line.Line.{Line}
@@ -66,17 +67,13 @@ module _ (line : Line) (of : What) (there : exists_in line of ≡ true) where
       let last : nat_le to line.horizon ≡ true = grind arith in
       rw (there, first, last) refl
 
-  was_first : (a b : Bool) → (a && b) ≡ true → a ≡ true
-  was_first true b both = refl
-  was_first false b both = both
-
   span_fit : (on : ℕ → Bool) (t : ℕ) → t < line.horizon
       → list_all (span_fits line) (span_from of on line.horizon t) ≡ true
   span_fit on t early =
       let upto = first_upto on t (line.horizon - t) in
       span_if (begins_at on t) t (first_off on t (line.horizon - t))
       (λ begins. first_after on t (line.horizon - t)
-      (was_first (on t) (not (value_before on t)) begins) (omega arith))
+      (and_parts (on t) (not (value_before on t)) begins).0 (omega arith))
       (omega (arith, upto))
 
   all_spans_fit : (tracks : List TrackValues)

@@ -59,13 +59,6 @@ module _ {X : Type 0} (P : ℕ → X → Type 0) where
 
 -- ---- texts
 
-pub each_same : (n : ℕ) (f g : ℕ → List ℕ) → ((k : ℕ) → k < n → f k ≡ g k)
-    → each_below n f ≡ each_below n g
-each_same zero f g same = refl
-each_same (suc n) f g same =
-    ap (λ (l : List ℕ). l ++ f n) (each_same n f g (λ k less. same k (omega arith)))
-    ∙ ap (λ (l : List ℕ). each_below n g ++ l) (same n (omega arith))
-
 -- the text of the rows of each number
 pub rows_below : (n : ℕ) (f : ℕ → List (List (List ℕ))) (g : ℕ → List ℕ)
     → ((k : ℕ) → k < n → rows_text (f k) ≡ g k) → rows_text (below n f) ≡ each_below n g

@@ -2,14 +2,14 @@
 use Rattle.std.proofs.Common.{◌≡◌, ◌<◌, ◌++◌, ◌∙◌, ℕ, zero, suc, Bool, List, [], ◌∷◌, refl, ap, arith}
 use Rattle.std.specs.Bool.{beq}
 use Rattle.std.specs.Prelude.{codes, decimal, if◌then◌else◌}
-use Rattle.model_line.specs.{Parameters.terminal_count}
+use Rattle.model_line.specs.Parameters.{terminal_count}
 use Rattle.model_line.specs.declared.script.What.TheVariants as what
 use Rattle.model_line.specs.NamesByNumber.{terminal_name}
-use Rattle.run_changes.specs.rows.PlayRows.{value_before}
+use Rattle.run_changes.specs.rows.PlayRows.{value_before, level_word}
 use Rattle.judge_match.specs.matching.Row.{header_record}
 use Rattle.file_records.specs.declared.map.source.Signal.TheVariants.{Shown, Key, Trip}
 use Rattle.file_records.specs.map.Signals.{shown}
-use Rattle.file_records.specs.{tracks.Below.below, tracks.Levels.is_on, tracks.Levels.level_text}
+use Rattle.file_records.specs.{tracks.Below.below, tracks.Levels.is_on}
 use Rattle.file_records.specs.recorded.Changes.{change_at, head_record, terminal_changes, tick_changes}
 use Rattle.file_records.specs.recorded.Shows.{ShowsWhatIsTold}
 use Rattle.file_records.specs.recorded.Recorded.{RecordsArePlays, ScriptsShowPlays, history_changes}
@@ -45,7 +45,7 @@ change_same : (name : List ℕ) (t : ℕ) (terminal signal : List ℕ) (on own :
 change_same name t terminal signal on own horizon early same =
     let row : Bool → Bool → List (List (List ℕ)) =
     λ before now. if beq before now then []
-    else (name ∷ decimal t ∷ terminal ∷ signal ∷ level_text now ∷ []) ∷ [] in
+    else (name ∷ decimal t ∷ terminal ∷ signal ∷ level_word now ∷ []) ∷ [] in
     ap (λ (b : Bool). row b (on t)) (before_same on own horizon t early same)
     ∙ ap (λ (b : Bool). row (value_before own t) b) (same t early)
 

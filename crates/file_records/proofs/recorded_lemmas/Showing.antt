@@ -1,10 +1,12 @@
 -- The script of records shows at each tick exactly what is told.
 use Rattle.std.proofs.Common.{◌≡◌, ◌≢◌, ◌+◌, ◌-◌, ◌<◌, ◌≤◌, ◌++◌, ◌&&◌, ◌||◌, ℕ, suc, zero, Bool, true, false}
-use Rattle.std.proofs.Common.{List, [], ◌∷◌, refl, ap, sym, ◌∙◌, subst, arith, length, cond, rules, inl, inr}
+use Rattle.std.proofs.Common.{List, [], ◌∷◌, refl, ap, sym, ◌∙◌, subst, arith, length, cond, inl, inr}
 use Rattle.std.specs.List.{list_any}
 use Rattle.std.specs.Prelude.{nat_lt, nat_le}
-use Rattle.std.proofs.lemmas.Bool.{cases_lt, false_from_ne_true, leb-true, ltb-true}
+use Rattle.std.proofs.Math.Bool.{or-false, or-true}
+use Rattle.std.proofs.lemmas.Bool.{and_parts, cases_lt, false_from_ne_true, leb-true, ltb-true}
 use Rattle.std.proofs.lemmas.List.Folds.{list_any-append}
+use Rattle.model_logic.specs.SameTreeLaws.{place-same, place-itself}
 use Rattle.model_line.specs.declared.line.Line.{Line}
 use Rattle.model_line.specs.declared.script.{SeenSpan.SeenSpan, What.What, Element.Element, Place.Place}
 use Rattle.model_line.specs.declared.script.Element.TheVariants.{Z1, Z2, Rv, Uv, Cur}
@@ -39,17 +41,9 @@ any_some p (suc n) f u less is =
       | inr more ↦ (
           let same : u ≡ n = omega arith in
           let last : list_any p (f n) ≡ true = subst (λ (k : ℕ). list_any p (f k) ≡ true) same is in
-          both ∙ (rw last (or_true (list_any p (below n f))))
+          both ∙ (rw last (or-true (list_any p (below n f))))
           )
     ]
-  where
-    or_true : (b : Bool) → (b || true) ≡ true
-    or_true true = refl
-    or_true false = refl
-
-or_false : (b : Bool) → (b || false) ≡ b
-or_false true = refl
-or_false false = refl
 
 any_one : {X : Type 0} (p : X → Bool) (n : ℕ) (f : ℕ → List X) (j : ℕ) → j < n
     → ((k : ℕ) → k < n → k ≢ j → list_any p (f k) ≡ false)
@@ -61,7 +55,7 @@ any_one p (suc n) f j inside none =
       | inl before ↦ (
           let rest = any_one p n f j before (λ k less other. none k (omega arith) other) in
           let last = none n (omega arith) (λ same. absurd (omega (arith, same))) in
-          both ∙ (rw (rest, last) (or_false (list_any p (f j))))
+          both ∙ (rw (rest, last) (or-false (list_any p (f j))))
           )
       | inr more ↦ (
           let same : j ≡ n = omega arith in
@@ -138,15 +132,11 @@ start_of on (suc t) is = by_level (on t) refl (start_of on t)
 abbrev hits : (What → Bool) → ℕ → SeenSpan → Bool
 hits is_of t s = is_of s.what && (nat_le s.from t && nat_lt t s.to)
 
-and_parts : (a b : Bool) → (a && b) ≡ true → (a ≡ true) × (b ≡ true)
-and_parts true b both = (refl, both)
-and_parts false b both = absurd (cc)
-
 module _ (is_of : What → Bool) (t : ℕ) (of : What) where
   hit_if : is_of of ≡ true → (b : Bool) (u to : ℕ)
       → list_any (hits is_of t) (cond b (record { what = of; from = u; to = to } ∷ []) [])
       ≡ (b && (nat_le u t && nat_lt t to))
-  hit_if is true u to = rw is (or_false (nat_le u t && nat_lt t to))
+  hit_if is true u to = rw is (or-false (nat_le u t && nat_lt t to))
   hit_if is false u to = refl
 
   miss_if : is_of of ≡ false → (b : Bool) (u to : ℕ)
@@ -200,14 +190,8 @@ module _ (is_of : What → Bool) (t : ℕ) (of : What) where
 
 -- ---- all spans
 
-place_same : (p q : Place) → same_place p q ≡ true → p ≡ q
-place_same p q e = search rules
-
-place_itself : (p : Place) → same_place p p ≡ true
-place_itself p = search rules
-
 elsewhere : (p q : Place) → p ≢ q → same_place p q ≡ false
-elsewhere p q other = false_from_ne_true (same_place p q) (λ e. other (place_same p q e))
+elsewhere p q other = false_from_ne_true (same_place p q) (λ e. other (place-same p q e))
 
 abbrev at : Element → ℕ → Place
 at element k = record { element = element; terminal = k }
@@ -239,7 +223,7 @@ module _ (tracks : List TrackValues) (h t : ℕ) (early : t < h) where
 
   own_part : (e : Element) (k : ℕ) → part (at e k) e k ≡ shown e k
   own_part e k =
-      any_own (is_of_place (at e k)) t (element_at e k) tracks h (place_itself (at e k)) early
+      any_own (is_of_place (at e k)) t (element_at e k) tracks h (place-itself (at e k)) early
 
   other_part : (p : Place) (e : Element) (k : ℕ) → same_place (at e k) p ≡ false
       → part p e k ≡ false
@@ -272,10 +256,10 @@ module _ (tracks : List TrackValues) (h t : ℕ) (early : t < h) where
         miss Rv Z1 k (λ s. cc),
         miss Uv Z1 k (λ s. cc),
         miss Cur Z1 k (λ s. cc),
-        or_false (shown Z1 k),
-        or_false (shown Z1 k),
-        or_false (shown Z1 k),
-        or_false (shown Z1 k),
+        or-false (shown Z1 k),
+        or-false (shown Z1 k),
+        or-false (shown Z1 k),
+        or-false (shown Z1 k),
       ) refl)
   here Z2 k =
       five_parts (at Z2 k) k
@@ -285,9 +269,9 @@ module _ (tracks : List TrackValues) (h t : ℕ) (early : t < h) where
         miss Rv Z2 k (λ s. cc),
         miss Uv Z2 k (λ s. cc),
         miss Cur Z2 k (λ s. cc),
-        or_false (shown Z2 k),
-        or_false (shown Z2 k),
-        or_false (shown Z2 k),
+        or-false (shown Z2 k),
+        or-false (shown Z2 k),
+        or-false (shown Z2 k),
       ) refl)
   here Rv k =
       five_parts (at Rv k) k
@@ -297,8 +281,8 @@ module _ (tracks : List TrackValues) (h t : ℕ) (early : t < h) where
         miss Z2 Rv k (λ s. cc),
         miss Uv Rv k (λ s. cc),
         miss Cur Rv k (λ s. cc),
-        or_false (shown Rv k),
-        or_false (shown Rv k),
+        or-false (shown Rv k),
+        or-false (shown Rv k),
       ) refl)
   here Uv k =
       five_parts (at Uv k) k
@@ -308,7 +292,7 @@ module _ (tracks : List TrackValues) (h t : ℕ) (early : t < h) where
         miss Z2 Uv k (λ s. cc),
         miss Rv Uv k (λ s. cc),
         miss Cur Uv k (λ s. cc),
-        or_false (shown Uv k),
+        or-false (shown Uv k),
       ) refl)
   here Cur k =
       five_parts (at Cur k) k
@@ -337,7 +321,7 @@ module _ (line : Line) (tracks : List TrackValues) (t : ℕ) (early : t < line.h
       (λ c. spans_of tracks line.horizon (what.Loss c))
       (λ c less. any_other (is_of_place (at e k)) t (what.Loss c) tracks line.horizon refl) in
       list_any-append p terminals losses
-      ∙ (rw (own, none) (or_false (list_any p (terminal_spans tracks line.horizon k))))
+      ∙ (rw (own, none) (or-false (list_any p (terminal_spans tracks line.horizon k))))
       ∙ here tracks line.horizon t early e k
 
   no_element : (c k : ℕ)

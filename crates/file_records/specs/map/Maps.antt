@@ -1,18 +1,18 @@
 -- What a map says.
-use Rattle.std.specs.Prelude.{◌-◌, ℕ, List, [], ◌∷◌, Result, Ok, Err, codes, map, if◌then◌else◌}
-use Rattle.std.specs.Str.{bytes_eq}
+use Rattle.std.specs.Prelude.{◌-◌, ℕ, List, [], ◌∷◌, Result, Ok, codes, map}
+use Rattle.base_memory.specs.Gives.{◌>>=◌}
 use Rattle.toml.specs.Data.{Members}
 use Rattle.model_line.specs.declared.line.Line.{Line}
 use Rattle.model_line.specs.declared.script.Kind.TheVariants.{Internal, External}
-use Rattle.model_line.specs.{declared.script.Kind.Kind, PlainNames.is_plain_name}
-use Rattle.base_memory.specs.Gives.{◌>>=◌}
+use Rattle.model_line.specs.declared.script.Kind.{Kind}
 use Rattle.file_line.specs.Keys.{document_of}
 use Rattle.file_document.specs.declared.fault.DocumentFault.{DocumentFault}
 use Rattle.file_document.specs.declared.fault.DocumentFault.TheVariants as fault
 use Rattle.file_records.specs.declared.map.map.Map.{Map}
 use Rattle.file_document.specs.Keys.{opened, all_known, number_at, text_at, array_at, counted}
 use Rattle.file_records.specs.{map.Instants.instant_of, map.Instants.instant_in}
-use Rattle.file_document.specs.{Paths.under}
+use Rattle.file_document.specs.Paths.{under}
+use Rattle.file_document.specs.Words.{kind_of, plain_name}
 use Rattle.file_records.specs.map.Recorders.{RecorderValues, recorder_values, recorders_in}
 
 -- A map: the script that the records come to, and the recorders.
@@ -30,12 +30,6 @@ map_values m = record {
   recorders = map recorder_values m.recorders.items;
 }
 
-abbrev pub kind_of : List ℕ → List ℕ → Result Kind DocumentFault
-kind_of path text =
-    if bytes_eq text (codes "internal") then Ok Internal
-    else if bytes_eq text (codes "external") then Ok External
-    else Err (fault.BadName path)
-
 unfoldable pub kind_at : Members → Result Kind DocumentFault
 kind_at top = do
   text ← text_at [] (codes "kind") top
@@ -48,9 +42,6 @@ top_keys Internal =
     ∷ codes "recorder" ∷ []
 top_keys External =
     codes "version" ∷ codes "script" ∷ codes "kind" ∷ codes "start" ∷ codes "recorder" ∷ []
-
-abbrev pub plain_name : List ℕ → List ℕ → Result (List ℕ) DocumentFault
-plain_name path name = if is_plain_name name then Ok name else Err (fault.BadName path)
 
 unfoldable pub script_at : Members → Result (List ℕ) DocumentFault
 script_at top = do

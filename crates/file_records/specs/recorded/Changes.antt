@@ -3,17 +3,17 @@ use Rattle.std.specs.Prelude.{◌++◌, ℕ, Bool, List, [], ◌∷◌, codes, i
 use Rattle.std.specs.{Bool.beq, Fmt.decimal}
 use Rattle.model_line.specs.{declared.line.Line.Line, Parameters.terminal_count}
 use Rattle.model_line.specs.NamesByNumber.{terminal_name}
-use Rattle.run_changes.specs.rows.PlayRows.{value_before}
+use Rattle.run_changes.specs.rows.PlayRows.{value_before, level_word}
 use Rattle.judge_match.specs.matching.Row.{header_record}
 use Rattle.file_tables.specs.script.Printed.{records_text}
 use Rattle.file_records.specs.declared.map.source.Signal.TheVariants.{Key, Trip}
-use Rattle.file_records.specs.{tracks.Below.below, tracks.Levels.is_on, tracks.Levels.level_text, tracks.Tracks.TrackValues}
+use Rattle.file_records.specs.{tracks.Below.below, tracks.Levels.is_on, tracks.Tracks.TrackValues}
 
 -- one record where the level differs from that at the tick before, which is off before tick 0
 abbrev pub change_at : List ℕ → ℕ → List ℕ → List ℕ → (ℕ → Bool) → List (List (List ℕ))
 change_at script t terminal signal on =
     if beq (value_before on t) (on t) then []
-    else (script ∷ decimal t ∷ terminal ∷ signal ∷ level_text (on t) ∷ []) ∷ []
+    else (script ∷ decimal t ∷ terminal ∷ signal ∷ level_word (on t) ∷ []) ∷ []
 
 -- the changes of a terminal at a tick, the key's before the trip's
 abbrev pub terminal_changes : List ℕ → Line → List TrackValues → ℕ → ℕ → List (List (List ℕ))

@@ -2,6 +2,7 @@
 use Rattle.std.specs.Prelude.{◌++◌, ◌*◌, ◌/◌, ◌-◌, ◌&&◌, ◌==◌, ℕ, Bool, false, not, List, [], ◌∷◌, Option, None, Some}
 use Rattle.std.specs.Prelude.{codes, get_or, length, nat_lt, slice_get, if◌then◌else◌}
 use Rattle.std.specs.{Bool.beq, Fmt.decimal}
+use Rattle.run_changes.specs.rows.PlayRows.{level_word}
 use Rattle.model_line.specs.declared.line.{Channel.Channel, Line.Line}
 use Rattle.model_line.specs.declared.script.What.TheVariants as what
 use Rattle.model_line.specs.NamesByNumber.{element_text, terminal_name}
@@ -10,7 +11,7 @@ use Rattle.file_records.specs.declared.map.source.Signal.{Signal}
 use Rattle.file_records.specs.declared.map.source.Signal.TheVariants as signal
 use Rattle.file_records.specs.map.Recorders.{RecorderValues}
 use Rattle.file_records.specs.map.Sources.{ChannelSaid, id, number}
-use Rattle.file_records.specs.{tracks.Below.below, tracks.Levels.level_text, tracks.Tracks.TrackValues}
+use Rattle.file_records.specs.{tracks.Below.below, tracks.Tracks.TrackValues}
 
 -- ---- the signal
 
@@ -64,7 +65,7 @@ tick_fields line (Some t) = decimal t ∷ milliseconds_said (t * line.tick_us) �
 -- the level at tick 0, the number of changes, and the first of them
 abbrev pub course_fields : Line → TrackValues → List (List ℕ)
 course_fields line track =
-    level_text (level_at track 0) ∷ decimal (length (changes_of line track))
+    level_word (level_at track 0) ∷ decimal (length (changes_of line track))
     ∷ tick_fields line (slice_get (changes_of line track) 0)
 
 -- ---- its samples

@@ -1,5 +1,5 @@
 -- The level of a signal at a tick.
-use Rattle.std.specs.Prelude.{◌&&◌, ℕ, Bool, true, false, List, codes, get_or}
+use Rattle.std.specs.Prelude.{◌&&◌, ℕ, Bool, false, List, get_or}
 use Rattle.std.specs.List.{list_any}
 use Rattle.file_records.specs.map.Recorders.{RecorderValues}
 use Rattle.file_records.specs.declared.map.source.Signal.{Signal}
@@ -22,8 +22,3 @@ is_on tracks signal t = list_any (tells signal t) tracks
 abbrev pub is_told : List RecorderValues → Signal → Bool
 is_told recorders signal =
     list_any (λ r. list_any (λ s. same_signal s signal) r.signals.told) recorders
-
--- a level, as files write it
-abbrev pub level_text : Bool → List ℕ
-level_text true = codes "1"
-level_text false = codes "0"

@@ -1,9 +1,10 @@
 -- The table of the sources of a map: a record for each.
 use Rattle.std.specs.Prelude.{◌++◌, ℕ, List, [], ◌∷◌, Option, None, Some, codes, length, slice_get}
+use Rattle.run_changes.specs.rows.PlayRows.{level_word}
 use Rattle.model_line.specs.declared.line.Line.{Line}
 use Rattle.file_records.specs.map.Recorders.{RecorderValues}
 use Rattle.file_tables.specs.script.Printed.{records_text}
-use Rattle.file_records.specs.{tracks.Below.below, tracks.Levels.level_text}
+use Rattle.file_records.specs.tracks.Below.{below}
 use Rattle.file_records.specs.tracks.Tracks.{PlacedValues, TrackValues}
 use Rattle.file_records.specs.tracks.Fields.{channel_text, config_name, course_fields, sampled_fields}
 use Rattle.file_records.specs.tracks.Fields.{signal_fields}
@@ -20,7 +21,7 @@ abbrev pub source_record : Line → List RecorderValues → PlacedValues → Tra
 source_record line recorders p track =
     config_name (slice_get recorders p.recorder) ∷ []
     ++ signal_fields line p.source.signal
-    ++ (channel_text p.source.channel ∷ level_text p.source.inverted ∷ [])
+    ++ (channel_text p.source.channel ∷ level_word p.source.inverted ∷ [])
     ++ (course_fields line track ++ sampled_fields line track)
 
 -- the source at a place, and its track

@@ -2,24 +2,15 @@
 
 ghost use Rattle.std.specs.Prelude.{◌≡◌, ◌<◌, ◌^◌, IfOk, map};
 ghost use Rattle.toml.specs.View.{table_view};
-ghost use Rattle.file_records.specs.map.Maps.{kind_of, kind_at, top_keys, plain_name, script_at};
+ghost use Rattle.file_records.specs.map.Maps.{kind_at, top_keys, script_at};
 ghost use Rattle.file_records.specs.map.Maps.{deadline_at, start_at};
 
 use crate::map::instant::instant;
 use file_document::keys::{number, text};
+use file_document::words::{kind_of, plain_name};
 use file_document::{DocumentFault, Path};
-use model_line::{Kind, Line, Name, is_plain};
+use model_line::{Kind, Line, Name};
 use toml::Table;
-
-fn kind_of(path: Path, text: &str) -> Result<Kind, DocumentFault>
-    ensures { result ≡ kind_of path text.now }
-{
-    match text {
-        "internal" => Ok(Kind::Internal),
-        "external" => Ok(Kind::External),
-        _ => Err(DocumentFault::BadName(path)),
-    }
-}
 
 #[tactic(auto, unfolding(crate::specs::map::Maps::kind_at))]
 pub fn kind(top: &Table) -> Result<Kind, DocumentFault>
@@ -36,16 +27,6 @@ pub fn top_keys(kind: Kind) -> &'static [&'static str]
     match kind {
         Kind::Internal => &["version", "script", "kind", "deadline", "start", "recorder"],
         Kind::External => &["version", "script", "kind", "start", "recorder"],
-    }
-}
-
-fn plain_name(path: Path, text: &str) -> Result<Name, DocumentFault>
-    ensures { result ≡ plain_name path text.now }
-{
-    if is_plain(text.as_bytes()) {
-        Ok(Name::plain(text.as_bytes()))
-    } else {
-        Err(DocumentFault::BadName(path))
     }
 }
 

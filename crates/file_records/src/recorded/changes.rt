@@ -11,9 +11,10 @@ ghost use Rattle.file_records.specs.recorded.Changes.{terminal_changes, tick_cha
 
 use crate::map::Signal;
 use crate::recorded::spans::was_on;
-use crate::tracks::{Track, is_on, level_text};
+use crate::tracks::{Track, is_on};
 use itoa::Buffer;
 use model_line::{Line, Memory};
+use run_changes::rows::level_word;
 use std::alloc::Global;
 
 /// The record file of the keys and trips that the tracks tell, under a head of that script.
@@ -127,7 +128,7 @@ fn push_signal(
         tick,
         row.terminal,
         word,
-        level_text(level),
+        level_word(level),
     )
 }
 

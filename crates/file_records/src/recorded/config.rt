@@ -6,7 +6,7 @@ ghost use Rattle.run_changes.specs.rows.PlayRows.{each_below};
 ghost use Rattle.file_records.specs.recorded.Config.{channel_count as count_of, channel_line, config_text as text_of_config};
 ghost use Rattle.file_records.specs.recorded.Config.{element_lines, head_text, loss_line, tail_text, terminal_lines};
 
-use crate::recorded::put::put;
+use base_text::pieces::push_pieces;
 use itoa::Buffer;
 use model_line::{Line, Memory, Script, name_of_terminal};
 use std::alloc::Global;
@@ -35,7 +35,7 @@ fn put_head(text: &mut Vec<u8>, line: &Line, script: &[u8]) -> Result<(), Memory
 {
     let mut digits = Buffer::new();
     let count = digits.format(channel_count(line)).as_bytes();
-    put(
+    push_pieces(
         text,
         &[
             b"pilot,", script, b",1999", b"\r\n", count, b",0A,", count, b"D", b"\r\n",
@@ -50,7 +50,7 @@ fn put_channel(text: &mut Vec<u8>, n: u32, name: &[u8], word: &[u8]) -> Result<(
 {
     let mut digits = Buffer::new();
     let n = digits.format(n).as_bytes();
-    put(text, &[n, b",", name, b" ", word, b",,,0", b"\r\n"])
+    push_pieces(text, &[n, b",", name, b" ", word, b",,,0", b"\r\n"])
 }
 
 // The channels of what a terminal sees.
@@ -97,7 +97,7 @@ fn put_loss(text: &mut Vec<u8>, line: &Line, c: usize) -> Result<(), Memory>
     let n = digits
         .format(7 * line.terminals.len() as u32 + c as u32 + 1)
         .as_bytes();
-    put(
+    push_pieces(
         text,
         &[
             n,
@@ -126,7 +126,7 @@ fn put_tail(text: &mut Vec<u8>, line: &Line) -> Result<(), Memory>
 {
     let mut digits = Buffer::new();
     let last = digits.format(line.horizon).as_bytes();
-    put(
+    push_pieces(
         text,
         &[
             b"50",

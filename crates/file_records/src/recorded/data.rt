@@ -10,7 +10,7 @@ ghost use Rattle.run_changes.specs.changes.PlayedTracks.{is_on, played};
 ghost use Rattle.file_records.specs.recorded.Data.{all_seen, data_text as text_of_data, level_field};
 ghost use Rattle.file_records.specs.recorded.Data.{loss_field, sample_head, sample_text, seen_field, terminal_fields};
 
-use crate::recorded::put::put;
+use base_text::pieces::push_pieces;
 use itoa::Buffer;
 use model_line::{Element, Line, Memory, Place, Script, loss, seen};
 use model_timing::NamedTiming;
@@ -81,7 +81,7 @@ fn put_sample(
     put_sample_head(text, line, t)?;
     put_terminals(text, line, script, tracks, t)?;
     put_losses(text, line, script, t)?;
-    put(text, &[b"\r\n"])
+    push_pieces(text, &[b"\r\n"])
 }
 
 // The number and the stamp of a sample.
@@ -94,7 +94,7 @@ fn put_sample_head(text: &mut Vec<u8>, line: &Line, t: u32) -> Result<(), Memory
     let mut more = Buffer::new();
     let micros = u64::from(t) * u64::from(line.tick_us);
     let stamp = more.format(micros).as_bytes();
-    put(text, &[n, b",", stamp])
+    push_pieces(text, &[n, b",", stamp])
 }
 
 fn put_terminals(
@@ -182,5 +182,5 @@ fn put_losses(text: &mut Vec<u8>, line: &Line, script: &Script, t: u32) -> Resul
 fn put_level(text: &mut Vec<u8>, level: bool) -> Result<(), Memory>
     ensures { OnOk result (text.new.items ≡ text.old.items ++ level_field level) }
 {
-    put(text, &[b",", level_word(level)])
+    push_pieces(text, &[b",", level_word(level)])
 }

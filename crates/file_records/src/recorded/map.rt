@@ -6,7 +6,7 @@ ghost use Rattle.run_changes.specs.rows.PlayRows.{each_below};
 ghost use Rattle.file_records.specs.recorded.Map.{element_signals, front_text, head_text, kind_text, loss_line, map_text as text_of_map};
 ghost use Rattle.file_records.specs.recorded.Map.{recorder_head, recorder_text, signal_line, start_text};
 
-use crate::recorded::put::put;
+use base_text::pieces::push_pieces;
 use itoa::Buffer;
 use model_line::{Kind, Line, Memory, Script, name_of_terminal};
 use std::alloc::Global;
@@ -34,14 +34,14 @@ fn put_head(text: &mut Vec<u8>, script: &Script) -> Result<(), Memory>
 fn put_front(text: &mut Vec<u8>, name: &[u8]) -> Result<(), Memory>
     ensures { OnOk result (text.new.items ≡ text.old.items ++ front_text name.now) }
 {
-    put(text, &[b"version = 1\nscript = \"", name, b"\"\n"])
+    push_pieces(text, &[b"version = 1\nscript = \"", name, b"\"\n"])
 }
 
 #[tactic(auto, unfolding(crate::specs::recorded::Map::start_text))]
 fn put_start(text: &mut Vec<u8>) -> Result<(), Memory>
     ensures { OnOk result (text.new.items ≡ text.old.items ++ start_text) }
 {
-    put(text, &[b"start = \"2000-01-01T00:00:00\"\n"])
+    push_pieces(text, &[b"start = \"2000-01-01T00:00:00\"\n"])
 }
 
 #[tactic(auto, unfolding(crate::specs::recorded::Map::kind_text))]
@@ -52,12 +52,12 @@ fn put_kind(text: &mut Vec<u8>, kind: Kind, deadline: u32) -> Result<(), Memory>
         Kind::Internal => {
             let mut digits = Buffer::new();
             let deadline = digits.format(deadline).as_bytes();
-            put(
+            push_pieces(
                 text,
                 &[b"kind = \"internal\"\ndeadline = ", deadline, b"\n"],
             )
         }
-        Kind::External => put(text, &[b"kind = \"external\"\n"]),
+        Kind::External => push_pieces(text, &[b"kind = \"external\"\n"]),
     }
 }
 
@@ -87,7 +87,7 @@ fn put_recorder_head(text: &mut Vec<u8>, terminal: &[u8], name: &[u8]) -> Result
     ensures { OnOk result (text.new.items
         ≡ text.old.items ++ recorder_head terminal.now name.now) }
 {
-    put(
+    push_pieces(
         text,
         &[
             b"\n[[recorder]]\nterminal = \"",
@@ -114,7 +114,7 @@ fn put_elements(text: &mut Vec<u8>, line: &Line, k: u32) -> Result<(), Memory>
 fn put_signal(text: &mut Vec<u8>, name: &[u8], word: &[u8]) -> Result<(), Memory>
     ensures { OnOk result (text.new.items ≡ text.old.items ++ signal_line name.now word.now) }
 {
-    put(text, &[word, b" = \"", name, b" ", word, b"\"\n"])
+    push_pieces(text, &[word, b" = \"", name, b" ", word, b"\"\n"])
 }
 
 fn put_losses(text: &mut Vec<u8>, line: &Line, k: u32) -> Result<(), Memory>
@@ -137,7 +137,7 @@ fn put_loss(text: &mut Vec<u8>, line: &Line, k: u32, c: usize) -> Result<(), Mem
         return Ok(());
     }
     let from = name_of_terminal(line, channel.from);
-    put(
+    push_pieces(
         text,
         &[
             b"loss.",

@@ -3,7 +3,7 @@
 ghost use Rattle.std.specs.Prelude.{◌≡◌, map};
 ghost use Rattle.std.specs.List.{list_any};
 ghost use Rattle.file_records.specs.tracks.Tracks.{track_values};
-ghost use Rattle.file_records.specs.tracks.Levels.{is_on, level_text as text_of_level, tells};
+ghost use Rattle.file_records.specs.tracks.Levels.{is_on, tells};
 
 use crate::map::Signal;
 use crate::tracks::track::Track;
@@ -25,11 +25,4 @@ pub fn is_on(tracks: &[Track], signal: Signal, t: u32) -> bool
     ensures { result ≡ is_on (map track_values tracks.now) signal t }
 {
     any_tells(tracks, signal, t)
-}
-
-/// A level, as files write it.
-pub fn level_text(level: bool) -> &'static [u8]
-    ensures { result.now ≡ text_of_level level }
-{
-    if level { b"1" } else { b"0" }
 }

@@ -15,12 +15,12 @@ use crate::tracks::fields::{
     SampledFields, SignalFields, TickFields, channel_text, config_name, sampled_fields,
     signal_fields, tick_fields,
 };
-use crate::tracks::level::level_text;
 use crate::tracks::placed::Placed;
 use crate::tracks::track::Track;
 use base_records::push_record;
 use itoa::Buffer;
 use model_line::{Line, Memory};
+use run_changes::rows::level_word;
 use std::alloc::Global;
 
 /// A line, the recorders of a map, its sources, and the track of each source in their order.
@@ -117,7 +117,7 @@ fn course_of(alloc: Global, line: &Line, track: &Track) -> Result<Course, Memory
 {
     let changes = changes_of(alloc, line, track)?;
     Ok(Course {
-        first_level: Vec::from_slice(alloc, level_text(level_at(track, 0)))?,
+        first_level: Vec::from_slice(alloc, level_word(level_at(track, 0)))?,
         changes: Vec::from_slice(alloc, Buffer::new().format(changes.len()).as_bytes())?,
         first: tick_fields(alloc, line, changes.get(0).copied())?,
         sampled: sampled_fields(alloc, track.sampled, changes.len() as u64)?,
@@ -145,7 +145,7 @@ fn row_of(
         recorder: Vec::from_slice(alloc, config_name(table.recorders, placed.recorder))?,
         signal: signal_fields(alloc, table.line, source.signal)?,
         channel: channel_text(alloc, &source.channel)?,
-        inverted: Vec::from_slice(alloc, level_text(source.inverted))?,
+        inverted: Vec::from_slice(alloc, level_word(source.inverted))?,
         course,
     })
 }

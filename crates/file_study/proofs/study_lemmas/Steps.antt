@@ -14,12 +14,13 @@ use Rattle.file_document.specs.declared.fault.DocumentFault.{DocumentFault}
 use Rattle.file_study.specs.declared.study.units.Units.{Units}
 use Rattle.file_study.specs.declared.study.stage.Shown.{Shown}
 use Rattle.file_study.specs.study.Settings.{time_in, put_times, setting_in, put_settings}
-use Rattle.file_study.specs.study.LineTables.{tables_of, terminals_in, plain_name}
+use Rattle.file_study.specs.study.LineTables.{tables_of, terminals_in}
 use Rattle.file_study.specs.study.Shows.{all_shown, shown_in, terminals_show, terminal_shows, all_lost}
 use Rattle.file_study.specs.study.Shows.{lost_in}
 use Rattle.file_study.specs.study.Faults.{stages_in, stage_at, faults_in, fault_at, fault_names}
 use Rattle.file_study.specs.study.Faults.{FaultValues, StageValues}
 use Rattle.file_document.specs.{Paths.under, Paths.numbered, Keys.text_in}
+use Rattle.file_document.specs.Words.{plain_name}
 
 -- the next entry of a table, and then those after it
 pub times_more : (units : Units) (path : List ℕ) (s rest : List Entry) (e : Entry) (done : Members)

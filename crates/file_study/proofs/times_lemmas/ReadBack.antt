@@ -1,11 +1,10 @@
 -- A whole number of a unit, written and read.
-use Rattle.std.proofs.Common.{◌≡◌, ◌≢◌, ◌+◌, ◌*◌, ◌^◌, ◌<◌, ◌≤◌, ◌&&◌, ◌||◌, ℕ, Bool, true, false}
+use Rattle.std.proofs.Common.{◌≡◌, ◌≢◌, ◌+◌, ◌*◌, ◌^◌, ◌<◌, ◌≤◌, ◌&&◌, ◌||◌, ℕ, Bool, true}
 use Rattle.std.proofs.Common.{not, List, [], ◌∷◌, ◌++◌, length, take, drop, get_or, Option, Result}
 use Rattle.std.proofs.Common.{Ok, Err, if◌then◌else◌, nat_le, refl, sym, ◌∙◌, ap, arith, ne_eqb}
 use Rattle.std.proofs.Common.{eq-eqb, zero-add, length-append, inl, inr}
 use Rattle.std.proofs.Math.Seq.{drop-append_seam, take-append_seam, drop-append-add}
-use Rattle.std.proofs.lemmas.Bool.{le-leb, cases_eq}
-use Rattle.std.proofs.lemmas.Bool.Decides.{leb_tells}
+use Rattle.std.proofs.lemmas.Bool.{le-leb, cases_eq, and_parts}
 use Rattle.std.proofs.lemmas.List.{drop_all, append-nil}
 use Rattle.std.proofs.lemmas.Fmt.{decimal_nonempty, first_decimal, length-decimal-le, decimal_digit}
 use Rattle.std.specs.Prelude.{nat_lt}
@@ -13,6 +12,7 @@ use Rattle.std.specs.Fmt.{decimal}
 use Rattle.std.specs.List.{list_all, position_or_len, before_first}
 use Rattle.base_text.specs.store.Number.{is_digit, decimal_value}
 use Rattle.base_text.specs.store.DecimalLaws.{are_digits}
+use Rattle.base_text.specs.store.DigitLaws.{digit_is}
 use Rattle.file_document.specs.declared.time_fault.TimeFault.{TimeFault}
 use Rattle.file_document.specs.declared.time_fault.TimeFault.TheVariants as fault
 use Rattle.file_study.specs.declared.times.fraction.Fraction.{Fraction}
@@ -28,9 +28,6 @@ use Rattle.file_study.specs.times.Times.{behind_number, behind_value}
 
 -- ---- digits are no spaces and no points
 
-digit_is : (d : ℕ) → is_digit d ≡ true → (48 ≤ d) × (d ≤ 57)
-digit_is d is = grind (arith, leb_tells)
-
 no_space : (d : ℕ) → is_digit d ≡ true → is_no_space d ≡ true
 no_space d is =
     let range : (48 ≤ d) × (d ≤ 57) = digit_is d is in
@@ -41,15 +38,11 @@ no_point d is =
     let range : (48 ≤ d) × (d ≤ 57) = digit_is d is in
     ap not (ne_eqb d 46 (λ e. absurd (omega arith)))
 
-both : (a b : Bool) → (a && b) ≡ true → (a ≡ true) × (b ≡ true)
-both true b is = (refl, is)
-both false b is = absurd (cc)
-
 all_are : (q : ℕ → Bool) → ((d : ℕ) → is_digit d ≡ true → q d ≡ true) → (ds : List ℕ)
     → list_all is_digit ds ≡ true → list_all q ds ≡ true
 all_are q each [] is = refl
 all_are q each (d ∷ ds) is =
-    let parts : (is_digit d ≡ true) × (list_all is_digit ds ≡ true) = both _ _ is in
+    let parts : (is_digit d ≡ true) × (list_all is_digit ds ≡ true) = and_parts _ _ is in
     rw (each d parts.0) (all_are q each ds parts.1)
 
 -- ---- where the first of some byte stands
@@ -58,7 +51,7 @@ first_is : (p : ℕ → Bool) (ds rest : List ℕ) (b : ℕ) → list_all (λ d.
     → p b ≡ true → position_or_len p (ds ++ b ∷ rest) ≡ length ds
 first_is p [] rest b is here = rw here refl
 first_is p (d ∷ ds) rest b is here =
-    let parts : (not (p d) ≡ true) × (list_all (λ e. not (p e)) ds ≡ true) = both _ _ is in
+    let parts : (not (p d) ≡ true) × (list_all (λ e. not (p e)) ds ≡ true) = and_parts _ _ is in
     let more : position_or_len p (ds ++ b ∷ rest) ≡ length ds =
     first_is p ds rest b parts.1 here in
     rw (parts.0, more) (omega arith)
@@ -67,7 +60,7 @@ none_is : (p : ℕ → Bool) (ds : List ℕ) → list_all (λ d. not (p d)) ds �
     → position_or_len p ds ≡ length ds
 none_is p [] is = refl
 none_is p (d ∷ ds) is =
-    let parts : (not (p d) ≡ true) × (list_all (λ e. not (p e)) ds ≡ true) = both _ _ is in
+    let parts : (not (p d) ≡ true) × (list_all (λ e. not (p e)) ds ≡ true) = and_parts _ _ is in
     let more : position_or_len p ds ≡ length ds = none_is p ds parts.1 in
     rw (parts.0, more) (omega arith)
 
@@ -88,7 +81,7 @@ module _ (unit : List ℕ) (start : position_or_len is_no_space (32 ∷ unit) �
 
   place-0 : place_of text 0 ≡ 0
   place-0 =
-      zero-add _ ∙ first_is is_no_space [] (ds ++ 32 ∷ unit) d refl (no_space d (both (is_digit d)
+      zero-add _ ∙ first_is is_no_space [] (ds ++ 32 ∷ unit) d refl (no_space d (and_parts (is_digit d)
       (list_all is_digit ds) digits).0)
 
   pub word-0 : word_of text 0 ≡ d ∷ ds
@@ -229,7 +222,7 @@ module _ (unit : List ℕ) (one : ℕ) (start : position_or_len is_no_space (32 
       ap (λ w. number_in (place_of text 0) w) (first ∙ sym is)
       ∙ decimal_number (place_of text 0) n small in
       let sign-0 : sign_at text 0 ≡ sign.Other =
-      ap sign_in first ∙ sign_is d ds (both (is_digit d) (list_all is_digit ds) digits).0 in
+      ap sign_in first ∙ sign_is d ds (and_parts (is_digit d) (list_all is_digit ds) digits).0 in
       let begun : first_number text (sign_at text 0) ≡ Ok (whole n) =
       ap (λ s. first_number text s) sign-0 ∙ number in
       let sign-1 : sign_at text 1 ≡ sign.Other = ap sign_in second ∙ named in

@@ -1,21 +1,22 @@
 -- The faults of a study, with their stages and their swept times.
-use Rattle.std.specs.Prelude.{◌+◌, ◌++◌, ℕ, Bool, true, false, List, [], ◌∷◌, Option}
+use Rattle.std.specs.Prelude.{◌+◌, ◌++◌, ℕ, Bool, true, false, List, [], ◌∷◌, Option, not}
 use Rattle.std.specs.Prelude.{None, Some, Result, Ok, Err, codes, map, if◌then◌else◌}
 use Rattle.std.specs.Str.{bytes_eq}
 use Rattle.std.specs.List.{list_any}
+use Rattle.base_memory.specs.Gives.{◌>>=◌}
 use Rattle.toml.specs.Data.{Data, Items, no_items, item, Members, get_member}
 use Rattle.model_line.specs.declared.script.Kind.TheVariants.{Internal, External}
 use Rattle.model_line.specs.{declared.script.Kind.Kind, PlainNames.is_plain_name}
-use Rattle.base_memory.specs.Gives.{◌>>=◌}
 use Rattle.file_line.specs.Lines.{LineValues}
 use Rattle.file_document.specs.declared.fault.DocumentFault.{DocumentFault}
 use Rattle.file_document.specs.declared.fault.DocumentFault.TheVariants as fault
 use Rattle.file_study.specs.declared.study.units.Units.{Units}
 use Rattle.file_study.specs.declared.study.stage.{Shown.Shown, Stage.Stage, SweptFault.SweptFault}
 use Rattle.file_document.specs.{Paths.under, Paths.numbered, Keys.text_at, Keys.array_in}
-use Rattle.file_study.specs.{study.Moments.moments_of}
+use Rattle.file_study.specs.study.Moments.{moments_of}
 use Rattle.file_document.specs.{Keys.all_known, Keys.table_in, Keys.counted}
-use Rattle.file_study.specs.{study.Shows.shows_of}
+use Rattle.file_document.specs.Words.{kind_of}
+use Rattle.file_study.specs.study.Shows.{shows_of}
 
 -- A stage: how long it lasts, in ticks, a number for each value of its sweep; and what it shows.
 pub record StageValues : Type 0 where
@@ -50,14 +51,7 @@ is_longer External = true
 
 -- and how far into a stage an element comes the other way
 abbrev pub is_later : Kind → Bool
-is_later Internal = true
-is_later External = false
-
-abbrev pub kind_of : List ℕ → List ℕ → Result Kind DocumentFault
-kind_of path text =
-    if bytes_eq text (codes "internal") then Ok Internal
-    else if bytes_eq text (codes "external") then Ok External
-    else Err (fault.BadName path)
+is_later kind = not (is_longer kind)
 
 unfoldable pub kind_at : List ℕ → Members → Result Kind DocumentFault
 kind_at path ms = do

@@ -1,14 +1,14 @@
 -- The line file that a study comes to.
 use Rattle.std.specs.Prelude.{◌==◌, ◌++◌, ◌+◌, ℕ, Bool, false, List, [], ◌∷◌, Option}
 use Rattle.std.specs.Prelude.{Result, Ok, Err, map, length, pos, codes, if◌then◌else◌, true}
+use Rattle.base_memory.specs.Gives.{◌>>=◌}
 use Rattle.toml.specs.Data.{Data, string, integer, boolean, array, table, Members, Items, no_items}
 use Rattle.toml.specs.Data.{item, get_member}
 use Rattle.toml.specs.View.{items_of}
 use Rattle.model_line.specs.{declared.line.Terminal.Terminal, declared.line.Channel.Channel}
-use Rattle.model_line.specs.{PlainNames.is_plain_name, ParamNames.name_at, ParamNames.pair_name}
-use Rattle.base_memory.specs.Gives.{◌>>=◌}
+use Rattle.model_line.specs.{ParamNames.name_at, ParamNames.pair_name}
 use Rattle.file_line.specs.{Canonical.table_of, Canonical.put_all, Lines.LineValues}
-use Rattle.file_line.specs.{LineFiles.line_in}
+use Rattle.file_line.specs.LineFiles.{line_in}
 use Rattle.file_line.specs.declared.fault.LineFault.{LineFault}
 use Rattle.file_line.specs.declared.fault.LineFault.TheVariants as line_fault
 use Rattle.file_document.specs.declared.fault.DocumentFault.{DocumentFault}
@@ -18,6 +18,7 @@ use Rattle.file_document.specs.Keys.{number_at, number_or_none, text_in, text_at
 use Rattle.file_document.specs.Keys.{array_at, table_or_none, none_unknown, counted}
 use Rattle.file_study.specs.{study.Settings.put_section, study.Moments.instant_of}
 use Rattle.file_document.specs.{Paths.under, Paths.numbered}
+use Rattle.file_document.specs.Words.{plain_name}
 
 -- The table of settings under a key at the top, if there is one, which has only these keys.
 -- `[default.terminal]` and `[default.channel]` are under `default`; `[terminal.X]` and
@@ -59,9 +60,6 @@ tables_of members (x ∷ xs) done = do
   tables_of members xs (done ++ table ms ∷ [])
 
 -- the terminals by their names, which are plain
-abbrev pub plain_name : List ℕ → List ℕ → Result (List ℕ) DocumentFault
-plain_name path name = if is_plain_name name then Ok name else Err (fault.BadName path)
-
 unfoldable pub terminals_in : List ℕ → ℕ → Items → List Terminal → Result (List Terminal) DocumentFault
 terminals_in path i no_items done = Ok done
 terminals_in path i (item d ds) done = do

@@ -8,7 +8,7 @@ ghost use Rattle.model_line.specs.PlainNames.{is_plain_name};
 ghost use Rattle.file_line.specs.Lines.{line_values};
 ghost use Rattle.base_memory.specs.Gives.{Gives};
 ghost use Rattle.file_study.specs.study.Faults.{stage_values, fault_values, is_longer, is_later};
-ghost use Rattle.file_study.specs.study.Faults.{kind_of, kind_at, moments_at, within_at, new_name};
+ghost use Rattle.file_study.specs.study.Faults.{kind_at, moments_at, within_at, new_name};
 ghost use Rattle.file_study.specs.study.Faults.{name_at, head_keys, whole_keys, stage_keys};
 ghost use Rattle.file_study.specs.study.Faults.{terminal_names, stage_in, stage_at, stages_in};
 ghost use Rattle.file_study.specs.study.Faults.{several_stages, only_stage, stages_or_one, stages_of};
@@ -20,6 +20,7 @@ use crate::study::ticks::moments;
 use crate::study::units::Units;
 use base_memory::Stopped;
 use file_document::keys::{counted, find, items_of, only, table_of, text};
+use file_document::words::kind_of;
 use file_document::{DocumentFault, Path};
 use model_line::{Kind, Line, Name, is_plain};
 use std::alloc::Global;
@@ -37,16 +38,6 @@ fn is_later(kind: Kind) -> bool
     ensures { result ≡ is_later kind }
 {
     kind == Kind::Internal
-}
-
-fn kind_of(path: Path, text: &str) -> Result<Kind, DocumentFault>
-    ensures { result ≡ kind_of path text.now }
-{
-    match text {
-        "internal" => Ok(Kind::Internal),
-        "external" => Ok(Kind::External),
-        _ => Err(DocumentFault::BadName(path)),
-    }
 }
 
 #[tactic(auto, unfolding(crate::specs::study::Faults::kind_at))]

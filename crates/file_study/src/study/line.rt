@@ -10,7 +10,7 @@ ghost use Rattle.model_line.specs.{ParamNames.pair_name};
 ghost use Rattle.file_line.specs.{Canonical.table_of, Canonical.put_member, Lines.line_values};
 ghost use Rattle.file_line.specs.{Keys.document_of};
 ghost use Rattle.base_memory.specs.Gives.{Becomes, Gives, seen};
-ghost use Rattle.file_study.specs.study.LineTables.{terminals_of, terminals_in, plain_name};
+ghost use Rattle.file_study.specs.study.LineTables.{terminals_of, terminals_in};
 ghost use Rattle.file_study.specs.study.LineTables.{channels_of, channels_for, units_of, horizon_of};
 ghost use Rattle.file_study.specs.study.LineTables.{section_at, terminal_tables, channel_tables, in_line};
 ghost use Rattle.file_study.specs.study.LineTables.{tables_of};
@@ -25,9 +25,10 @@ use base_memory::{Memory, Stopped};
 use file_document::keys::{
     counted, find, flag, items, number, only_in, optional_number, optional_table, text, text_of,
 };
+use file_document::words::plain_name;
 use file_document::{DocumentFault, Path};
 use file_line::{LineFault, read_line};
-use model_line::{Channel, Line, Name, Terminal, channel_name, is_plain};
+use model_line::{Channel, Line, Name, Terminal, channel_name};
 use std::alloc::Global;
 use toml::ser::Error;
 use toml::{Table, Value};
@@ -86,18 +87,6 @@ fn with_text(
 {
     let value = Value::string(alloc, text)?;
     with(alloc, table, key, value)
-}
-
-// A plain name.
-fn plain_name(path: Path, text: &str) -> Result<Name, DocumentFault>
-    ensures is { result ≡ plain_name path text.now }
-    ensures plain { IfOk result (λ n. is_plain_name n ≡ true) }
-{
-    if is_plain(text.as_bytes()) {
-        Ok(Name::plain(text.as_bytes()))
-    } else {
-        Err(DocumentFault::BadName(path))
-    }
 }
 
 // The terminals of these names, one after another.

@@ -2,8 +2,8 @@
 use Rattle.std.proofs.Common.{◌≡◌, ◌≢◌, ◌&&◌, ◌||◌, ◌==◌, ℕ, suc, ◌+◌, ◌<◌, ◌≤◌, true, false, cond}
 use Rattle.std.proofs.Common.{List, [], ◌∷◌, ◌++◌, length, map, get_or, take, drop, Option, Some}
 use Rattle.std.proofs.Common.{None, Ok, refl, sym, ap, ◌∙◌, subst, arith, append_assoc}
-use Rattle.std.proofs.Common.{length-append, inl, inr, ne_eqb}
-use Rattle.std.proofs.lemmas.Bool.{lt-ltb, le-leb, cases_Bool, and_from, and_parts, or_parts}
+use Rattle.std.proofs.Common.{length-append, ne_eqb}
+use Rattle.std.proofs.lemmas.Bool.{lt-ltb, le-leb, and_from, and_parts, or_parts}
 use Rattle.std.proofs.lemmas.Bool.Decides.{nat_tests}
 use Rattle.std.proofs.lemmas.List.{append-nil, length-map, get_or-map, set_at, take_at, drop_at}
 use Rattle.std.proofs.lemmas.List.{drop-drop}
@@ -22,11 +22,12 @@ use Rattle.model_line.specs.Parameters.{param_count, is_delay, declared_ends}
 use Rattle.model_line.specs.{declared.line.Line.Line, declared.line.Param.Param, Intervals.leasts}
 use Rattle.model_line.specs.{PlainNames.is_plain_name, Laws.DelaysAreParameters}
 use Rattle.model_line.specs.NamesByNumber.{parameter_name}
+use Rattle.model_line.specs.TextLaws.{bytes_differ}
 use Rattle.model_names.specs.ParamNamesApart.{has_no, ParamNamesApart}
 use Rattle.model_names.specs.NumbersByName.{param_named}
 use Rattle.model_logic.specs.Choice.{IsIn}
-use Rattle.model_timing.specs.{declared.step.Step.Step}
-use Rattle.file_tables.specs.{declared.timing.named.Named.Named}
+use Rattle.model_timing.specs.declared.step.Step.{Step}
+use Rattle.file_tables.specs.declared.timing.named.Named.{Named}
 use Rattle.file_tables.specs.declared.timing.named.Named.TheVariants as named
 use Rattle.model_timing.specs.Inside.{IsStepInside, IsTimingInside}
 use Rattle.model_timing.specs.NamedValues.{NamedValues}
@@ -45,12 +46,6 @@ use Rattle.model_timing.specs.StepOrderLaws.{same_place}
 
 bytes_same : (bytes : List ℕ) → bytes_eq bytes bytes ≡ true
 bytes_same bytes = (bytes_eq-Decides bytes bytes).1 refl
-
-bytes_differ : (a b : List ℕ) → a ≢ b → bytes_eq a b ≡ false
-bytes_differ a b other = elim (cases_Bool (bytes_eq a b)) [
-  | inl same ↦ absurd (other ((bytes_eq-Decides a b).0 same))
-  | inr differ ↦ differ
-]
 
 -- a timing in the making
 abbrev at_timing : List NamedValues → OpenTiming → TimingsSoFar

@@ -2,7 +2,7 @@
 use Rattle.std.proofs.Common.{◌≡◌, ◌≢◌, ◌&&◌, ◌==◌, ℕ, ◌<◌, true, false}
 use Rattle.std.proofs.Common.{List, [], ◌∷◌, ◌++◌, length, get_or, Some, refl, sym, ap, ◌∙◌, arith}
 use Rattle.std.proofs.Common.{eq-eqb, inl, inr, subst, zero-add}
-use Rattle.std.proofs.lemmas.Bool.{cases_lt, and_parts, false_from_ne_true}
+use Rattle.std.proofs.lemmas.Bool.{cases_lt, and_parts}
 use Rattle.std.proofs.lemmas.List.{get_or-map}
 use Rattle.std.proofs.lemmas.List.Sums.{AllPass-from_list_all}
 use Rattle.std.proofs.lemmas.Option.{slice_get-get_or}
@@ -16,12 +16,8 @@ use Rattle.model_line.specs.Terminals.{are_plain_names, NamesDiffer}
 use Rattle.model_line.specs.Channels.{AreChannels, is_pair, from_of, to_of}
 use Rattle.model_line.specs.ParamNames.{name_at, pair_name, channel_name}
 use Rattle.model_line.specs.{declared.line.Terminal.Terminal, declared.line.Channel.Channel}
+use Rattle.model_line.specs.TextLaws.{bytes_differ}
 use Rattle.model_names.specs.NumbersByName.{has_name}
-
--- names that differ do so byte by byte
-pub bytes_differ : (a b : List ℕ) → a ≢ b → bytes_eq a b ≡ false
-bytes_differ a b other =
-    false_from_ne_true (bytes_eq a b) (λ same. other ((bytes_eq-Decides a b).0 same))
 
 -- what has a name of its own is found by it
 found_by_name : {X : Type 0} (name : X → List ℕ) (xs : List X) (k : ℕ) (d : X) → k < length xs
@@ -140,12 +136,6 @@ module _ (ts : List Terminal) (cs : List Channel) (plain : are_plain_names ts �
       let none = none_before (is_pair (from_of cs c) (to_of cs c)) 0 c j cs d
       (pairs.once c below ∙ ap (λ i. Some i) (sym (zero-add c))) less in
       (let e : true ≡ false = sym passes ∙ none in cc))
-
--- the name of the terminal that stands at a place
-pub name_of-got : (ts : List Terminal) (k : ℕ) (t : Terminal) → k < length ts → t ≡ get_or ts k t
-    → name_at ts k ≡ t.name
-name_of-got ts k t below got =
-    name_at-get ts k t below ∙ ap (λ (x : Terminal). x.name) (sym got)
 
 -- the name of the channel that stands at a place
 pub channel_name-got : (ts : List Terminal) (cs : List Channel) (c : ℕ) (h : Channel)

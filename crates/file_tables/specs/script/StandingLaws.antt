@@ -40,7 +40,8 @@ use Rattle.std.proofs.lemmas.Map.Entries.{option_filter}
 use Rattle.base_memory.specs.Gives.{◌>>=◌}
 use Rattle.base_records.specs.{RecordFile.after_header, RecordFile.after_records}
 use Rattle.base_text.specs.store.DecimalLaws.{number_of-decimal}
-use Rattle.file_tables.specs.script.NamingLaws.{bytes_differ, terminal_found, channel_found}
+use Rattle.model_line.specs.TextLaws.{bytes_differ}
+use Rattle.file_tables.specs.script.NamingLaws.{terminal_found, channel_found}
 
 -- the item of what a span shows
 abbrev item_for : What → Item

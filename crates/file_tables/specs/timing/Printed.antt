@@ -3,11 +3,10 @@ use Rattle.std.specs.Prelude.{◌≢◌, ◌+◌, ◌≤◌, ◌<◌, ◌++◌, 
 use Rattle.std.specs.Prelude.{IsTrue}
 use Rattle.std.specs.List.{flat_map}
 use Rattle.std.specs.Fmt.{decimal}
-use Rattle.csv.specs.Writing.{row_text, default_writer}
 use Rattle.model_line.specs.{declared.line.Line.Line, PlainNames.is_plain_name}
 use Rattle.model_line.specs.NamesByNumber.{parameter_name}
 use Rattle.model_timing.specs.declared.step.Step.{Step}
-use Rattle.file_tables.specs.{timing.Row.header_record}
+use Rattle.file_tables.specs.timing.Row.{header_record}
 use Rattle.model_timing.specs.{Timing.ascend, Inside.IsTimingInside}
 use Rattle.model_timing.specs.NamedValues.{NamedValues}
 
@@ -39,10 +38,6 @@ timing_records line t =
 -- the header, and then each timing's records
 abbrev pub file_records : Line → List NamedValues → List (List (List ℕ))
 file_records line timings = header_record ∷ flat_map (timing_records line) timings
-
--- the text of records, as a CSV writer with the default settings writes them
-abbrev pub records_text : List (List (List ℕ)) → List ℕ
-records_text rows = flat_map (row_text default_writer) rows
 
 -- a timing that a file of the line may hold: its name is plain, it is inside, its steps ascend
 pub record MayStand (line : Line) (t : NamedValues) : Type 0 where

@@ -4,8 +4,9 @@ ghost use Rattle.std.specs.Prelude.{◌≡◌, ◌≤◌, ◌<◌, ◌∷◌, []
 ghost use Rattle.std.specs.List.{All};
 ghost use Rattle.csv.specs.Writing.{row_text, default_writer};
 ghost use Rattle.model_line.specs.Parameters.{param_count};
+ghost use Rattle.file_tables.specs.script.Printed.{records_text};
 ghost use Rattle.file_tables.specs.timing.Printed.{number_record, number_records, step_record};
-ghost use Rattle.file_tables.specs.timing.Printed.{timing_records, file_records, records_text, MayStand};
+ghost use Rattle.file_tables.specs.timing.Printed.{timing_records, file_records, MayStand};
 ghost use Rattle.file_tables.specs.timing.Printed.{AreOfOneFile};
 ghost use Rattle.model_timing.specs.{declared.step.Step.Step};
 ghost use Rattle.model_timing.specs.NamedValues.{values_of};

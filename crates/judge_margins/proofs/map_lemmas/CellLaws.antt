@@ -3,17 +3,18 @@ use Rattle.std.proofs.Common.{◌≡◌, ◌≤◌, ◌<◌, ◌+◌, ◌-◌, �
 use Rattle.std.proofs.Common.{[], Option, None, Some, subst, sym, ◌∙◌, ap, refl, arith, List, length}
 use Rattle.std.proofs.Math.Nat.{div-le_self, mul-le-mul, mul-le-mul_left, mul_comm}
 use Rattle.std.proofs.Math.Nat.{div-lt_iff_lt-mul, mod-lt, min-le_right}
-use Rattle.std.specs.Prelude.{slice_get, option_map}
+use Rattle.std.specs.Prelude.{slice_get}
 use Rattle.model_history.specs.Rails.{Ends}
 use Rattle.model_line.specs.{declared.line.Line.Line, declared.script.Script.Script}
 use Rattle.model_line.specs.Parameters.{declared_ends, delay_param, is_delay}
 use Rattle.model_line.specs.Parameters.{param_count}
 use Rattle.model_logic.specs.Choice.{Box, LeastFromOne}
 use Rattle.model_logic.specs.{Boxes.IsSameBox, Histories.PairHistory}
+use Rattle.model_logic.specs.BoxLaws.{turned}
 use Rattle.run_step.specs.{LaneBox.ends_in, LaneBox.lane_box, Runs.AreDelayed}
-use Rattle.run_step.specs.{Runs.IsTheHistory}
+use Rattle.run_step.specs.Runs.{IsTheHistory}
 use Rattle.model_history.specs.ListLaws.{exists_at}
-use Rattle.model_timing.specs.Timing.{number_at}
+use Rattle.model_timing.specs.BlockLaws.{no_step}
 use Rattle.judge_verdict.specs.{boxes.Spans.SpanLists, boxes.Spans.span_ends}
 use Rattle.judge_verdict.specs.boxes.Terns.{terns_signal}
 use Rattle.judge_margins.specs.{map.Known.Known, declared.map.axis.Axis.Axis, declared.map.axis.Axes.Axes}
@@ -101,16 +102,6 @@ cell_from_one known line axes column row can in_column in_row c t lt early =
     (known.delays.from_one line param delay))
 
 -- ---- the box of a lane is that of its cell
-
-no_step : (i t : ℕ) (o : Option SpanLists) → option_map (number_at [] i t) o ≡ o
-no_step i t None = refl
-no_step i t (Some span) = refl
-
-turned : (line : Line) (a b : Box) → IsSameBox line a b → IsSameBox line b a
-turned line a b same = record {
-  numbers = λ i lt. sym (same.numbers i lt);
-  delays = λ c t lt early. sym (same.delays c t lt early);
-}
 
 module _ (known : Known) (line : Line) (axes : Axes) (first : ℕ) (spans : List SpanLists)
     (spanned : AreCellSpans line axes first spans) where

@@ -1,11 +1,12 @@
 -- In a cell that is held every history of every choice meets every obligation.
 use Rattle.std.proofs.Common.{◌≡◌, ◌≤◌, ◌<◌, ◌+◌, ◌*◌, ◌%◌, ◌/◌, ℕ, zero, suc, Bool, true, false, cond}
-use Rattle.std.proofs.Common.{List, [], ◌∷◌, Some, length, subst, sym, ◌∙◌, refl, arith, ◌&&◌}
+use Rattle.std.proofs.Common.{List, [], ◌∷◌, Some, length, subst, sym, ◌∙◌, refl, arith}
 use Rattle.std.proofs.Math.Nat.{mul-le-mul_right}
 use Rattle.std.proofs.lemmas.Nat.{div-mul-add, mod-mul-add}
 use Rattle.std.proofs.lemmas.Option.{slice_get_within}
 use Rattle.std.specs.Prelude.{slice_get}
 use Rattle.std.specs.List.{list_all, list_any}
+use Rattle.std.proofs.lemmas.Bool.{and_parts}
 use Rattle.model_history.specs.ListLaws.{exists_at}
 use Rattle.model_history.specs.ListLaws.{all_at}
 use Rattle.model_line.specs.Parameters.{terminal_count}
@@ -14,7 +15,7 @@ use Rattle.model_logic.specs.{Choice.Box, Choice.LeastFromOne, HeldOver.IsHeldOv
 use Rattle.model_logic.specs.Rule as of_line
 use Rattle.judge_verdict.specs.{declared.verdict.rule.Rule.Rule, verdict.Rules.rule_named}
 use Rattle.judge_verdict.specs.declared.verdict.rule.Rule.TheVariants as rule
-use Rattle.judge_margins.specs.declared.map.cell.{Cell.Cell}
+use Rattle.judge_margins.specs.declared.map.cell.Cell.{Cell}
 use Rattle.judge_margins.specs.declared.map.cell.Word.TheVariants.{Held, Open, Fails}
 use Rattle.judge_margins.specs.{map.Known.Known, map.Axes.cell_box, map.MapLaws.AHeldCellIsMet}
 use Rattle.judge_margins.specs.map.Cells.{IsCell, is_broken, is_held, word_of}
@@ -25,18 +26,14 @@ word_tells true b is = refl
 word_tells false true is = absurd (cc)
 word_tells false false is = absurd (cc)
 
-both_on : (a b : Bool) → (a && b) ≡ true → (a ≡ true) × (b ≡ true)
-both_on true b on = (refl, on)
-both_on false b on = absurd (cc)
-
 each_held : (rules : List Rule) → list_all is_held rules ≡ true
     → (i : ℕ) (r : Rule) → slice_get rules i ≡ Some r → is_held r ≡ true
 each_held [] all i r at = absurd (cc)
 each_held (x ∷ rules) all zero r at =
     let same : x ≡ r = cc in
-    subst (λ (y : Rule). is_held y ≡ true) same (both_on (is_held x) (list_all is_held rules) all).0
+    subst (λ (y : Rule). is_held y ≡ true) same (and_parts (is_held x) (list_all is_held rules) all).0
 each_held (x ∷ rules) all (suc i) r at =
-    each_held rules (both_on (is_held x) (list_all is_held rules) all).1 i r at
+    each_held rules (and_parts (is_held x) (list_all is_held rules) all).1 i r at
 
 held_named : (r : Rule) → is_held r ≡ true → rule_named r ≡ of_line.Held
 held_named rule.Held on = refl

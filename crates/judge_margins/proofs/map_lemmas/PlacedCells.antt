@@ -2,7 +2,7 @@
 use Rattle.std.proofs.Common.{◌≡◌, ◌≤◌, ◌<◌, ◌+◌, ◌-◌, ◌||◌, ℕ, zero, suc, Bool, true, false, cond, List}
 use Rattle.std.proofs.Common.{[], ◌∷◌, Option, None, Some, length, subst, sym, ◌∙◌, ap, refl, arith}
 use Rattle.std.proofs.Common.{inl, inr, ⊎_elim, eq-eqb}
-use Rattle.std.proofs.lemmas.Bool.{cases_eq, cases_lt, ne_eqb}
+use Rattle.std.proofs.lemmas.Bool.{cases_eq, cases_lt, ne_eqb, or_right}
 use Rattle.std.proofs.lemmas.Option.{slice_get_within}
 use Rattle.std.specs.Prelude.{slice_get, get_or, map, ◌==◌}
 use Rattle.std.specs.List.{list_any}
@@ -11,12 +11,13 @@ use Rattle.model_history.specs.Rails.{Ends}
 use Rattle.model_line.specs.Parameters.{declared_ends, delay_param, param_count}
 use Rattle.model_line.specs.{declared.line.Line.Line, declared.line.Param.Param}
 use Rattle.model_line.specs.SetBounds.{SameButParams}
+use Rattle.model_line.specs.SameLineLaws.{on_from}
 use Rattle.model_logic.specs.{Choice.declared_box, Boxes.ends_with}
 use Rattle.judge_margins.specs.{map.Known.Known, declared.map.axis.Axis.Axis, declared.map.axis.Axes.Axes}
 use Rattle.judge_margins.specs.map.Placed.{AreOfLine, IsPlaced, width_of}
 use Rattle.judge_margins.specs.map.Axes.{IsSecond, ends_along, ends_up, least_at, moved, moves}
 use Rattle.judge_margins.specs.map.MapLaws.{ACellIsOfThePlacedLine, IsPlacedUp}
-use Rattle.judge_margins.proofs.{map_lemmas.ListLaws.place_of, map_lemmas.PlacedLaws.placed_rest, map_lemmas.PlacedLaws.chained}
+use Rattle.judge_margins.proofs.{map_lemmas.ListLaws.place_of, map_lemmas.PlacedLaws.placed_rest}
 
 -- what is said of an interval of a line with the first n intervals placed
 record Told (line : Line) (params : List ℕ) (least n : ℕ) (other : Line) (i : ℕ) : Type 0 where
@@ -91,10 +92,6 @@ module _ (known : Known) where
       (changed.numbers i (subst (λ (m : ℕ). i < m) (sym count) here))
       (told line params least n is.0 i are (omega (arith, le)) is.1 here)
 
-or_right : (a b : Bool) → b ≡ true → (a || b) ≡ true
-or_right true b on = refl
-or_right false b on = on
-
 -- what has a place in a list is one of it
 found : (xs : List ℕ) (j x : ℕ) → slice_get xs j ≡ Some x → list_any (λ p. p == x) xs ≡ true
 found [] j x at = absurd (cc)
@@ -150,7 +147,7 @@ module _ (known : Known) (line between : Line) (axes : Axes) (column : ℕ)
       → IsPlacedUp line y row between other → SameButParams line other
   second_same None row other is = subst (SameButParams line) (sym is) first_same
   second_same (Some axis) row other is =
-      chained line between other first_same
+      on_from line between other first_same
       (placed_rest between other axis.params.items (least_at axis row) (length axis.params.items)
       (omega arith) is)
 

@@ -1,28 +1,19 @@
 -- What is placed differs in its intervals alone.
-use Rattle.std.proofs.Common.{◌≡◌, ◌≤◌, ◌+◌, ℕ, zero, suc, List, Some, length, ◌∙◌, arith}
+use Rattle.std.proofs.Common.{◌≡◌, ◌≤◌, ◌+◌, ℕ, zero, suc, List, Some, length, arith}
 use Rattle.model_history.specs.ListLaws.{exists_at}
 use Rattle.model_line.specs.{declared.line.Line.Line, SetBounds.SameButParams}
 use Rattle.std.proofs.Common.{subst}
 use Rattle.std.specs.Prelude.{slice_get}
 use Rattle.model_line.specs.WithBounds.{IsWithBounds}
+use Rattle.model_line.specs.SameLineLaws.{on_from}
 use Rattle.judge_margins.specs.map.Placed.{IsPlaced, width_of}
-
-pub chained : (a b d : Line) → SameButParams a b → SameButParams b d → SameButParams a d
-chained a b d p q = record {
-  tick_us = q.tick_us ∙ p.tick_us;
-  horizon = q.horizon ∙ p.horizon;
-  scheme = q.scheme ∙ p.scheme;
-  zone1_trip = q.zone1_trip ∙ p.zone1_trip;
-  terminals = q.terminals ∙ p.terminals;
-  channels = q.channels ∙ p.channels;
-}
 
 pub placed_rest : (line other : Line) (params : List ℕ) (least n : ℕ) → n ≤ length params
     → IsPlaced line params least n other → SameButParams line other
 placed_rest line other params least zero le is = is.rest
 placed_rest line other params least (suc n) le is =
     let (param, at) = exists_at params n (omega (arith, le)) in
-    chained line is.0 other
+    on_from line is.0 other
     (placed_rest line is.0 params least n (omega (arith, le)) is.1)
     (is.2 param at).rest
 

@@ -1,28 +1,18 @@
 -- What is asked of brackets, one more at a time.
-use Rattle.std.proofs.Common.{◌≡◌, ◌<◌, ◌+◌, ℕ, zero, suc, Bool, List, [], ◌∷◌, ◌++◌, Option, None, Some, length}
+use Rattle.std.proofs.Common.{◌≡◌, ◌<◌, ◌+◌, ℕ, Bool, List, [], ◌∷◌, ◌++◌, Option, None, Some, length}
 use Rattle.std.proofs.Common.{subst, sym, refl, ⊎_elim}
 use Rattle.std.specs.Prelude.{slice_get}
-use Rattle.model_history.specs.ListLaws.{at_push}
+use Rattle.model_history.specs.ListLaws.{at_push, last_push, before_append}
 use Rattle.judge_margins.specs.{declared.margins.ask.Ask.Ask, declared.margins.bracket.Bracket.Bracket}
 use Rattle.judge_margins.specs.margins.Brackets.{AreAsksOf, AreSlots, IsAskOf, IsSlot, ask_for}
 use Rattle.judge_margins.proofs.margins_lemmas.EachLaws.{one_more}
-
-module _ {X : Type 0} where
-  still_at : (xs : List X) (x y : X) (i : ℕ) → slice_get xs i ≡ Some y
-      → slice_get (xs ++ x ∷ []) i ≡ Some y
-  still_at [] x y i at = absurd (cc)
-  still_at (z ∷ zs) x y zero at = at
-  still_at (z ∷ zs) x y (suc i) at = still_at zs x y i at
-
-  last_at : (xs : List X) (x : X) → slice_get (xs ++ x ∷ []) (length xs) ≡ Some x
-  last_at [] x = refl
-  last_at (y ∷ ys) x = last_at ys x
 
 module _ (whole : Bool) (brackets : List Bracket) where
   slot_still : (asks : List Ask) (x : Ask) (place : ℕ) (b : Bracket) (slot : Option ℕ)
       → IsSlot whole asks place b slot → IsSlot whole (asks ++ x ∷ []) place b slot
   slot_still asks x place b None is = is
-  slot_still asks x place b (Some j) is = (is.0, still_at asks x (ask_for whole place b) j is.1)
+  slot_still asks x place b (Some j) is =
+      (is.0, before_append asks (x ∷ []) j (ask_for whole place b) is.1)
 
   pub slots_more : (slots more : List (Option ℕ)) (asks new : List Ask) (place : ℕ) (b : Bracket)
       → slice_get brackets place ≡ Some b → b.near < b.far
@@ -41,7 +31,7 @@ module _ (whole : Bool) (brackets : List Bracket) where
       (λ c here.
       let same : b ≡ c = cc in
       subst (λ (d : Bracket). IsSlot whole (asks ++ x ∷ []) place d (Some (length asks))) same
-      (wide, last_at asks x)))
+      (wide, last_push asks x)))
 
   pub asks_more : (asks new : List Ask) (place : ℕ) (b : Bracket)
       → slice_get brackets place ≡ Some b → b.near < b.far → AreAsksOf whole brackets asks

@@ -3,10 +3,10 @@ use Rattle.std.proofs.Common.{◌≡◌, ◌≤◌, ◌<◌, ◌+◌, ◌-◌, �
 use Rattle.std.proofs.Common.{◌∙◌, refl, arith, ⊎_elim}
 use Rattle.std.proofs.Math.ListN.{take, drop}
 use Rattle.std.proofs.lemmas.Bool.{cases_lt}
-use Rattle.std.proofs.lemmas.List.Elements.{All-get_or}
-use Rattle.std.proofs.lemmas.Option.{slice_get_within, get_or_from_slice_get}
+use Rattle.std.proofs.lemmas.Option.{slice_get_within}
 use Rattle.std.specs.Prelude.{slice_get}
 use Rattle.std.specs.List.{All, slice_range}
+use Rattle.model_history.specs.ListLaws.{at_taken, from_taken, at_dropped, all_at}
 use Rattle.model_line.specs.Parameters.{terminal_count}
 use Rattle.model_line.specs.{declared.line.Line.Line, declared.script.Script.Script, Fits.Fits}
 use Rattle.model_logic.specs.{Choice.Box, Choice.declared_box, HeldOver.IsHeldOver}
@@ -21,13 +21,6 @@ use Rattle.judge_margins.proofs.margins_lemmas.WidenedLaws.{widened_within, unmo
 -- the obligation is held with the end moved outward by n
 abbrev pub IsHeldTo : Line → Script → ℕ → ℕ → Side → ℕ → Type 0
 IsHeldTo line script k param side n = IsHeldOver line script k (widened line param side n)
-
--- an element of a list of which all is said
-pub one_of_all : {X : Type 0} (P : X → Type 0) (xs : List X) (i : ℕ) (x : X) → All P xs
-    → slice_get xs i ≡ Some x → P x
-one_of_all P xs i x all at =
-    subst P (get_or_from_slice_get xs i x x at)
-    (All-get_or P xs i x (slice_get_within xs i x at) all)
 
 module _ (known : Known) (line : Line) where
   pub held_nearer : (script : Script) (k param : ℕ) (side : Side) (m n : ℕ)
@@ -56,7 +49,7 @@ module _ (known : Known) (line : Line) (scripts : List Script) (fit : All (Fits 
       held = λ script there.
           held_nearer known line script o.terminal param side m n
           (known.lines.deadlines line script
-          (one_of_all (Fits line) scripts o.script script fit there))
+          (all_at (Fits line) scripts o.script script fit there))
           (exist i o at).terminal le limit ((kept.each i o lt at).held script there);
     };
   }
@@ -69,7 +62,7 @@ group_unmoved known of is param side = record {
     held = λ script there.
         held_unmoved known of.compiled.line.now script o.terminal param side
         (known.lines.deadlines of.compiled.line.now script
-        (one_of_all (Fits of.compiled.line.now) of.scripts.now o.script script is.fit there))
+        (all_at (Fits of.compiled.line.now) of.scripts.now o.script script is.fit there))
         (is.exist i o at).terminal ((is.held.each i o lt at).held script there);
   };
 }
@@ -95,29 +88,6 @@ kept_both line scripts box obligations first these n is few before behind = reco
 }
 
 module _ {X : Type 0} where
-  at_taken : (n : ℕ) (xs : List X) (i : ℕ) → i < n → slice_get (take n xs) i ≡ slice_get xs i
-  at_taken zero xs i lt = absurd (omega arith)
-  at_taken (suc n) [] i lt = refl
-  at_taken (suc n) (x ∷ xs) zero lt = refl
-  at_taken (suc n) (x ∷ xs) (suc i) lt = at_taken n xs i (omega arith)
-
-  from_taken : (n : ℕ) (xs : List X) (i : ℕ) (x : X) → slice_get (take n xs) i ≡ Some x
-      → slice_get xs i ≡ Some x
-  from_taken zero [] i x at = absurd (cc)
-  from_taken zero (y ∷ xs) i x at = absurd (cc)
-  from_taken (suc n) [] i x at = absurd (cc)
-  from_taken (suc n) (y ∷ xs) zero x at = at
-  from_taken (suc n) (y ∷ xs) (suc i) x at = from_taken n xs i x at
-
-  at_dropped : (n : ℕ) (xs : List X) (i : ℕ) → slice_get (drop n xs) i ≡ slice_get xs (n + i)
-  at_dropped zero [] i = refl
-  at_dropped zero (x ∷ xs) i =
-      let same : i ≡ zero + i = omega arith in ap (slice_get (x ∷ xs)) same
-  at_dropped (suc n) [] i = refl
-  at_dropped (suc n) (x ∷ xs) i =
-      let same : suc (n + i) ≡ suc n + i = omega arith in
-      at_dropped n xs i ∙ ap (slice_get (x ∷ xs)) same
-
   taken_long : (n : ℕ) (xs : List X) → n ≤ length xs → length (take n xs) ≡ n
   taken_long zero [] le = refl
   taken_long zero (x ∷ xs) le = refl

@@ -1,9 +1,9 @@
 -- What 64 lanes say of obligations.
 use Rattle.std.proofs.Common.{◌≡◌, ◌≤◌, ◌<◌, ◌+◌, ◌-◌, ℕ, Bool, true, List, [], Option, Some, None}
-use Rattle.std.proofs.Common.{length, refl, sym, ◌∙◌, ap, subst, arith}
+use Rattle.std.proofs.Common.{length, sym, ◌∙◌, ap, subst, arith}
 use Rattle.std.proofs.Math.Nat.{min-le_right}
 use Rattle.std.proofs.lemmas.Option.{slice_get_within}
-use Rattle.std.specs.Prelude.{Decides, slice_get, option_map}
+use Rattle.std.specs.Prelude.{Decides, slice_get}
 use Rattle.model_history.specs.Rails.{Ends}
 use Rattle.run_signal.specs.Bits.{bit_on}
 use Rattle.run_signal.specs.SentKeys.{SentKeys}
@@ -13,10 +13,11 @@ use Rattle.model_logic.specs.Choice.{Box, LeastFromOne}
 use Rattle.model_logic.specs.Histories.{PairHistory}
 use Rattle.model_logic.specs.Rule.{is_held}
 use Rattle.model_logic.specs.{Boxes.IsSameBox, HeldOver.IsHeldOver}
-use Rattle.model_timing.specs.Timing.{number_at}
+use Rattle.model_logic.specs.BoxLaws.{turned}
+use Rattle.model_timing.specs.BlockLaws.{no_step}
 use Rattle.run_step.specs.{LaneBox.ends_in, LaneBox.lane_box, Runs.AreDelayed}
 use Rattle.run_step.specs.Runs.{IsTheHistory}
-use Rattle.model_history.specs.ListLaws.{exists_at}
+use Rattle.model_history.specs.ListLaws.{exists_at, all_at}
 use Rattle.run_changes.specs.{changes.Tracks.pair_of, changes.Tracks.tracks_history}
 use Rattle.judge_verdict.specs.declared.boxes.terns.Terns64.{Terns64}
 use Rattle.judge_verdict.specs.boxes.Held.{trip_rails}
@@ -28,21 +29,11 @@ use Rattle.judge_margins.specs.margins.Asks.{AreAsks, AreAskSpans, AreRows, IsRo
 use Rattle.judge_margins.specs.margins.Groups.{IsGroup}
 use Rattle.judge_margins.specs.{margins.Asks.ask_box, margins.Asks.ask_in, margins.Kept.IsKept}
 use Rattle.judge_margins.specs.margins.Widened.{param_at, side_at}
-use Rattle.judge_margins.proofs.{margins_lemmas.KeptLaws.one_of_all, margins_lemmas.WidenedLaws.from_one}
+use Rattle.judge_margins.proofs.margins_lemmas.WidenedLaws.{from_one}
 
 pub ask_exists : (count first lane : ℕ) → first < count → ask_in count first lane < count
 ask_exists count first lane inside =
     let low = min-le_right (first + lane) (count - 1) in omega (arith, low, inside)
-
-no_step : (i t : ℕ) (o : Option SpanLists) → option_map (number_at [] i t) o ≡ o
-no_step i t None = refl
-no_step i t (Some span) = refl
-
-turned : (line : Line) (a b : Box) → IsSameBox line a b → IsSameBox line b a
-turned line a b same = record {
-  numbers = λ i lt. sym (same.numbers i lt);
-  delays = λ c t lt early. sym (same.delays c t lt early);
-}
 
 module _ (known : Known) (line : Line) (asks : List Ask) (are : AreAsks line asks) (first : ℕ)
     (spans : List SpanLists) (spanned : AreAskSpans line asks first spans) where
@@ -175,6 +166,6 @@ row_is known of is asks are first spans spanned script keys trips trip o i bits 
     kept_by of o script (ask_box of.compiled.line.now ask) (bit_on bits lane) own
     (tells_held known of.compiled.line.now asks are first spans spanned script o.terminal
     (known.lines.deadlines of.compiled.line.now script
-    (one_of_all (Fits of.compiled.line.now) of.scripts.now of.script script is.fit there))
+    (all_at (Fits of.compiled.line.now) of.scripts.now of.script script is.fit there))
     (is.exist i o at).terminal keys trips trip at_trip lane ask (bit_on bits lane) inside here
     (history lane inside) (held lane inside))

@@ -1,27 +1,17 @@
 -- The boxes with one end of one interval moved outward.
 use Rattle.std.proofs.Common.{◌≡◌, ◌≤◌, ◌<◌, ◌*◌, ◌/◌, ℕ, Bool, true, sym, ap}
-use Rattle.std.proofs.Common.{subst, arith, inl, inr, eq-eqb, cond}
-use Rattle.std.proofs.lemmas.Bool.{cases_eq, ne_eqb}
+use Rattle.std.proofs.Common.{subst, arith, inl, inr, cond}
+use Rattle.std.proofs.lemmas.Bool.{cases_eq}
 use Rattle.model_history.specs.Rails.{Ends, IsPartOf}
 use Rattle.model_line.specs.Parameters.{param_count, delay_param, declared_ends}
 use Rattle.model_line.specs.Parameters.{is_delay}
 use Rattle.model_line.specs.declared.line.Line.{Line}
 use Rattle.model_logic.specs.Choice.{IsBoxWithin, LeastFromOne, declared_box}
 use Rattle.model_logic.specs.Boxes.{ends_with}
+use Rattle.model_logic.specs.BoxLaws.{ends_with-here, ends_with-elsewhere}
 use Rattle.judge_margins.specs.{margins.Known.Known, declared.margins.end.Side.Side}
 use Rattle.judge_margins.specs.declared.margins.end.Side.TheVariants.{Above, Below}
 use Rattle.judge_margins.specs.margins.Widened.{moved, first_number, room, widened}
-
--- at the parameter the new interval, elsewhere the old one
-ends_with-here : (ends : ℕ → Ends) (param : ℕ) (new : Ends) (i : ℕ) → i ≡ param
-    → ends_with ends param new i ≡ new
-ends_with-here ends param new i here =
-    ap (λ (b : Bool). cond b new (ends i)) (eq-eqb i param here)
-
-ends_with-elsewhere : (ends : ℕ → Ends) (param : ℕ) (new : Ends) (i : ℕ) → (i ≡ param → ⊥)
-    → ends_with ends param new i ≡ ends i
-ends_with-elsewhere ends param new i other =
-    ap (λ (b : Bool). cond b new (ends i)) (ne_eqb i param other)
 
 moved_part : (ends : Ends) (side : Side) (m n : ℕ) → m ≤ n
     → IsPartOf (moved ends side m) (moved ends side n)

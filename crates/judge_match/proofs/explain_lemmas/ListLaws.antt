@@ -1,10 +1,9 @@
 -- Lists that are made one by one.
-use Rattle.std.proofs.Common.{◌≡◌, ◌<◌, ◌≤◌, ◌+◌, ◌∷◌, ◌++◌, [], ℕ, zero, suc, Bool, false, List, Some}
+use Rattle.std.proofs.Common.{◌≡◌, ◌<◌, ◌≤◌, ◌+◌, ◌∷◌, ◌++◌, [], ℕ, zero, suc, Bool, false, List}
 use Rattle.std.proofs.Common.{length, refl, sym, ◌∙◌, ap, subst, arith, ⊎_elim, length-append, get_or}
 use Rattle.std.proofs.lemmas.Bool.{cases_lt}
 use Rattle.std.proofs.lemmas.List.{get_or_push, get_or_append_left}
-use Rattle.std.specs.Prelude.{slice_get, Result, Ok, Err, IfOk, OnOk}
-use Rattle.std.proofs.lemmas.Option.{slice_get-get_or}
+use Rattle.std.specs.Prelude.{Result, Ok, Err, IfOk}
 use Rattle.std.specs.List.{AllZip}
 use Rattle.judge_match.specs.{explain.Asked.AreLevels, explain.Asked.level_in, explain.Changes.changes, explain.Changes.StaysAround}
 use Rattle.judge_match.proofs.explain_lemmas.ChangeLaws.{changes_same}
@@ -76,13 +75,3 @@ pub ok_weaker : {X E : Type 0} (P Q : X → Type 0) (r : Result X E) → ((x : X
     → IfOk r P → IfOk r Q
 ok_weaker P Q (Ok x) follows is = follows x is
 ok_weaker P Q (Err e) follows is = is
-
--- what is true where a call was Ok, and what follows from it
-pub on_ok_weaker : {X E : Type 0} (P Q : Type 0) (r : Result X E) → (P → Q) → OnOk r P → OnOk r Q
-on_ok_weaker P Q (Ok x) follows is = follows is
-on_ok_weaker P Q (Err e) follows is = is
-
--- an element that was read
-pub indexed : {X : Type 0} (xs : List X) (k : ℕ) (x : X) → k < length xs → x ≡ get_or xs k x
-    → slice_get xs k ≡ Some x
-indexed xs k x inside is = slice_get-get_or xs k x inside ∙ ap Some (sym is)

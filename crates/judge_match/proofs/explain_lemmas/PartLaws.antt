@@ -14,10 +14,11 @@ use Rattle.std.proofs.lemmas.List.FromFn.{length-map-range_with_len, get_or-map-
 use Rattle.std.specs.Prelude.{get_or, slice_set}
 use Rattle.model_history.specs.Rails.{Ends, single}
 use Rattle.model_line.specs.{declared.line.Line.Line, Laws.DelaysAreParameters}
-use Rattle.model_line.specs.Parameters.{param_count, channel_count, delay_param, declared_ends}
+use Rattle.model_line.specs.Parameters.{param_count, delay_param, declared_ends}
+use Rattle.model_line.specs.DelayLaws.{delay_within}
 use Rattle.model_logic.specs.Choice.{IsIn, IsWithin}
 use Rattle.model_timing.specs.{declared.step.Step.Step, Timing.TimingValues, Timing.number_at}
-use Rattle.model_timing.specs.{Choice.timing_choice}
+use Rattle.model_timing.specs.Choice.{timing_choice}
 use Rattle.judge_match.specs.explain.Explains.{IsSteadyInside}
 use Rattle.judge_match.specs.explain.Parts.{interval_of, part_box, declared_part, LiesIn, CanPart}
 use Rattle.judge_match.specs.explain.Parts.{lower_part, upper_part}
@@ -45,9 +46,6 @@ pub set_elsewhere : (part : List Ends) (param i : ℕ) (new : Ends) → i ≢ pa
 set_elsewhere part param i new other = get_or-set_other part param i new (single 0) other
 
 module _ (delays : DelaysAreParameters) (line : Line) where
-  delay_there : (c : ℕ) → c < channel_count line → delay_param line c < param_count line
-  delay_there c lt = delays.exists line (delay_param line c) (delays.told line c lt)
-
   -- a part with a narrower interval is a part
   pub narrower_is : (part : List Ends) (param : ℕ) (new : Ends) → IsPart line part
       → param < param_count line → (interval_of part param).least ≤ new.least
@@ -75,7 +73,7 @@ module _ (delays : DelaysAreParameters) (line : Line) where
     delays = λ c t lt early.
         subst (λ (e : Ends). 1 ≤ e.least)
         (sym (get_or-map-range_with_len (declared_ends line) 0 (param_count line)
-        (delay_param line c) (delay_param line c) (single 0) (delay_there c lt) (omega arith)))
+        (delay_param line c) (delay_param line c) (single 0) (delay_within line c lt) (omega arith)))
         (delays.from_one line (delay_param line c) (delays.told line c lt));
   }
 
@@ -94,7 +92,7 @@ module _ (delays : DelaysAreParameters) (line : Line) where
         subst (λ (n : ℕ). IsIn n (interval_of part (delay_param line c)))
         (sym (steady_number timing (delay_param line c) t
         (get_or timing.values (delay_param line c) 0) lies.steady))
-        (lies.numbers (delay_param line c) (delay_there c lt));
+        (lies.numbers (delay_param line c) (delay_within line c lt));
   }
 
 -- a timing inside lies in the declared part

@@ -4,6 +4,7 @@ use Rattle.std.proofs.Common.{◌∙◌, ap, subst}
 use Rattle.std.proofs.lemmas.List.{append-nil, map-append}
 use Rattle.std.proofs.lemmas.List.Folds.{concat-append}
 use Rattle.std.specs.List.{AllZip, concat, list_any}
+use Rattle.std.proofs.Math.Bool.{or-false}
 use Rattle.model_line.specs.{declared.line.Line.Line, declared.script.Script.Script}
 use Rattle.model_history.specs.ZipLaws.{zip_push}
 use Rattle.judge_match.specs.matching.Answer.{Head, IsHead, IsMatchAnswer, is_impossible, is_unsettled}
@@ -11,10 +12,7 @@ use Rattle.judge_match.specs.matching.Waves.{SeenValues}
 
 any_push : {A : Type 0} (p : A → Bool) (xs : List A) (x : A)
     → list_any p (xs ++ x ∷ []) ≡ (list_any p xs || p x)
-any_push p [] x = last (p x) where
-  last : (b : Bool) → (b || false) ≡ b
-  last true = refl
-  last false = refl
+any_push p [] x = or-false (p x)
 any_push p (y ∷ xs) x = first (p y) (any_push p xs x) where
   first : (b : Bool) → list_any p (xs ++ x ∷ []) ≡ (list_any p xs || p x)
       → (b || list_any p (xs ++ x ∷ [])) ≡ ((b || list_any p xs) || p x)

@@ -3,6 +3,7 @@ use Rattle.std.proofs.Common.{◌≡◌, ◌<◌, ℕ, Bool, true, false, List, 
 use Rattle.std.proofs.Common.{get_or, refl, sym, ◌∙◌, ap, subst, arith}
 use Rattle.std.specs.Prelude.{IsTrue, MatchOption}
 use Rattle.model_history.specs.Rails.{Rails, Covers, RailsCover, both}
+use Rattle.model_history.specs.RailLaws.{covers_both, both_covered}
 use Rattle.run_signal.specs.declared.tern.Tern.{Tern}
 use Rattle.model_line.specs.{declared.line.Line.Line, declared.script.Script.Script}
 use Rattle.model_line.specs.Parameters.{terminal_count}
@@ -14,13 +15,6 @@ use Rattle.judge_match.specs.matching.Signal.{CoversAt, IsSignalClash, IsSignalC
 use Rattle.judge_match.specs.matching.Clash.{level_at, derived_at, IsAllowed, IsSignalAllowed}
 use Rattle.judge_match.specs.matching.Clash.{IsTerminalAllowed, IsTerminalClash, IsFirstClash}
 use Rattle.judge_match.specs.{declared.matching.seen.Seen.Seen, declared.matching.clash.Clash.Clash, matching.Seen.AreSeen}
-
--- a known value is covered as rails are
-covers_both : (x : Rails) (v : Bool) → Covers x v → RailsCover x (both v)
-covers_both x v h = record { must = h.must; may = h.may }
-
-both_covered : (x : Rails) (v : Bool) → RailsCover x (both v) → Covers x v
-both_covered x v h = record { must = h.must; may = h.may }
 
 allows : (x y z : Rails) (v : Bool) → x ≡ z → y ≡ both v → RailsCover x y → Covers z v
 allows x y z v e f cover =

@@ -1,12 +1,12 @@
 -- The level at which changes leave a signal, and at each tick, change by change.
 use Rattle.std.proofs.Common.{◌≡◌, ℕ, ◌+◌, ◌<◌, ◌≤◌, Bool, true, false, List, [], ◌∷◌, ◌++◌, cond}
 use Rattle.std.proofs.Common.{length, get_or, take, refl, sym, ◌∙◌, ap, arith}
-use Rattle.std.proofs.lemmas.Bool.Decides.{nat_tests}
 use Rattle.std.proofs.lemmas.List.{ext_get_or, take_more}
 use Rattle.std.proofs.lemmas.List.FromFn.{get_or-map-range_with_len, length-map-range_with_len}
 use Rattle.run_signal.specs.declared.tern.Tern.{Tern}
 use Rattle.run_signal.specs.declared.tern.Tern.TheVariants.{Zero}
 use Rattle.std.specs.Prelude.{◌&&◌, nat_le}
+use Rattle.std.proofs.lemmas.Bool.{le-leb, lt-leb}
 use Rattle.judge_match.specs.declared.matching.change.Change.{Change}
 use Rattle.judge_match.specs.{matching.Heads.is_of, matching.Heads.level_after, matching.Heads.level_by, matching.SetLevels.decides}
 use Rattle.judge_match.specs.matching.Waves.{tern_by, wave_of}
@@ -78,16 +78,12 @@ module _ (k : ℕ) (trip : Bool) (t : ℕ) (cs : List Change) (n : ℕ) (d : Cha
 pub decides_from : (k : ℕ) (trip : Bool) (c : Change) (t : ℕ) → is_of k trip c ≡ true → c.tick ≤ t
     → decides k trip c t ≡ true
 decides_from k trip c t own le =
-    ap (λ (b : Bool). b && nat_le c.tick t) own ∙ passed c.tick t le where
-      passed : (a b : ℕ) → a ≤ b → nat_le a b ≡ true
-      passed a b le = grind (arith, nat_tests)
+    ap (λ (b : Bool). b && nat_le c.tick t) own ∙ le-leb c.tick t le
 
 pub decides_not_before : (k : ℕ) (trip : Bool) (c : Change) (t : ℕ) → is_of k trip c ≡ true
     → t < c.tick → decides k trip c t ≡ false
 decides_not_before k trip c t own lt =
-    ap (λ (b : Bool). b && nat_le c.tick t) own ∙ late c.tick t lt where
-      late : (a b : ℕ) → b < a → nat_le a b ≡ false
-      late a b lt = grind (arith, nat_tests)
+    ap (λ (b : Bool). b && nat_le c.tick t) own ∙ lt-leb c.tick t lt
 
 pub decides_never : (k : ℕ) (trip : Bool) (c : Change) (t : ℕ) → is_of k trip c ≡ false
     → decides k trip c t ≡ false

@@ -1,28 +1,15 @@
 -- What is settled of a record is one thing.
-use Rattle.std.proofs.Common.{◌≡◌, ℕ, ◌<◌, Bool, true, false, refl, sym, ◌∙◌, ap, subst, arith}
-use Rattle.std.proofs.Common.{⊎_elim}
-use Rattle.std.proofs.lemmas.Bool.{cases_lt}
-use Rattle.run_signal.specs.{declared.tern.Tern.Tern}
-use Rattle.run_signal.specs.{TernLaws.tern_once}
+use Rattle.std.proofs.Common.{◌≡◌, ℕ, Bool, true, false, refl, sym, ◌∙◌, ap, subst}
+use Rattle.model_history.specs.BelowLaws.{neither_below}
+use Rattle.run_signal.specs.declared.tern.Tern.{Tern}
+use Rattle.run_signal.specs.TernLaws.{tern_once}
 use Rattle.model_line.specs.{declared.line.Line.Line, declared.script.Script.Script}
 use Rattle.model_timing.specs.Candidates.{candidate}
-use Rattle.run_waves.specs.derived.Firsts.{IsFirstFailing}
+use Rattle.run_waves.specs.derived.FirstLaws.{first_failing_once}
 use Rattle.judge_match.specs.declared.matching.seen.Match.TheVariants.{Explained, Impossible, Unsettled}
 use Rattle.judge_match.specs.matching.Clash.{AllAllowed, IsAllowed, IsFirstClash, IsSignalAllowed}
 use Rattle.judge_match.specs.matching.Clash.{IsTerminalAllowed, IsTerminalClash}
 use Rattle.judge_match.specs.{declared.matching.seen.Seen.Seen, declared.matching.seen.Match.Match, matching.Match.IsMatch}
-
--- two numbers of which neither is the smaller
-neither_below : (a b : ℕ) → (a < b → ⊥) → (b < a → ⊥) → a ≡ b
-neither_below a b above below =
-    ⊎_elim (λ lt. absurd (above lt))
-    (λ le. ⊎_elim (λ lt. absurd (below lt)) (λ ge. omega arith) (cases_lt b a))
-    (cases_lt a b)
-
-first_once : (fact : ℕ → Type 0) (count j k : ℕ) → IsFirstFailing fact count j
-    → IsFirstFailing fact count k → j ≡ k
-first_once fact count j k p q =
-    neither_below j k (λ lt. p.fails (q.before j lt)) (λ lt. q.fails (p.before k lt))
 
 module _ (line : Line) (script : Script) (seen : Seen) where
   signal_of : (k : ℕ) (trip : Bool) → IsTerminalAllowed line script seen k
@@ -70,7 +57,7 @@ module _ (line : Line) (script : Script) (seen : Seen) where
       let there : IsTerminalClash line script seen k b t level x =
       subst (λ (v : Bool). IsTerminalClash line script seen k v t level x) same p in
       let ticks : t ≡ s =
-      first_once (IsAllowed line script seen b k) line.horizon t s there.tick q.tick in
+      first_failing_once (IsAllowed line script seen b k) line.horizon t s there.tick q.tick in
       let here : IsTerminalClash line script seen k b s level x =
       subst (λ (n : ℕ). IsTerminalClash line script seen k b n level x) ticks there in
       impossible_by k k a b t s level other x y refl same ticks

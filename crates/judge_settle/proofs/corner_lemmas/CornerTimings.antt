@@ -1,10 +1,9 @@
 -- The timing of each number at its end and of the worst delays as steps.
-use Rattle.std.proofs.Common.{◌≡◌, ℕ, ◌<◌, ◌≤◌, List, map, length, get_or, sym, ap, ◌∙◌, subst}
+use Rattle.std.proofs.Common.{◌≡◌, ℕ, ◌<◌, List, map, length, get_or, sym, ap, ◌∙◌, subst}
 use Rattle.std.proofs.Common.{arith}
 use Rattle.std.proofs.lemmas.List.{length-map}
 use Rattle.std.proofs.lemmas.List.FromFn.{get_or-map-range_with_len, length-range_with_len}
 use Rattle.std.specs.List.{range_with_len}
-use Rattle.model_history.specs.Rails.{Ends}
 use Rattle.run_signal.specs.Spans.{ends_of}
 use Rattle.model_line.specs.Parameters.{param_count, channel_count, delay_param, declared_ends}
 use Rattle.model_line.specs.Channels.{from_of}
@@ -14,15 +13,12 @@ use Rattle.model_logic.specs.Histories.{PairHistory}
 use Rattle.model_timing.specs.declared.step.Step.{Step}
 use Rattle.model_timing.specs.Timing.{TimingValues}
 use Rattle.model_timing.specs.{Inside.IsTimingInside, Choice.timing_choice, Choice.IsSameChoice}
-use Rattle.model_settle.specs.Sides.{Rail, End, Least, Greatest, number_at}
+use Rattle.model_settle.specs.Sides.{Rail}
 use Rattle.model_settle.specs.Worst.{worst_choice, worst_delay}
 use Rattle.model_settle.specs.Schemes.{scheme_sides, key_rail}
 use Rattle.model_settle.specs.PolarityLaws.{WorstDelaysAreRails}
+use Rattle.model_settle.specs.SideLaws.{number_within}
 use Rattle.judge_settle.specs.{corner.Corner.worst_number, corner.Corner.corner, corner.Steps.AreStepsUpTo}
-
-end_inside : (end : End) (ends : Ends) → ends.least ≤ ends.greatest → IsIn (number_at end ends) ends
-end_inside Least ends ordered = record { least = omega arith; greatest = ordered }
-end_inside Greatest ends ordered = record { least = ordered; greatest = omega arith }
 
 module _ (line : Line) (rail : Rail) where
   abbrev pub numbers : List ℕ
@@ -82,7 +78,7 @@ module _ (line : Line) (rail : Rail) where
         count = count;
         values = λ i below.
             subst (λ (n : ℕ). IsIn n (declared_ends line i)) (sym (number i below))
-            (end_inside ((scheme_sides line rail).end_of i) (declared_ends line i)
+            (number_within ((scheme_sides line rail).end_of i) (declared_ends line i)
             (in_order.ordered line i below));
         steps = are.inside;
       }

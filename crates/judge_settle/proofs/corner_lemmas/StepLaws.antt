@@ -8,13 +8,13 @@ use Rattle.std.proofs.lemmas.List.Elements.{All-nil, All-cons, All-append}
 use Rattle.std.specs.Prelude.{nat_le, nat_lt, IsTrue}
 use Rattle.model_line.specs.Parameters.{channel_count, delay_param}
 use Rattle.model_line.specs.{declared.line.Line.Line, Laws.SettingsAreCounted}
+use Rattle.model_line.specs.DelayOrderLaws.{delays_ascend}
 use Rattle.model_timing.specs.declared.step.Step.{Step}
 use Rattle.model_timing.specs.Timing.{comes_before, number_at}
 use Rattle.model_timing.specs.Inside.{IsStepInside}
 use Rattle.model_timing.specs.LatestStepLaws.{before_by_param, before_by_tick, ascend-append}
 use Rattle.model_timing.specs.LatestStepLaws.{number_at-own}
 use Rattle.judge_settle.specs.corner.Steps.{with_change, IsNumberFrom, AreStepsUpTo}
-use Rattle.judge_settle.proofs.corner_lemmas.DelayOrder.{delays_ascend}
 
 abbrev at : ℕ → ℕ → Step ℕ
 at param t = record { param = param; from = t; value = 0 }

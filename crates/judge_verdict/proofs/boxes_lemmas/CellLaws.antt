@@ -7,11 +7,12 @@ use Rattle.model_history.specs.Rails.{Rails, both, single, must_of, may_of, rail
 use Rattle.model_history.specs.{Laws.HistoryLaws, Elements.timed}
 use Rattle.run_signal.specs.Bits.{bit_on, bit_rails}
 use Rattle.run_signal.specs.{Ahead.next_rails, Ahead.IsSteadyFor, Vectors.CellVectors}
+use Rattle.run_signal.specs.SoundLaws.{sound_more}
 use Rattle.judge_verdict.specs.declared.boxes.terns.Terns64.{Terns64}
 use Rattle.judge_verdict.specs.boxes.Cells.{one_rail, StandForKnown, StandFor}
 use Rattle.judge_verdict.specs.{boxes.Spans.SpanLists, boxes.Spans.span_ends, boxes.Terns.terns_rails}
-use Rattle.judge_verdict.specs.{boxes.TernLaws.terns_sound}
-use Rattle.judge_verdict.proofs.boxes_lemmas.RailLaws.{sound_more, rail-more, by_rails, lesser_steady, next_rail}
+use Rattle.judge_verdict.specs.boxes.TernLaws.{terns_sound}
+use Rattle.judge_verdict.proofs.boxes_lemmas.RailLaws.{rail-more, by_rails, lesser_steady, next_rail}
 use Rattle.judge_verdict.proofs.boxes_lemmas.RailLaws.{must_reads, may_reads}
 
 -- the cells of a value that is known took so many more ticks with this input

@@ -1,18 +1,20 @@
 -- What the rule says over the box of a lane.
-use Rattle.std.proofs.Common.{◌≡◌, ◌≤◌, ◌<◌, ◌+◌, ℕ, Bool, List, [], Option, Some, None, length}
-use Rattle.std.proofs.Common.{refl, sym, ◌∙◌, ap, subst, arith}
+use Rattle.std.proofs.Common.{◌≡◌, ◌≤◌, ◌<◌, ◌+◌, ℕ, Bool, List, [], Option, Some, length}
+use Rattle.std.proofs.Common.{sym, ◌∙◌, ap, subst, arith}
 use Rattle.std.proofs.lemmas.Bool.Decides.{nat_tests}
-use Rattle.std.specs.Prelude.{Decides, slice_get, option_map}
+use Rattle.std.specs.Prelude.{Decides, slice_get}
 use Rattle.model_history.specs.Rails.{Ends}
 use Rattle.run_signal.specs.SentKeys.{SentKeys}
 use Rattle.model_line.specs.Parameters.{param_count, terminal_count, delay_param, declared_ends}
 use Rattle.model_line.specs.{declared.line.Line.Line, declared.script.Script.Script}
 use Rattle.model_line.specs.{Laws.CountsRestOnNoInterval, SetBounds.SameButParams}
+use Rattle.model_line.specs.SameLineLaws.{exchanged}
 use Rattle.model_logic.specs.Choice.{Box, LeastFromOne, declared_box}
 use Rattle.model_logic.specs.Histories.{PairHistory, IsPairHistory}
 use Rattle.model_logic.specs.Rule.{Held, rule_of, is_held}
 use Rattle.model_logic.specs.{Boxes.IsSameBox, HeldOver.IsHeldOver, Laws.LineLaws}
-use Rattle.model_timing.specs.Timing.{number_at}
+use Rattle.model_logic.specs.BoxLaws.{turned}
+use Rattle.model_timing.specs.BlockLaws.{no_step}
 use Rattle.run_step.specs.{LaneBox.ends_in, LaneBox.lane_box, Runs.AreDelayed}
 use Rattle.run_step.specs.Runs.{IsTheHistory}
 use Rattle.model_history.specs.ListLaws.{exists_at}
@@ -31,22 +33,6 @@ pub part_is : (count first lane i : ℕ) → first + lane ≡ i → i < count
     → part_in count first lane ≡ i
 part_is count first lane i is inside = grind (arith, nat_tests)
 
-pub exchanged : (line part : Line) → SameButParams line part → SameButParams part line
-exchanged line part same = record {
-  tick_us = sym same.tick_us;
-  horizon = sym same.horizon;
-  scheme = sym same.scheme;
-  zone1_trip = sym same.zone1_trip;
-  terminals = sym same.terminals;
-  channels = sym same.channels;
-}
-
-turned : (line : Line) (a b : Box) → IsSameBox line a b → IsSameBox line b a
-turned line a b same = record {
-  numbers = λ i lt. sym (same.numbers i lt);
-  delays = λ c t lt early. sym (same.delays c t lt early);
-}
-
 -- the laws of rules over boxes
 pub record RuleLaws : Type 0 where
   pub one : (line : Line) (script : Script) (k : ℕ) (box : Box) (w : PairHistory)
@@ -57,10 +43,6 @@ pub record RuleLaws : Type 0 where
       → IsHeldOver line script k a → IsHeldOver line script k b
   pub lines : (line other : Line) (script : Script) (k : ℕ) (box : Box)
       → SameButParams line other → IsHeldOver line script k box → IsHeldOver other script k box
-
-no_step : (i t : ℕ) (o : Option SpanLists) → option_map (number_at [] i t) o ≡ o
-no_step i t None = refl
-no_step i t (Some span) = refl
 
 -- the ends of a lane's span
 abbrev pub lane_ends : SpanLists → ℕ → Ends

@@ -1,5 +1,5 @@
 -- Both rails, each as a value that is known.
-use Rattle.std.proofs.Common.{◌≡◌, ◌≤◌, ◌<◌, ◌+◌, ◌||◌, ℕ, zero, suc, Bool, true, false, List, []}
+use Rattle.std.proofs.Common.{◌≡◌, ◌≤◌, ◌<◌, ◌+◌, ◌||◌, ℕ, zero, suc, Bool, true, false, List}
 use Rattle.std.proofs.Common.{◌∷◌, ◌++◌, length, min, replicate, refl, sym, ◌∙◌, ap, arith}
 use Rattle.std.proofs.lemmas.List.{map-append, length-map}
 use Rattle.std.proofs.Math.ListN.{get_or-map}
@@ -7,20 +7,10 @@ use Rattle.model_history.specs.Rails.{Rails, Ends, IsSound, both, single, must_o
 use Rattle.model_history.specs.Rails.{rails_timed}
 use Rattle.model_history.specs.{Elements.timed, Laws.HistoryLaws}
 use Rattle.run_signal.specs.{Ahead.next_rails, Ahead.IsSteadyFor, Cells.AllSound}
+use Rattle.run_signal.specs.SoundLaws.{sound_at}
 use Rattle.judge_verdict.specs.boxes.Cells.{one_rail}
 
 -- ---- what must be may be
-
-pub sound_more : (l : List Rails) (x : Rails) (n : ℕ) → AllSound l → IsSound x
-    → AllSound (l ++ replicate n x)
-sound_more [] x zero h now = tt
-sound_more [] x (suc n) h now = (now, sound_more [] x n h now)
-sound_more (y ∷ l) x n h now = (h.0, sound_more l x n h.1 now)
-
-pub sound_at : (l : List Rails) (r : ℕ) → AllSound l → IsSound (rails_at l r)
-sound_at [] r h on = on
-sound_at (x ∷ l) zero h on = h.0 on
-sound_at (x ∷ l) (suc r) h on = sound_at l r h.1 on
 
 -- where what must be may be, one or the other is what may be
 pub may_alone : (x : Rails) → IsSound x → (x.must || x.may) ≡ x.may

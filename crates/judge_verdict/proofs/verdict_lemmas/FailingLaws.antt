@@ -1,23 +1,16 @@
 -- What the bits of a block's lanes tell.
 use Rattle.std.proofs.Common.{◌≡◌, ℕ, suc, ◌<◌, Bool, true, false, not, refl, sym, ◌∙◌, arith}
 use Rattle.std.specs.Prelude.{Decides}
+use Rattle.std.proofs.lemmas.Bool.{not-false, not-true}
 use Rattle.model_history.specs.{Elements.some_below, Rails.both}
 use Rattle.model_history.specs.TruthLaws.{not_both}
 use Rattle.model_line.specs.declared.script.Kind.TheVariants.{Internal, External}
 use Rattle.model_line.specs.{declared.line.Line.Line, declared.script.Script.Script}
-use Rattle.model_line.specs.{declared.script.Kind.Kind, Parameters.terminal_count}
-use Rattle.model_logic.specs.Histories.{History, MeetsBy, Meets, IsSameHistory}
+use Rattle.model_line.specs.declared.script.Kind.{Kind}
+use Rattle.model_logic.specs.Histories.{History, MeetsBy, Meets}
 use Rattle.judge_verdict.specs.verdict.Rules.{counted_ticks}
 use Rattle.model_logic.specs.{Laws.TheRuleIsTested, Rule.is_held}
 use Rattle.judge_verdict.specs.verdict.Candidates.{TellsFailing, looked_at}
-
-not_off : (b : Bool) → not b ≡ false → b ≡ true
-not_off true e = refl
-not_off false e = absurd (cc)
-
-not_on : (b : Bool) → not b ≡ true → b ≡ false
-not_on true e = absurd (cc)
-not_on false e = refl
 
 not_not : (b : Bool) → not (not b) ≡ b
 not_not true = refl
@@ -27,8 +20,8 @@ not_not false = refl
 denial_tells : (failing test : Bool) (met : Type 0) → failing ≡ not test → Decides test met
     → TellsFailing failing met
 denial_tells failing test met is decides = record {
-  fails = λ on m. not_both test (not_on test (sym is ∙ on)) (decides.1 m);
-  passes = λ off. decides.0 (not_off test (sym is ∙ off));
+  fails = λ on m. not_both test (not-true test (sym is ∙ on)) (decides.1 m);
+  passes = λ off. decides.0 (not-false test (sym is ∙ off));
 }
 
 pub internal_tells : TheRuleIsTested → (deadline horizon : ℕ) (trip : ℕ → Bool) (failing : Bool)
@@ -60,14 +53,6 @@ counted_inside : (kind : Kind) (deadline horizon t : ℕ) → deadline < horizon
     → t < counted_ticks kind deadline horizon → t < horizon
 counted_inside Internal deadline horizon t early lt = omega (arith, early, lt)
 counted_inside External deadline horizon t early lt = lt
-
-pub same_meets : (line : Line) (script : Script) (k : ℕ) (g h : History)
-    → script.deadline < line.horizon → k < terminal_count line → IsSameHistory line g h
-    → Meets line script k g → Meets line script k h
-same_meets line script k g h early there same met =
-    meets_by script.kind script.deadline line.horizon (g.trip k) (h.trip k)
-    (λ t lt. same.trips k t there
-    (counted_inside script.kind script.deadline line.horizon t early lt)) met
 
 -- so what is told of trips is told of a history that has them at these ticks
 pub tells_as : (line : Line) (script : Script) (k : ℕ) (h : History) (trip : ℕ → Bool)

@@ -1,19 +1,15 @@
 -- Whether a signal is on below a tick, by the first tick at which it is on.
-use Rattle.std.proofs.Common.{◌≡◌, ◌<◌, ℕ, Bool, true, false, refl, sym, ◌∙◌, arith, ⊎_elim}
-use Rattle.std.proofs.lemmas.Bool.{cases_lt, lt-ltb, le-ltb}
+use Rattle.std.proofs.Common.{◌≡◌, ◌<◌, ℕ, Bool, false, sym, ◌∙◌, arith, ⊎_elim}
+use Rattle.std.proofs.lemmas.Bool.{cases_lt, lt-ltb, le-ltb, false_from_ne_true}
 use Rattle.std.specs.Prelude.{nat_lt, IsTrue, IsFalse}
 use Rattle.model_history.specs.TruthLaws.{not_both}
 use Rattle.model_history.specs.{Elements.some_below, Laws.TestsAreTheirFacts}
-
-never_on : (b : Bool) → (b ≡ true → ⊥) → b ≡ false
-never_on true never = absurd (never refl)
-never_on false never = refl
 
 module _ (facts : TestsAreTheirFacts) (u : ℕ → Bool) (ticks : ℕ) where
   -- off at each tick
   pub off_below : ((t : ℕ) → t < ticks → IsFalse (u t)) → false ≡ some_below u ticks
   off_below off =
-      sym (never_on (some_below u ticks)
+      sym (false_from_ne_true (some_below u ticks)
       (λ on. let (t, early, here) = (facts.some u ticks).0 on in not_both (u t) (off t early) here))
 
   -- on first at t

@@ -1,22 +1,13 @@
 -- The waves of tracks.
-use Rattle.std.proofs.Common.{◌≡◌, ℕ, List, ◌∷◌, ◌++◌, [], Some, length, map, ◌+◌, length-append}
+use Rattle.std.proofs.Common.{◌≡◌, ℕ, List, ◌∷◌, ◌++◌, [], Some, length, ◌+◌, length-append}
 use Rattle.std.proofs.Common.{sym, ◌∙◌, ap, subst, arith, ⊎_elim}
-use Rattle.std.proofs.lemmas.Option.{slice_get-map, get_or_from_slice_get}
-use Rattle.std.specs.Prelude.{slice_get, option_map, false}
-use Rattle.model_history.specs.Rails.{both}
+use Rattle.std.specs.Prelude.{slice_get}
 use Rattle.run_signal.specs.{declared.tern.Tern.Tern, Terns.tern_rails}
 use Rattle.run_signal.specs.SentKeys.{SentKeys}
 use Rattle.run_waves.specs.waves.Waves.{wave_at, IsWaveOf}
 use Rattle.model_history.specs.ListLaws.{at_push}
 use Rattle.run_changes.specs.changes.Tracks.{pair_of}
 use Rattle.judge_verdict.specs.verdict.PairWavesOf.{AreWavesOf, track_pairs}
-
--- the rails of the value at a tick
-pub level_at : (wave : List Tern) (level : Tern) (t : ℕ) → slice_get wave t ≡ Some level
-    → wave_at wave t ≡ tern_rails level
-level_at wave level t at =
-    get_or_from_slice_get (map tern_rails wave) t (tern_rails level) (both false)
-    (slice_get-map tern_rails wave t ∙ ap (option_map tern_rails) at)
 
 -- a wave with the values of a track has the track's pairs
 pub of_track : (tracks : List (SentKeys Tern)) (k horizon : ℕ) (track : SentKeys Tern)

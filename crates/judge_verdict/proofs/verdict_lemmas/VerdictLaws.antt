@@ -1,17 +1,16 @@
 -- Verdicts by how the obligations stand, and what verdicts say.
-use Rattle.std.proofs.Common.{◌≡◌, ◌≢◌, ◌||◌, ℕ, zero, suc, ◌<◌, ◌≤◌, Bool, not, cond, List, []}
-use Rattle.std.proofs.Common.{◌∷◌, Some, length, map, refl, sym, ◌∙◌, ap, subst, arith, ⊎_elim}
-use Rattle.std.proofs.lemmas.Bool.Decides.{nat_tests}
+use Rattle.std.proofs.Common.{◌≡◌, ℕ, suc, ◌<◌, Bool, not, cond, List}
+use Rattle.std.proofs.Common.{length, map, refl, sym, ◌∙◌, ap, subst, arith, ⊎_elim}
 use Rattle.std.proofs.lemmas.Option.{slice_get_within}
 use Rattle.std.proofs.lemmas.Bool.{cases_lt}
 use Rattle.std.proofs.lemmas.List.{length-map}
 use Rattle.std.proofs.lemmas.List.FromFn.{length-map-range_with_len}
-use Rattle.std.specs.Prelude.{slice_get, IsTrue}
 use Rattle.run_signal.specs.declared.tern.Tern.{Tern}
 use Rattle.model_history.specs.{Elements.some_below, Rails.Rails, Rails.must_of, Rails.may_of}
+use Rattle.model_history.specs.BelowLaws.{some_below-same}
+use Rattle.model_history.specs.ListLaws.{mapped}
 use Rattle.model_line.specs.declared.script.Kind.TheVariants.{Internal, External}
 use Rattle.model_line.specs.Parameters.{terminal_count, param_count}
-use Rattle.model_line.specs.Fits.{deadline_fits, Fits}
 use Rattle.model_line.specs.declared.script.Kind.{Kind}
 use Rattle.model_line.specs.{declared.line.Line.Line, declared.script.Script.Script}
 use Rattle.model_logic.specs.Histories.{PairHistory, IsSamePairHistory}
@@ -26,13 +25,6 @@ use Rattle.judge_verdict.specs.verdict.Verdicts.{PassesAt, IsVerdict, AreVerdict
 use Rattle.judge_verdict.specs.verdict.Standings.{IsStanding, AllStand, IsOfLine, verdict_as}
 use Rattle.judge_verdict.specs.verdict.OneEach.{OneEach}
 use Rattle.judge_verdict.specs.verdict.Printable.{IsWritten}
-
--- an element of a mapped list is that of an element
-mapped : {A B : Type 0} (f : A → B) (xs : List A) (k : ℕ) (y : B) → slice_get (map f xs) k ≡ Some y
-    → (x : A) × (slice_get xs k ≡ Some x) × (f x ≡ y)
-mapped f [] k y e = absurd (cc)
-mapped f (x ∷ xs) zero y e = let same : f x ≡ y = cc in (x, refl, same)
-mapped f (x ∷ xs) (suc k) y e = mapped f xs k y e
 
 module _ (line : Line) (script : Script) (w : PairHistory) where
   -- ---- verdicts by standings
@@ -85,19 +77,7 @@ module _ (line : Line) (script : Script) (w : PairHistory) where
       (cases_lt 0 is.number)
   broken_first k Undecided broken never is = absurd (never (is.passes 0 (omega arith)))
 
-pub only_unknown : (r : Rule) → r ≢ Held → r ≢ Broken → r ≡ Unknown
-only_unknown Held not_held not_broken = absurd (not_held refl)
-only_unknown Broken not_held not_broken = absurd (not_broken refl)
-only_unknown Unknown not_held not_broken = refl
-
 -- ---- histories that are the same
-
-some_below-same : (u v : ℕ → Bool) (n : ℕ) → ((t : ℕ) → t < n → u t ≡ v t)
-    → some_below u n ≡ some_below v n
-some_below-same u v zero same = refl
-some_below-same u v (suc n) same =
-    ap (λ (b : Bool). b || some_below u n) (same n (omega arith))
-    ∙ ap (λ (b : Bool). v n || b) (some_below-same u v n (λ t lt. same t (omega arith)))
 
 abbrev by_tests : Bool → Bool → Rule
 by_tests held broken = cond held Held (cond broken Broken Unknown)
@@ -176,16 +156,6 @@ module _ (line : Line) (script : Script) (v w : PairHistory) (same : IsSamePairH
     }
 
 -- ---- the deadline of a script that fits
-
-fits_early : (kind : Kind) (deadline horizon : ℕ) → 1 ≤ horizon
-    → IsTrue (deadline_fits horizon kind deadline) → deadline < horizon
-fits_early Internal deadline horizon some fits = grind (arith, nat_tests)
-fits_early External deadline horizon some fits = grind (arith, nat_tests)
-
-pub deadline_early : (line : Line) (script : Script) → Fits line script
-    → script.deadline < line.horizon
-deadline_early line script fits =
-    fits_early script.kind script.deadline line.horizon line.horizon_in_range.0 fits.deadline
 
 -- ---- what can be written
 

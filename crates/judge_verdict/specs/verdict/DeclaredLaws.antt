@@ -1,6 +1,6 @@
 -- The spans of the declared intervals make the declared box.
-use Rattle.std.proofs.Common.{◌≡◌, ◌<◌, ◌≤◌, ℕ, List, [], length, get_or, map, Option, Some, None}
-use Rattle.std.proofs.Common.{refl, sym, ◌∙◌, ap, subst, arith, ⊎_elim}
+use Rattle.std.proofs.Common.{◌≡◌, ◌<◌, ◌≤◌, ℕ, List, [], length, get_or, map, Option}
+use Rattle.std.proofs.Common.{sym, ◌∙◌, ap, subst, arith, ⊎_elim}
 use Rattle.std.proofs.Math.Path.{fun_ext}
 use Rattle.std.proofs.lemmas.List.{length-map, get_or_past, get_or-map}
 use Rattle.std.proofs.lemmas.Option.{slice_get-map, slice_get_cases}
@@ -11,7 +11,7 @@ use Rattle.model_line.specs.Intervals.{IsInterval, leasts, greatests}
 use Rattle.model_line.specs.Parameters.{delay_param, declared_ends}
 use Rattle.model_line.specs.{declared.line.Line.Line, declared.line.Param.Param}
 use Rattle.model_logic.specs.Choice.{Box, LeastFromOne, declared_box}
-use Rattle.model_timing.specs.Timing.{number_at}
+use Rattle.model_timing.specs.BlockLaws.{no_step}
 use Rattle.run_signal.specs.Terns.{tern_signal}
 use Rattle.run_step.specs.LaneBox.{ends_in, own_ends, ends_at, lane_box}
 use Rattle.run_step.specs.Runs.{AreDelayed}
@@ -64,11 +64,6 @@ span_at params lane i =
     (sym (get_or_past (greatests params) i 0
     (omega (arith, past, length-map params (λ (x : Param). x.greatest))))))
     (slice_get_cases params i).1
-
--- with no steps a number is its own
-no_step : (i t : ℕ) (o : Option Ends) → option_map (number_at [] i t) o ≡ o
-no_step i t None = refl
-no_step i t (Some span) = refl
 
 pub spans_make_the_box : (line : Line) (lane : ℕ)
     → lane_box own_span line (declared_spans line) [] lane ≡ declared_box line

@@ -1,23 +1,12 @@
 -- Texts that grow row by row.
-use Rattle.std.proofs.Common.{[], ◌≡◌, ℕ, zero, suc, ◌+◌, ◌<◌, ◌≤◌, Bool, List, ◌∷◌, ◌++◌, length}
-use Rattle.std.proofs.Common.{get_or, take, map, refl, ◌∙◌, ap, arith, append_assoc}
-use Rattle.std.proofs.lemmas.List.{append-nil, map_more}
-use Rattle.std.proofs.lemmas.List.Folds.{concat-append}
-use Rattle.std.specs.List.{concat}
+use Rattle.std.proofs.Common.{◌≡◌, ℕ, zero, suc, ◌+◌, ◌<◌, ◌≤◌, Bool, List, ◌++◌}
+use Rattle.std.proofs.Common.{refl, ◌∙◌, ap, arith, append_assoc}
 use Rattle.std.specs.Prelude.{codes}
 use Rattle.model_line.specs.{declared.line.Line.Line, Parameters.terminal_count}
 use Rattle.model_logic.specs.Histories.{History, IsSameHistory}
 use Rattle.model_line.specs.NamesByNumber.{terminal_name}
 use Rattle.run_changes.specs.rows.PlayRows.{change_row, value_before, signal_row, each_below}
 use Rattle.run_changes.specs.rows.PlayRows.{terminal_rows, tick_rows, run_rows}
-
--- the text of the first pieces, and of one more
-pub one_piece_more : {X : Type 0} (f : X → List ℕ) (xs : List X) (i : ℕ) (d : X) → i < length xs
-    → concat (map f (take (i + 1) xs)) ≡ concat (map f (take i xs)) ++ f (get_or xs i d)
-one_piece_more f xs i d inside =
-    ap concat (map_more f xs i d inside)
-    ∙ concat-append (map f (take i xs)) (f (get_or xs i d) ∷ [])
-    ∙ ap (λ z. concat (map f (take i xs)) ++ z) (append-nil (f (get_or xs i d)))
 
 -- one text more
 pub texts_more : (pre old new : List ℕ) (f : ℕ → List ℕ) (k : ℕ) → old ≡ pre ++ each_below k f
@@ -47,7 +36,7 @@ texts_done pre text f k n over under is =
 
 -- ---- rows of histories that are the same
 
-each_below-same : (n : ℕ) (f g : ℕ → List ℕ) → ((k : ℕ) → k < n → f k ≡ g k)
+pub each_below-same : (n : ℕ) (f g : ℕ → List ℕ) → ((k : ℕ) → k < n → f k ≡ g k)
     → each_below n f ≡ each_below n g
 each_below-same zero f g same = refl
 each_below-same (suc n) f g same =

@@ -1,13 +1,13 @@
 //! The rows of changes, as text.
 
-ghost use Rattle.std.specs.Prelude.{◌≡◌, ◌++◌, ◌<◌, ◌+◌, map, length, OnOk};
-ghost use Rattle.std.specs.List.{concat};
+ghost use Rattle.std.specs.Prelude.{◌≡◌, ◌++◌, ◌<◌, ◌+◌, length, OnOk};
 ghost use Rattle.run_changes.specs.rows.PlayRows.{level_word as word_of_level, row_fields, row_text};
 ghost use Rattle.run_changes.specs.rows.PlayRows.{change_row, signal_row};
 ghost use Rattle.run_changes.specs.rows.StandingLaws.{Stands};
 ghost use Rattle.run_changes.specs.changes.PlayedTracks.{is_on};
 
 use crate::rows::standing::Standing;
+use base_text::pieces::push_pieces;
 use itoa::Buffer;
 use model_line::{Memory, Name};
 use run_signal::{Level, Signal, Track};
@@ -17,17 +17,6 @@ use run_signal::{Level, Signal, Track};
 pub struct RowNames {
     pub timing: Name,
     pub script: Name,
-}
-
-// Appends the pieces one after another.
-fn push_pieces(text: &mut Vec<u8>, pieces: &[&[u8]]) -> Result<(), Memory>
-    ensures { OnOk result (text.new.items
-        ≡ text.old.items ++ concat (map (λ piece. piece.now) pieces.now)) }
-{
-    for piece in pieces {
-        text.extend_from_slice(piece)?;
-    }
-    Ok(())
 }
 
 /// `1` or `0`.

@@ -1,6 +1,6 @@
 -- The pair of a gate under levels, from the pairs of its arguments.
 use Rattle.std.proofs.Common.{◌≡◌, ℕ, Bool, List, Some, refl, ◌∙◌, ap}
-use Rattle.std.specs.Prelude.{slice_get, Option, None}
+use Rattle.std.specs.Prelude.{Option, None}
 use Rattle.model_history.specs.Rails.{Rails}
 use Rattle.model_logic.specs.PairMean.{PairWorld, PairSignals}
 use Rattle.model_logic.specs.Tree.{Tree}
@@ -11,13 +11,9 @@ use Rattle.net_gates.specs.declared.gate.Gate.TheVariants.{Timer, Seal}
 use Rattle.net_gates.specs.Gates.{AreGates}
 use Rattle.net_gates.specs.{declared.gate.Gate.Gate, Formulas.formula_of, Formulas.kind_over}
 use Rattle.run_step.specs.GatePairs.{kind_pair}
+use Rattle.run_step.specs.GatePairLaws.{GatesAreTheirKinds}
 use Rattle.run_ticks.specs.{cases.Masks.AreOfTimers, cases.Ticks.under_pairs, cases.Ticks.own_pairs}
 use Rattle.run_ticks.specs.cases.Ticks.{AreToldUnder}
-
--- each gate stands for its own kind over the trees of its arguments
-abbrev pub GatesAreTheirKinds : Type 0
-GatesAreTheirKinds = (gates : List Gate) (i : ℕ) (g : Gate) → AreGates gates
-    → slice_get gates i ≡ Some g → formula_of gates i ≡ kind_over gates g
 
 none_put : (o : Option Bool) (own : Rails) → ((v : Bool) → o ≡ Some v → ⊥)
     → own ≡ assumed_or o own

@@ -1,9 +1,8 @@
 -- The values of all ticks in one list.
-use Rattle.std.proofs.Common.{◌≡◌, ℕ, ◌+◌, ◌*◌, ◌%◌, ◌/◌, ◌<◌, ◌≤◌, List, [], ◌++◌, length, sym}
+use Rattle.std.proofs.Common.{◌≡◌, ℕ, ◌+◌, ◌*◌, ◌%◌, ◌/◌, ◌<◌, List, [], ◌++◌, length, sym}
 use Rattle.std.proofs.Common.{◌∙◌, ap, subst, arith, ⊎_elim}
 use Rattle.std.proofs.lemmas.Nat.{mod-mul-add, div-mul-add, mul-add-lt}
 use Rattle.std.proofs.lemmas.Option.{slice_get_within}
-use Rattle.std.proofs.Math.Nat.{mul-le-mul_right}
 use Rattle.model_history.specs.Rails.{Rails}
 use Rattle.run_step.specs.GatePairs.{GateSignals}
 use Rattle.run_step.specs.WavesOf.{pair_in}
@@ -11,11 +10,6 @@ use Rattle.run_ticks.specs.cases.UnderWaves.{value_at}
 use Rattle.std.specs.Prelude.{slice_get}
 use Rattle.run_step.specs.{Ticks.ValuesAgree, Ticks.ValuesTold}
 use Rattle.model_history.specs.ListLaws.{exists_at, at_append}
-
--- one more tick has room below the horizon
-pub tick_fits : (t h n : ℕ) → t < h → t * n + n ≤ h * n
-tick_fits t h n lt =
-    let le : (t + 1) * n ≤ h * n = mul-le-mul_right n (omega arith) in omega (arith, le)
 
 -- the rails of a value at the place of a gate and a tick
 abbrev pub value_in : {X : Type 0} → (X → ℕ → Rails) → ℕ → List X → ℕ → ℕ → ℕ → Rails

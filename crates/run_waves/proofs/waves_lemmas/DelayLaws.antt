@@ -1,20 +1,13 @@
 -- What comes of a wave through a delay of which the two ends are known.
-use Rattle.std.proofs.Common.{◌≡◌, ℕ, zero, suc, ◌+◌, ◌-◌, ◌≤◌, Bool, List, [], ◌∷◌, ◌<◌, ◌∙◌, ap}
+use Rattle.std.proofs.Common.{◌≡◌, ℕ, ◌+◌, ◌-◌, ◌≤◌, Bool, ◌<◌, ◌∙◌, ap}
 use Rattle.std.proofs.Common.{arith, sym, refl, true, false, ⊎_elim}
-use Rattle.std.proofs.lemmas.Bool.{cases_lt}
+use Rattle.std.proofs.lemmas.Bool.{cases_lt, not-true}
 use Rattle.std.proofs.lemmas.Bool.Decides.{same_from_decides, Decides-like}
 use Rattle.std.specs.Prelude.{◌↔◌, Option, Some, None, is_some, not, IsTrue}
-use Rattle.model_history.specs.Rails.{Rails, Ends, IsSound, rails_delayed, must_of, may_of}
+use Rattle.model_history.specs.Rails.{Rails, Ends, rails_delayed, must_of, may_of}
 use Rattle.model_history.specs.{Comes.AllCome, Comes.SomeComes, Laws.DelaysAreTheirFacts}
 use Rattle.run_signal.specs.Spans.{ends_of}
-use Rattle.run_signal.specs.{declared.tern.Tern.Tern}
-use Rattle.run_signal.specs.{TernLaws.tern_sound}
-use Rattle.run_waves.specs.{waves.Waves.wave_at, waves.Waves.ArrivesAlike, waves.FirstTick.IsFirstOn}
-
-pub wave_sound : (wave : List Tern) (r : ℕ) → IsSound (wave_at wave r)
-wave_sound [] r on = on
-wave_sound (level ∷ wave) zero on = tern_sound level on
-wave_sound (level ∷ wave) (suc r) on = wave_sound wave r on
+use Rattle.run_waves.specs.{waves.Waves.ArrivesAlike, waves.FirstTick.IsFirstOn}
 
 -- the tick that a delay reaches back to
 came : (u : ℕ → Bool) (least greatest t k : ℕ) → AllCome u (ends_of least greatest) t
@@ -38,10 +31,6 @@ on_if : (b : Bool) → not b ≡ false → IsTrue b
 on_if true e = refl
 on_if false e = absurd (let no : true ≡ false = e in cc)
 
-off_if : (b : Bool) → not b ≡ true → b ≡ false
-off_if true e = absurd (let no : false ≡ true = e in cc)
-off_if false e = refl
-
 -- it came at every delay where none of the ticks that delays reach back to is off
 pub all_come_if : (u : ℕ → Bool) (least greatest t : ℕ) (found : Option ℕ) (none : Bool)
     → is_some found ≡ not none → least ≤ greatest → greatest ≤ t
@@ -63,7 +52,7 @@ all_come_if u least greatest t (Some k) false e ordered far first = (
   λ all. absurd (let from : t - greatest ≤ k = first.from_there in
       let within : k < t - least + 1 = first.within in
       let on : u k ≡ true = came u least greatest t k all (omega arith) (omega arith) in
-      let no : true ≡ false = sym on ∙ off_if (u k) first.on in cc),
+      let no : true ≡ false = sym on ∙ not-true (u k) first.on in cc),
 )
 
 -- it came at some delay where one of them is on

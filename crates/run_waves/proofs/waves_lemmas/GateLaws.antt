@@ -1,27 +1,12 @@
 -- Gates where one value decides alone, or leaves the answer to the other argument.
-use Rattle.std.proofs.Common.{◌≡◌, ℕ, ◌<◌, Bool, true, false, ◌&&◌, ◌||◌, refl, sym, ◌∙◌, ap}
+use Rattle.std.proofs.Common.{◌≡◌, ℕ, ◌<◌, Bool, refl, sym, ◌∙◌, ap}
 use Rattle.std.proofs.Common.{inl, inr}
+use Rattle.std.proofs.Math.Bool.{or-false, or-true, and-false, and-true}
 use Rattle.model_history.specs.Rails.{Rails, rails_and, rails_or}
 use Rattle.run_signal.specs.{declared.tern.Tern.Tern, Terns.tern_rails}
 use Rattle.run_signal.specs.declared.tern.Tern.TheVariants.{Zero, One}
 use Rattle.run_waves.specs.declared.waves.runs.Stretch.{Stretch}
 use Rattle.run_waves.specs.waves.Waves.{Decides, Leaves, IsDecided}
-
-and_false : (b : Bool) → (b && false) ≡ false
-and_false true = refl
-and_false false = refl
-
-and_true : (b : Bool) → (b && true) ≡ b
-and_true true = refl
-and_true false = refl
-
-or_false : (b : Bool) → (b || false) ≡ b
-or_false true = refl
-or_false false = refl
-
-or_true : (b : Bool) → (b || true) ≡ true
-or_true true = refl
-or_true false = refl
 
 both_same : (a b c d : Bool) → a ≡ c → b ≡ d
     → let x : Rails = record { must = a; may = b } in let y : Rails = record { must = c; may = d } in
@@ -31,16 +16,16 @@ both_same a b c d first second =
     ∙ ap (λ (e : Bool). record { must = c; may = e }) second
 
 pub zero_decides_and : Decides rails_and Zero
-zero_decides_and x = (refl, both_same _ _ _ _ (and_false x.must) (and_false x.may))
+zero_decides_and x = (refl, both_same _ _ _ _ (and-false x.must) (and-false x.may))
 
 pub one_leaves_and : Leaves rails_and One
-one_leaves_and x = (refl, both_same _ _ _ _ (and_true x.must) (and_true x.may))
+one_leaves_and x = (refl, both_same _ _ _ _ (and-true x.must) (and-true x.may))
 
 pub one_decides_or : Decides rails_or One
-one_decides_or x = (refl, both_same _ _ _ _ (or_true x.must) (or_true x.may))
+one_decides_or x = (refl, both_same _ _ _ _ (or-true x.must) (or-true x.may))
 
 pub zero_leaves_or : Leaves rails_or Zero
-zero_leaves_or x = (refl, both_same _ _ _ _ (or_false x.must) (or_false x.may))
+zero_leaves_or x = (refl, both_same _ _ _ _ (or-false x.must) (or-false x.may))
 
 -- what is decided at a tick is the answer there
 pub decided_there : (op : Rails → Rails → Rails) (decides level : Tern) (first second : Stretch)

@@ -3,7 +3,7 @@ use Rattle.std.proofs.Common.{◌≡◌, ◌≢◌, ◌^◌, ℕ, ◌+◌, ◌-�
 use Rattle.std.proofs.Common.{◌∷◌, ◌++◌, length, take, drop, get_or, Some, None, cond, not, refl}
 use Rattle.std.proofs.Common.{sym, ◌∙◌, ap, arith, append_assoc, subst, ne_eqb, eq-eqb, inl, inr}
 use Rattle.std.proofs.Common.{decimal, fold, leb-true, eqb}
-use Rattle.std.proofs.lemmas.Bool.{le-leb, cases_eq}
+use Rattle.std.proofs.lemmas.Bool.{le-leb, cases_eq, and_parts}
 use Rattle.std.proofs.lemmas.Fmt.{decimal-digits_value}
 use Rattle.std.proofs.lemmas.List.{take-append-drop, drop_more, drop_all, append-nil}
 use Rattle.std.proofs.lemmas.List.Sums.{prefix_len_stops}
@@ -12,6 +12,7 @@ use Rattle.std.proofs.lemmas.Str.Parse.{IsDigitsTest, FoldsDigits, numerals_by_f
 use Rattle.std.specs.Prelude.{nat_le, Option}
 use Rattle.std.specs.List.{list_all, position_or_len}
 use Rattle.base_text.specs.store.Number.{is_digit, with_digit, digits_value, decimal_value, number_of}
+use Rattle.base_text.specs.store.DigitLaws.{digit_is}
 use Rattle.run_signal.specs.declared.tern.Tern.{Tern}
 use Rattle.run_signal.specs.declared.tern.Tern.TheVariants.{Zero, One, Unknown}
 use Rattle.run_waves.specs.waves.Waves.{run_of, levels_of, AreApart, ticks_of, AreRunsOf}
@@ -20,20 +21,15 @@ use Rattle.run_waves.specs.waves.Text.{run_with, run_in, runs_of, runs_text}
 use Rattle.run_waves.specs.declared.waves.runs.Run.{Run}
 use Rattle.run_waves.proofs.waves_lemmas.RunLaws.{new_levels}
 use Rattle.run_waves.proofs.waves_lemmas.LongestRuns.{runs_of-levels_of}
-use Rattle.run_waves.proofs.waves_lemmas.TextLaws.{ReadsOn, items_more, both_true}
+use Rattle.run_waves.proofs.waves_lemmas.TextLaws.{ReadsOn, items_more}
 
 -- ---- a number that is read is written by the same digits
-
-in_range : (byte : ℕ) → is_digit byte ≡ true → (48 ≤ byte) × (byte ≤ 57)
-in_range byte digit =
-    let both = both_true (nat_le 48 byte) (nat_le byte 57) digit in
-    (leb-true 48 byte both.0, leb-true byte 57 both.1)
 
 are_digits_by : IsDigitsTest (λ ds. list_all is_digit ds ≡ true)
 are_digits_by = record {
   empty = refl;
-  parts = λ c cs all. (let both = both_true (is_digit c) (list_all is_digit cs) all in
-      (in_range c both.0, both.1));
+  parts = λ c cs all. (let both = and_parts (is_digit c) (list_all is_digit cs) all in
+      (digit_is c both.0, both.1));
   more = λ c cs range all.
       rw (le-leb 48 c range.0, le-leb c 57 range.1, all) refl;
 }
@@ -48,7 +44,7 @@ digits_back : (ds : List ℕ) (n : ℕ) → 0 < length ds → (get_or ds 0 0 ≡
     → digits_value ds ≡ Some n → ds ≡ decimal n
 digits_back ds n some alone read =
     let told = cond_some _ (decimal_value ds) n read in
-    let both = both_true (list_all is_digit ds) (nat_le (decimal_value ds) (2 ^ 32 - 1)) told.0 in
+    let both = and_parts (list_all is_digit ds) (nat_le (decimal_value ds) (2 ^ 32 - 1)) told.0 in
     let small = leb-true (decimal_value ds) (2 ^ 32 - 1) both.1 in
     sym (decimal-digits_value
     (numerals_by_fold (λ (l : List ℕ). list_all is_digit l ≡ true) are_digits_by

@@ -1,5 +1,5 @@
 -- Items in a row: written one by one, and read back.
-use Rattle.std.proofs.Common.{◌≡◌, ◌≢◌, ◌&&◌, ◌^◌, ℕ, ◌+◌, ◌<◌, ◌≤◌, Bool, true, false, List, []}
+use Rattle.std.proofs.Common.{◌≡◌, ◌≢◌, ◌^◌, ℕ, ◌+◌, ◌<◌, ◌≤◌, Bool, true, List, []}
 use Rattle.std.proofs.Common.{◌∷◌, ◌++◌, length, take, drop, get_or, Some, None, cond, not, refl}
 use Rattle.std.proofs.Common.{sym, ◌∙◌, ap, arith, append_assoc, length-append, subst, ne_eqb, inl}
 use Rattle.std.proofs.Common.{inr, decimal}
@@ -9,6 +9,7 @@ use Rattle.std.proofs.lemmas.Bool.Decides.{leb_tells}
 use Rattle.std.proofs.lemmas.Option.{none-some, same_Some}
 use Rattle.std.specs.Prelude.{nat_le}
 use Rattle.std.specs.List.{list_all, prefix_len, position_or_len}
+use Rattle.std.proofs.lemmas.Bool.{and_parts}
 use Rattle.base_text.specs.store.Number.{is_digit, number_of}
 use Rattle.base_text.specs.store.DecimalLaws.{are_digits, number_of-decimal}
 use Rattle.run_signal.specs.declared.tern.Tern.{Tern}
@@ -54,13 +55,9 @@ abbrev AllOthers : List ℕ → Type 0
 AllOthers [] = Unit {0}
 AllOthers (byte ∷ bytes) = (is_other byte ≡ true) × AllOthers bytes
 
-pub both_true : (a b : Bool) → (a && b) ≡ true → (a ≡ true) × (b ≡ true)
-both_true true b h = (refl, h)
-both_true false b h = cc
-
 digit_is_other : (byte : ℕ) → is_digit byte ≡ true → is_other byte ≡ true
 digit_is_other byte digit =
-    let least = both_true (nat_le 48 byte) (nat_le byte 57) digit in
+    let least = and_parts (nat_le 48 byte) (nat_le byte 57) digit in
     elim (leb_tells 48 byte) [
       | inl fits ↦ ap not (ne_eqb byte 32 (λ e. (let f = fits.1 in omega arith)))
       | inr small ↦ cc (small.0, least.0)
@@ -69,7 +66,7 @@ digit_is_other byte digit =
 digits_are_others : (digits : List ℕ) → list_all is_digit digits ≡ true → AllOthers digits
 digits_are_others [] all = tt
 digits_are_others (digit ∷ digits) all =
-    let first = both_true (is_digit digit) (list_all is_digit digits) all in
+    let first = and_parts (is_digit digit) (list_all is_digit digits) all in
     (digit_is_other digit first.0, digits_are_others digits first.1)
 
 letter_is_other : (level : Tern) → is_other (level_letter level) ≡ true

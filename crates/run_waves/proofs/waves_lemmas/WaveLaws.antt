@@ -4,18 +4,12 @@ use Rattle.std.proofs.Common.{sym, ◌∙◌, ap, arith, length-append, ⊎_elim
 use Rattle.std.proofs.lemmas.Bool.{cases_lt}
 use Rattle.std.proofs.lemmas.List.{append-nil, map-append, length-map, length-replicate}
 use Rattle.std.proofs.lemmas.List.{get_or_append_left}
-use Rattle.std.proofs.lemmas.Option.{slice_get-map, get_or_from_slice_get}
-use Rattle.std.specs.Prelude.{false, slice_get, Some, option_map}
+use Rattle.std.specs.Prelude.{false, slice_get}
 use Rattle.model_history.specs.Rails.{Rails, both, rails_at}
 use Rattle.run_signal.specs.{declared.tern.Tern.Tern, Terns.tern_rails}
 use Rattle.run_waves.specs.waves.Waves.{HasThroughout, wave_at, IsWaveOf}
 use Rattle.run_waves.proofs.waves_lemmas.RunLaws.{in_run}
-
-pub wave_at-level : (wave : List Tern) (level : Tern) (t : ℕ) → slice_get wave t ≡ Some level
-    → wave_at wave t ≡ tern_rails level
-wave_at-level wave level t is =
-    get_or_from_slice_get (map tern_rails wave) t (tern_rails level) (both false)
-    (slice_get-map tern_rails wave t ∙ ap (option_map tern_rails) is)
+use Rattle.run_waves.specs.waves.WaveLaws.{wave_at-level}
 
 pub wave_at-front : (wave more : List Tern) (t : ℕ) → t < length wave
     → wave_at (wave ++ more) t ≡ wave_at wave t

@@ -1,7 +1,8 @@
 use Rattle.std.proofs.Common.{◌∙◌, [], arith}
 use Rattle.std.proofs.lemmas.Result.{err_from_is_err_and}
-use Rattle.call_answer.proofs.Puts.{one_piece_more, pieces_split}
+use Rattle.call_answer.proofs.Puts.{pieces_split}
 use Rattle.base_text.specs.store.SinkLaws.{appends_both, proper_later, proper_more}
+use Rattle.base_text.specs.PieceLaws.{one_piece_more}
 use Rattle.call_answer.proofs.put.put_pieces.Goals as goal
 
 pub returns-in_err-put_all : goal.returns-in_err-put_all

@@ -1,7 +1,7 @@
 use Rattle.std.proofs.Common.{Ok, Err, inl}
-use Rattle.call_answer.specs.{SinkLaws.grew_none, Sinks.sink_view}
+use Rattle.call_answer.specs.{SinkLaws.grew_none, SinkLaws.put_or_part, Sinks.sink_view}
 use Rattle.call_records.specs.{Halts.halt_line, Request.request_of}
-use Rattle.call_records.proofs.Closing.{closed, put_or_part, unwritten}
+use Rattle.call_records.proofs.Closing.{closed, unwritten}
 use Rattle.call_records.proofs.top.records.Goals as goal
 
 pub returns-in-Ok-clause-clauses : goal.returns-in-Ok-clause-clauses

@@ -5,10 +5,11 @@ use Rattle.std.proofs.lemmas.Result.{err_from_is_err_and}
 use Rattle.model_timing.specs.Inside.{IsTimingInside}
 use Rattle.model_timing.specs.NamedValues.{NamedValues, values_of}
 use Rattle.file_tables.specs.timing.Timings.{timings_of}
+use Rattle.call_files.specs.FileLaws.{timings_read}
 use Rattle.call_study.specs.Answers.{answer_by}
 use Rattle.call_work.specs.load.Loaded.{as_read, studied}
 use Rattle.call_work.specs.load.Reading.{play_of, played_of}
-use Rattle.call_study.proofs.Reading.{gives_wider, timings_halt, timings_read}
+use Rattle.call_study.proofs.Reading.{gives_wider, timings_halt}
 use Rattle.call_study.proofs.read.play_over.Goals as goal
 
 pub returns-in_err-timings : goal.returns-in_err-timings

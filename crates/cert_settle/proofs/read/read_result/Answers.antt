@@ -1,5 +1,6 @@
 use Rattle.std.proofs.Common.{◌≡◌, List, [], ◌∷◌, ◌++◌, map, sym, ◌∙◌, ap, arith}
 use Rattle.std.proofs.lemmas.Result.{err_from_is_err_and}
+use Rattle.model_line.specs.SameLineLaws.{same_line}
 use Rattle.model_logic.specs.Choice.{Box, declared_box}
 use Rattle.base_text.specs.lines.LineLaws.{goes_one}
 use Rattle.base_text.specs.{lines.Reading.said_as, lines.ReadLaws.later_fault}
@@ -8,7 +9,7 @@ use Rattle.judge_cases.specs.Nodes.{preorder}
 use Rattle.cert_settle.specs.Grammar.{Stands, opens, result_over, says_node, after_node}
 use Rattle.cert_settle.specs.Grammar.{grammar_of, whole_over}
 use Rattle.judge_cases.specs.Trees.{most_branches}
-use Rattle.cert_settle.proofs.{NodeLaws.same_line, TreeLaws.whole_tree}
+use Rattle.cert_settle.proofs.TreeLaws.{whole_tree}
 use Rattle.cert_settle.proofs.read.read_result.Goals as goal
 
 pub returns-in_default : goal.returns-in_default

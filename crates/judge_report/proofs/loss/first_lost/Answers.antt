@@ -1,9 +1,10 @@
 use Rattle.std.proofs.Common.{ℕ, Option, subst}
 use Rattle.std.specs.Prelude.{MatchOption}
+use Rattle.model_history.specs.ListLaws.{at_index}
 use Rattle.model_line.specs.Parameters.{terminal_count}
 use Rattle.model_logic.specs.Choice.{declared_box}
 use Rattle.judge_report.specs.Lost.{IsScriptHeld, IsFirstTerminal}
-use Rattle.judge_report.proofs.LossLaws.{one_script_more, all_scripts, at_index}
+use Rattle.judge_report.proofs.LossLaws.{one_script_more, all_scripts}
 use Rattle.judge_report.proofs.loss.first_lost.Goals as goal
 
 pub returns-in-Some : goal.returns-in-Some

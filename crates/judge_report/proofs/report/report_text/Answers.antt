@@ -1,10 +1,10 @@
 use Rattle.std.proofs.Common.{◌++◌, ℕ, List, take, map, sym, ◌∙◌, ap}
 use Rattle.std.proofs.lemmas.List.{take_all}
 use Rattle.std.specs.List.{concat}
+use Rattle.base_text.specs.PieceLaws.{one_piece_more}
 use Rattle.model_line.specs.declared.script.Script.{Script}
 use Rattle.model_logic.specs.Histories.{PairHistory, IsPairHistory}
 use Rattle.model_logic.specs.Choice.{declared_box}
-use Rattle.run_changes.specs.rows.RowLaws.{one_piece_more}
 use Rattle.judge_report.specs.ReportText.{report_header, script_rows, report_text_of, AreHistories}
 use Rattle.judge_report.proofs.Texts.{grown}
 use Rattle.judge_report.proofs.report.report_text.Goals as goal

@@ -1,6 +1,7 @@
 use Rattle.std.specs.Prelude.{IsTrue}
-use Rattle.model_history.proofs.ElementLaws.{Decides-true, Decides-every, Decides-some}
+use Rattle.model_history.proofs.ElementLaws.{Decides-every, Decides-some}
 use Rattle.model_history.proofs.element_laws.tests_are_their_facts.Goals as goal
+use Rattle.model_history.specs.TruthLaws.{Decides-true}
 
 pub returns : goal.returns
 returns c = record {

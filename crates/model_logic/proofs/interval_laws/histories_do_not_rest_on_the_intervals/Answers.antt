@@ -1,5 +1,6 @@
-use Rattle.model_logic.proofs.SameHistories.{exchanged, history_same, pair_history_same}
+use Rattle.model_logic.proofs.SameHistories.{history_same, pair_history_same}
 use Rattle.model_logic.proofs.interval_laws.histories_do_not_rest_on_the_intervals.Goals as goal
+use Rattle.model_line.specs.SameLineLaws.{exchanged}
 
 pub returns : goal.returns
 returns c = record {

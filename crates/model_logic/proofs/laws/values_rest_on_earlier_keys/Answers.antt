@@ -1,10 +1,11 @@
 use Rattle.model_logic.specs.Choice.{world_of, pair_world_of}
 use Rattle.model_logic.specs.Logic.{key_tree}
 use Rattle.model_logic.proofs.PairLaws.{pair_mean-past, the_keys-solve}
-use Rattle.model_logic.proofs.WorldLaws.{world_delayed, pair_world_delayed}
+use Rattle.model_logic.proofs.WorldLaws.{world_delayed}
 use Rattle.model_logic.proofs.HistoryLaws.{keys_named}
 use Rattle.model_logic.proofs.PlainLaws.{mean-past}
 use Rattle.model_logic.proofs.laws.values_rest_on_earlier_keys.Goals as goal
+use Rattle.model_logic.specs.BoxLaws.{pair_world_delayed}
 
 pub returns : goal.returns
 returns c = record {

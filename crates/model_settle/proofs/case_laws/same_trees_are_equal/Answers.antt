@@ -1,7 +1,7 @@
 use Rattle.std.proofs.Common.{◌≡◌, true, subst}
 use Rattle.model_logic.specs.Tree.{Tree}
-use Rattle.model_settle.specs.SameTree.{same_tree}
-use Rattle.model_settle.proofs.TreesCompared.{tree-same, tree-itself}
+use Rattle.model_logic.specs.SameTree.{same_tree}
+use Rattle.model_logic.specs.SameTreeLaws.{tree-same, tree-itself}
 use Rattle.model_settle.proofs.case_laws.same_trees_are_equal.Goals as goal
 
 pub returns : goal.returns

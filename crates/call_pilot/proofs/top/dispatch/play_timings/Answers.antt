@@ -4,10 +4,11 @@ use Rattle.std.proofs.lemmas.Result.{err_from_is_err_and}
 use Rattle.model_timing.specs.Inside.{IsTimingInside}
 use Rattle.model_timing.specs.NamedValues.{NamedValues, values_of}
 use Rattle.file_tables.specs.timing.Timings.{timings_of}
+use Rattle.call_files.specs.FileLaws.{timings_read}
 use Rattle.call_pilot.specs.{commands.Play.play_answer, commands.Play.play_asks}
 use Rattle.call_answer.specs.Sinks.{sink_view}
 use Rattle.call_pilot.specs.top.CallAnswers.{done_with}
-use Rattle.call_pilot.proofs.top_lemmas.Reading.{timings_read, timings_stop, works_of_timings}
+use Rattle.call_pilot.proofs.top_lemmas.Reading.{timings_stop, works_of_timings}
 use Rattle.call_pilot.proofs.{top_lemmas.Results.on_done, top_lemmas.Written.works_of_written}
 use Rattle.call_pilot.proofs.top.dispatch.play_timings.Goals as goal
 

@@ -1,11 +1,11 @@
 use Rattle.std.proofs.Common.{ℕ, refl, sym, subst}
 use Rattle.model_logic.specs.Rule.{IsHeld}
+use Rattle.model_logic.specs.RuleLaws.{held_same}
 use Rattle.run_waves.specs.waves.Waves.{wave_at}
 use Rattle.cert_claims.specs.{declared.text.claim.Claim.Claim, text.Grammar.verdict_in}
 use Rattle.cert_claims.specs.declared.check.claim.ClaimFault.TheVariants.{NotHeld}
 use Rattle.cert_claims.specs.check.Verdicts.{IsSupported, IsFaultOf}
 use Rattle.model_history.specs.TruthLaws.{not_both}
-use Rattle.cert_claims.proofs.check_lemmas.HeldRules.{held_same}
 use Rattle.cert_claims.proofs.check.script_check.check_claim.Goals as goal
 
 pub returns-then-is_held : goal.returns-then-is_held

@@ -1,8 +1,9 @@
 use Rattle.std.proofs.Common.{[], refl, sym, ◌∙◌}
 use Rattle.std.proofs.lemmas.List.{append-nil}
+use Rattle.model_line.specs.SameLineLaws.{same_line}
 use Rattle.model_logic.specs.Choice.{declared_box}
 use Rattle.judge_split.specs.Trees.{preorder}
-use Rattle.cert_split.proofs.{check_lemmas.ResultLaws.tree_few, check_lemmas.ResultLaws.whole_not_held, check_lemmas.WalkLaws.same_line}
+use Rattle.cert_split.proofs.check_lemmas.ResultLaws.{tree_few, whole_not_held}
 use Rattle.cert_split.proofs.check.result.check_tree.Goals as goal
 
 pub walk-requires-clause-few : goal.walk-requires-clause-few

@@ -1,5 +1,6 @@
 use Rattle.std.proofs.Common.{◌≡◌, ◌<◌, ◌+◌, ◌++◌, ℕ, List, length, drop, sym, subst, arith}
 use Rattle.std.proofs.lemmas.Result.{err_from_is_err_and, MatchResult-weaker}
+use Rattle.model_line.specs.SameLineLaws.{same_line}
 use Rattle.base_memory.specs.{Gives.OfFault, declared.stopped.Stopped.Stopped}
 use Rattle.model_logic.specs.Choice.{declared_box}
 use Rattle.judge_split.specs.declared.node.Node.{Node}
@@ -11,7 +12,7 @@ use Rattle.cert_split.specs.check.Walks.{IsWalked, IsNotHeldFrom}
 use Rattle.cert_split.proofs.check_lemmas.WalkLaws.{root_at, within, split_next, few_leaves, walked_yes}
 use Rattle.cert_split.proofs.check_lemmas.WalkLaws.{walked_undecided, walked_split, fault_leaf}
 use Rattle.cert_split.proofs.check_lemmas.WalkLaws.{fault_first}
-use Rattle.cert_split.proofs.check_lemmas.WalkLaws.{fault_second, same_line}
+use Rattle.cert_split.proofs.check_lemmas.WalkLaws.{fault_second}
 use Rattle.cert_split.proofs.check.tree.+walk.Goals as goal
 
 -- ---- the node

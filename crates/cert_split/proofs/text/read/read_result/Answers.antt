@@ -1,12 +1,13 @@
 use Rattle.std.proofs.Common.{◌≡◌, List, [], ◌∷◌, ◌++◌, map, sym, ◌∙◌, ap}
 use Rattle.std.proofs.lemmas.Result.{err_from_is_err_and}
+use Rattle.model_line.specs.SameLineLaws.{same_line}
 use Rattle.model_logic.specs.Choice.{Box, declared_box}
 use Rattle.judge_split.specs.{declared.node.Node.Node, Trees.preorder}
 use Rattle.base_text.specs.lines.LineLaws.{goes_one, refused}
 use Rattle.base_text.specs.{lines.Reading.said_as, lines.ReadLaws.later_fault}
 use Rattle.cert_split.specs.text.Grammar.{Stands, opens, result_over, says_node, says_fails, below}
 use Rattle.cert_split.specs.text.Grammar.{grammar_of}
-use Rattle.cert_split.proofs.{text_lemmas.NodeLaws.not_result, text_lemmas.NodeLaws.same_line, text_lemmas.TreeLaws.whole_tree}
+use Rattle.cert_split.proofs.{text_lemmas.NodeLaws.not_result, text_lemmas.TreeLaws.whole_tree}
 use Rattle.cert_split.proofs.text.read.read_result.Goals as goal
 
 pub returns-in-Some : goal.returns-in-Some

@@ -1,7 +1,8 @@
 use Rattle.std.proofs.Common.{◌≡◌, ◌<◌, ◌≤◌, ◌++◌, ℕ, List, length, sym, ◌∙◌, ap, subst, arith}
 use Rattle.std.proofs.lemmas.List.{append-nil}
 use Rattle.std.specs.Prelude.{OnOk}
-use Rattle.draw_gates.proofs.dump_lemmas.NameLaws.{name_there, name_past}
+use Rattle.model_line.specs.ParamNameLaws.{name_of-got}
+use Rattle.draw_gates.proofs.dump_lemmas.NameLaws.{name_past}
 use Rattle.draw_gates.proofs.dump.names.put_name.Goals as goal
 
 pub returns-then-k-len : goal.returns-then-k-len
@@ -10,7 +11,7 @@ returns-then-k-len c =
     let old : List ℕ = c.args.text.now.items in
     let lt : c.args.k < length c.args.line.now.terminals.items = omega arith in
     subst (λ (l : List ℕ). OnOk c.put.result (c.put.new.text.items ≡ old ++ l))
-    (c.bytes.ensures.same ∙ sym (name_there ts c.args.k c.index.result.now lt c.index.ensures))
+    (c.bytes.ensures.same ∙ sym (name_of-got ts c.args.k c.index.result.now lt c.index.ensures))
     c.put.ensures
 
 pub returns-else-k-len : goal.returns-else-k-len

@@ -1,10 +1,10 @@
 use Rattle.std.proofs.Common.{◌≡◌, ◌++◌, ℕ, List, length, refl, ◌∙◌, ap, subst, sym}
 use Rattle.std.specs.Prelude.{OnOk, codes}
 use Rattle.model_line.specs.ParamNames.{name_at}
+use Rattle.model_line.specs.ParamNameLaws.{name_of-got}
 use Rattle.net_gates.specs.NetOf.{key_of, trip_of}
 use Rattle.run_changes.specs.rows.PlayRows.{each_below}
 use Rattle.draw_gates.specs.dump.Variables.{variable_text, variable_at, scope_text, terminal_scope}
-use Rattle.draw_gates.proofs.dump_lemmas.NameLaws.{name_there}
 use Rattle.draw_gates.proofs.dump_lemmas.TextLaws.{piece_more}
 use Rattle.draw_gates.proofs.dump.variables.put_terminal.Goals as goal
 
@@ -27,7 +27,7 @@ returns c =
     let t4 : List ℕ = c.put_end-2.new.text.items in
     let named : c.bytes.result.now ≡ name =
     c.bytes.ensures.same
-    ∙ sym (name_there line.terminals.items k c.index.result.now c.requires.exists c.index.ensures) in
+    ∙ sym (name_of-got line.terminals.items k c.index.result.now c.requires.exists c.index.ensures) in
     let e1 : t1 ≡ old ++ scope =
     c.in_ok-put_scope.ensures ∙ ap (λ (l : List ℕ). old ++ scope_text l) named in
     let e2 : t2 ≡ old ++ (scope ++ gates) =

@@ -1,7 +1,7 @@
 use Rattle.net_gates.specs.Formulas.{formula_of}
 use Rattle.draw_gates.specs.roles.Roles.{tree_of}
-use Rattle.draw_gates.proofs.roles_lemmas.TreesCompared.{tree-same}
 use Rattle.draw_gates.proofs.roles.laws.a_role_stands_for_its_tree.Goals as goal
+use Rattle.model_logic.specs.SameTreeLaws.{tree-same}
 
 pub returns : goal.returns
 returns c = λ line gates role i has.

@@ -1,5 +1,4 @@
-use Rattle.draw_gates.specs.roles.Roles.{channel_roles}
-use Rattle.draw_gates.proofs.roles_lemmas.Lists.{list_more}
+use Rattle.draw_gates.specs.{roles.EachLaws.list_more, roles.Roles.channel_roles}
 use Rattle.draw_gates.proofs.roles.roles.push_channels.Goals as goal
 
 pub loop-c-preserved : goal.loop-c-preserved

@@ -1,5 +1,5 @@
+use Rattle.draw_gates.specs.roles.EachLaws.{list_more}
 use Rattle.draw_run.specs.diagram.Traces.{loss_at}
-use Rattle.draw_run.proofs.diagram_lemmas.Lists.{list_more}
 use Rattle.draw_run.proofs.diagram.trace.push_losses.Goals as goal
 
 pub loop-c-preserved : goal.loop-c-preserved

@@ -1,5 +1,6 @@
 use Rattle.std.proofs.Common.{◌≡◌, ◌++◌}
-use Rattle.draw_run.specs.diagram.Traces.{loss_at, each_of}
+use Rattle.draw_gates.specs.roles.Each.{each_of}
+use Rattle.draw_run.specs.diagram.Traces.{loss_at}
 use Rattle.draw_run.proofs.diagram.trace.push_losses.Given as goal
 
 abbrev pub invariant-loop-c : goal.invariant-loop-c

@@ -1,7 +1,8 @@
 use Rattle.std.proofs.Common.{◌≡◌, ℕ, length, subst, sym, ◌∙◌, ap, arith}
 use Rattle.std.specs.List.{All}
 use Rattle.model_line.specs.Parameters.{terminal_count}
-use Rattle.draw_run.specs.diagram.Traces.{IsTraceOf, each_of, traces_at}
+use Rattle.draw_gates.specs.roles.Each.{each_of}
+use Rattle.draw_run.specs.diagram.Traces.{IsTraceOf, traces_at}
 use Rattle.draw_run.proofs.diagram_lemmas.TraceLaws.{traces_are_of_line}
 use Rattle.draw_run.proofs.diagram.trace.traces.Goals as goal
 

@@ -1,5 +1,5 @@
+use Rattle.draw_gates.specs.roles.EachLaws.{list_more}
 use Rattle.draw_run.specs.layout.Axis.{round_tick}
-use Rattle.draw_run.proofs.layout_lemmas.Lists.{list_more}
 use Rattle.draw_run.proofs.layout.axis.put_ticks.Goals as goal
 
 pub loop-t-preserved : goal.loop-t-preserved

@@ -1,6 +1,6 @@
 use Rattle.std.proofs.Common.{◌≡◌, ◌++◌}
 use Rattle.draw_shapes.specs.Seen.{figures_seen}
-use Rattle.draw_run.specs.diagram.Traces.{each_of}
+use Rattle.draw_gates.specs.roles.Each.{each_of}
 use Rattle.draw_run.specs.layout.Axis.{round_tick}
 use Rattle.draw_run.proofs.layout.axis.put_ticks.Given as goal
 

@@ -1,7 +1,7 @@
 use Rattle.std.proofs.Common.{[]}
 use Rattle.file_records.specs.tracks.Tracks.{track_values}
 use Rattle.file_records.specs.tracks.Fields.{change_at}
-use Rattle.file_records.proofs.tracks_lemmas.Items.{items_more}
+use Rattle.file_records.proofs.recorded_lemmas.Items.{items_more}
 use Rattle.file_records.proofs.tracks.changes.changes_of.Goals as goal
 
 pub loop-t-preserved : goal.loop-t-preserved

@@ -8,5 +8,5 @@ returns c =
     (c.in_ok-from_slice.ensures.items ∙ c.config_name.ensures)
     c.in_ok-signal_fields.ensures
     c.in_ok-channel_text.ensures
-    (c.in_ok-from_slice-2.ensures.items ∙ c.level_text.ensures)
+    (c.in_ok-from_slice-2.ensures.items ∙ c.level_word.ensures)
     c.in_ok-course.ensures

@@ -3,7 +3,7 @@ use Rattle.file_records.specs.map.Recorders.{recorder_values}
 use Rattle.file_tables.specs.script.Printed.{records_text}
 use Rattle.file_records.specs.tracks.Tracks.{placed_values, track_values}
 use Rattle.file_records.specs.tracks.Rows.{header_record, record_at}
-use Rattle.file_records.proofs.tracks_lemmas.Items.{rows_more}
+use Rattle.file_records.proofs.recorded_lemmas.Items.{rows_more}
 use Rattle.file_records.proofs.tracks.table.sources_text.Goals as goal
 
 pub loop-i-preserved : goal.loop-i-preserved

@@ -2,8 +2,9 @@ use Rattle.std.proofs.Common.{◌≡◌, ◌∙◌, length, sym, ap, arith, true
 use Rattle.std.proofs.lemmas.Bool.{ltb-true}
 use Rattle.model_line.specs.{Fits.exists_in, ParamNames.pair_name}
 use Rattle.model_line.specs.declared.script.What.TheVariants as what
+use Rattle.model_line.specs.ParamNameLaws.{name_of-got}
 use Rattle.file_tables.specs.script.Printed.{item_text, place_text}
-use Rattle.file_tables.specs.script.NamingLaws.{name_of-got, channel_name-got, ends_of-got}
+use Rattle.file_tables.specs.script.NamingLaws.{channel_name-got, ends_of-got}
 use Rattle.file_tables.proofs.script.print.push_row.Goals as goal
 
 pub channel_name-place-requires-clause-from : goal.channel_name-place-requires-clause-from

@@ -8,9 +8,9 @@ use Rattle.model_line.specs.declared.line.Line.{Line}
 use Rattle.model_timing.specs.declared.named_timing.NamedTiming.{NamedTiming}
 use Rattle.model_timing.specs.NamedValues.{NamedValues, values_of}
 use Rattle.csv.specs.Writing.{row_text, default_writer}
+use Rattle.file_tables.specs.script.Printed.{records_text}
 use Rattle.file_tables.specs.timing.Row.{header_record}
 use Rattle.file_tables.specs.timing.Printed.{MayStand, timing_records, file_records}
-use Rattle.file_tables.specs.timing.Printed.{records_text}
 use Rattle.file_tables.proofs.timing.print.print_timings.Goals as goal
 
 -- the timing at a place

@@ -4,7 +4,8 @@ use Rattle.std.proofs.lemmas.List.{take_more, append-nil, length-take-le}
 use Rattle.std.proofs.lemmas.List.Concat.{flat_map-append}
 use Rattle.csv.specs.Writing.{row_text, default_writer}
 use Rattle.model_line.specs.declared.line.Line.{Line}
-use Rattle.file_tables.specs.timing.Printed.{number_record, number_records, records_text}
+use Rattle.file_tables.specs.script.Printed.{records_text}
+use Rattle.file_tables.specs.timing.Printed.{number_record, number_records}
 use Rattle.file_tables.proofs.timing.print.push_numbers.Goals as goal
 
 -- one number more

@@ -2,11 +2,12 @@ use Rattle.std.proofs.Common.{◌≡◌, ◌<◌, ◌≤◌, ◌||◌, ℕ, Bool
 use Rattle.std.proofs.Common.{⊎_elim, inl, inr}
 use Rattle.std.proofs.lemmas.Option.{slice_get_within}
 use Rattle.std.specs.Prelude.{Decides}
+use Rattle.std.proofs.lemmas.Bool.{or_right, or_left}
 use Rattle.model_history.specs.Rails.{must_of}
 use Rattle.model_settle.specs.Under.{SomeIsExcluded}
 use Rattle.run_signal.specs.Bits.{bit_on}
-use Rattle.judge_cases.specs.{Views.view_box}
-use Rattle.judge_cases.proofs.HeldLaws.{or_either, or_left, or_right}
+use Rattle.judge_cases.specs.Views.{view_box}
+use Rattle.judge_cases.proofs.HeldLaws.{or_either}
 use Rattle.judge_cases.proofs.analysis.Analysis.shown.Goals as goal
 
 pub returns : goal.returns

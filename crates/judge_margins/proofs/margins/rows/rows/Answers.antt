@@ -1,12 +1,13 @@
 use Rattle.std.proofs.Common.{◌≡◌, ℕ, Some, List, ◌∙◌, sym, subst, length, ap, arith}
 use Rattle.std.proofs.lemmas.Option.{slice_get_read}
 use Rattle.std.specs.Prelude.{slice_get}
+use Rattle.model_history.specs.ListLaws.{all_at}
 use Rattle.model_line.specs.{Fits.Fits, Parameters.terminal_count}
 use Rattle.judge_verdict.specs.boxes.Spans.{SpanLists}
 use Rattle.judge_report.specs.declared.upper_end.Lost.{Lost}
 use Rattle.judge_margins.specs.margins.Asks.{AreAskSpans, IsRow}
 use Rattle.judge_margins.proofs.{margins_lemmas.EachLaws.all_of, margins_lemmas.EachLaws.none_yet, margins_lemmas.EachLaws.one_more}
-use Rattle.judge_margins.proofs.{margins_lemmas.KeptLaws.one_of_all, margins_lemmas.RowLaws.asks_delayed, margins_lemmas.RowLaws.row_is}
+use Rattle.judge_margins.proofs.{margins_lemmas.RowLaws.asks_delayed, margins_lemmas.RowLaws.row_is}
 use Rattle.judge_margins.proofs.margins.rows.rows.Goals as goal
 
 pub script_of-script-requires : goal.script_of-script-requires
@@ -56,7 +57,7 @@ held_lanes-requires-clause-deadline c =
     let of = c.args.of.now in
     let script = c.script_of-script.result.now in
     c.laws_below.ensures.lines.deadlines of.compiled.line.now script
-    (one_of_all (Fits of.compiled.line.now) of.scripts.now of.script script c.requires.group.fit
+    (all_at (Fits of.compiled.line.now) of.scripts.now of.script script c.requires.group.fit
     c.script_of-script.ensures)
 
 pub held_lanes-requires-clause-horizon : goal.held_lanes-requires-clause-horizon

@@ -1,9 +1,9 @@
 use Rattle.std.proofs.Common.{◌≡◌, ◌<◌, ◌≤◌, ◌∙◌, ap, arith, subst, sym, length, ℕ, false, true, ⊎_elim}
 use Rattle.std.proofs.lemmas.Bool.{cases_lt}
+use Rattle.model_history.specs.ListLaws.{at_index}
 use Rattle.run_changes.specs.changes.PlayedTracks.{is_shown}
 use Rattle.judge_match.specs.explain.Changes.{HaveSameChanges}
 use Rattle.judge_match.specs.declared.explain.recorded.Recorded.{Recorded}
-use Rattle.judge_match.proofs.explain_lemmas.ListLaws.{indexed}
 use Rattle.judge_match.proofs.explain_lemmas.PlayLaws.{one_near}
 use Rattle.judge_match.proofs.explain.play.are_all_near.Goals as goal
 
@@ -19,8 +19,8 @@ loop-k-preserved c = λ u are j below.
     one_near q.compiled.line.now q.within u all tracks c.loop-k.k c.index-all-k.result
     c.index-tracks-k.result
     c.deref.result.now c.deref-in-loop-k.result.now are c.requires.tracks
-    (indexed all c.loop-k.k c.index-all-k.result there c.index-all-k.is)
-    (indexed tracks c.loop-k.k c.index-tracks-k.result inside c.index-tracks-k.is)
+    (at_index all c.loop-k.k c.index-all-k.result there c.index-all-k.is)
+    (at_index tracks c.loop-k.k c.index-tracks-k.result inside c.index-tracks-k.is)
     (c.deref.ensures.value ∙ ap (λ (r : Recorded). r.changes.items) (sym c.index-all-k.is))
     (c.deref-in-loop-k.ensures.value ∙ c.in_ok-played.ensures) in
     ⊎_elim
@@ -44,8 +44,8 @@ returns-then-not-are_near c = λ u are.
     one_near q.compiled.line.now q.within u all tracks c.loop-k.k c.index-all-k.result
     c.index-tracks-k.result
     c.deref.result.now c.deref-in-loop-k.result.now are c.requires.tracks
-    (indexed all c.loop-k.k c.index-all-k.result there c.index-all-k.is)
-    (indexed tracks c.loop-k.k c.index-tracks-k.result inside c.index-tracks-k.is)
+    (at_index all c.loop-k.k c.index-all-k.result there c.index-all-k.is)
+    (at_index tracks c.loop-k.k c.index-tracks-k.result inside c.index-tracks-k.is)
     (c.deref.ensures.value ∙ ap (λ (r : Recorded). r.changes.items) (sym c.index-all-k.is))
     (c.deref-in-loop-k.ensures.value ∙ c.in_ok-played.ensures) in (
       λ no. absurd (let off : false ≡ true = no in cc),

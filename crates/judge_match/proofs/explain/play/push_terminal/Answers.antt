@@ -1,11 +1,12 @@
 use Rattle.std.proofs.Common.{◌≡◌, ◌<◌, ◌∙◌, ◌++◌, arith, List, ℕ, true, false, length}
+use Rattle.model_history.specs.ListLaws.{at_index}
+use Rattle.base_text.specs.lines.AnswerLaws.{on_ok}
 use Rattle.run_signal.specs.SentKeys.{SentKeys}
 use Rattle.run_signal.specs.declared.level.Level.{Level}
 use Rattle.run_changes.specs.changes.PlayedTracks.{played}
 use Rattle.judge_match.specs.explain.Answers.{paired, paired_signal, paired_terminal}
 use Rattle.judge_match.specs.explain.Asked.{recorded_of}
 use Rattle.judge_match.specs.declared.explain.paired.Paired.{Paired}
-use Rattle.judge_match.proofs.explain_lemmas.ListLaws.{indexed, on_ok_weaker}
 use Rattle.judge_match.proofs.explain_lemmas.PlayLaws.{signal_rows, rows_grow}
 use Rattle.judge_match.proofs.explain.play.push_terminal.Goals as goal
 
@@ -30,11 +31,11 @@ returns c =
     let first : mid ≡ rows ++ paired_signal line rec h false k =
     signal_rows line q.within rec.key q.keys.items keys k c.index-3.result.now c.index.result.now
     c.deref.result.now c.deref-2.result.now false rows mid c.requires.question.keys c.requires.keys
-    (indexed q.keys.items k c.index-3.result.now kept_keys c.index-3.ensures)
-    (indexed keys k c.index.result.now in_keys c.index.ensures)
+    (at_index q.keys.items k c.index-3.result.now kept_keys c.index-3.ensures)
+    (at_index keys k c.index.result.now in_keys c.index.ensures)
     c.deref.ensures.value (c.deref-2.ensures.value ∙ c.in_ok-keys.ensures)
     c.in_ok-push_paired.ensures in
-    on_ok_weaker
+    on_ok
     (new ≡ mid ++ paired k true true c.deref-3.result.now c.deref-4.result.now)
     (new ≡ rows ++ paired_terminal line rec h k) c.push_paired-2.result
     (λ is. rows_grow rows mid new (paired_signal line rec h false k)
@@ -42,7 +43,7 @@ returns c =
     (signal_rows line q.within rec.trip q.trips.items trips k c.index-4.result.now
     c.index-2.result.now c.deref-3.result.now c.deref-4.result.now true mid new
     c.requires.question.trips c.requires.trips
-    (indexed q.trips.items k c.index-4.result.now kept_trips c.index-4.ensures)
-    (indexed trips k c.index-2.result.now in_trips c.index-2.ensures)
+    (at_index q.trips.items k c.index-4.result.now kept_trips c.index-4.ensures)
+    (at_index trips k c.index-2.result.now in_trips c.index-2.ensures)
     c.deref-3.ensures.value (c.deref-4.ensures.value ∙ c.in_ok-trips.ensures) is))
     c.push_paired-2.ensures

@@ -1,8 +1,9 @@
 use Rattle.std.proofs.Common.{sym, subst}
+use Rattle.run_step.specs.BlockLaws.{block_point, block_delayed}
 use Rattle.model_timing.specs.{Choice.timing_choice, Candidates.candidate}
 use Rattle.model_line.specs.Parameters.{param_count}
 use Rattle.model_timing.specs.Blocks.{candidate_in, AreBlockSpans}
-use Rattle.judge_match.proofs.matching_lemmas.BlockLaws.{block_point, block_delayed, giving_told}
+use Rattle.judge_match.proofs.matching_lemmas.BlockLaws.{giving_told}
 use Rattle.judge_match.proofs.matching.block.giving_lanes.Goals as goal
 
 pub agreeing_lanes-requires-clause-delayed : goal.agreeing_lanes-requires-clause-delayed

@@ -1,15 +1,17 @@
 use Rattle.std.proofs.Common.{◌≡◌, ℕ, Bool, List, Some, sym, ◌∙◌, subst, arith}
 use Rattle.std.proofs.lemmas.Option.{slice_get_read}
 use Rattle.std.specs.Prelude.{slice_get, IsTrue, IsFalse}
+use Rattle.std.proofs.lemmas.Bool.{not-true}
 use Rattle.model_line.specs.{declared.line.Line.Line, declared.script.Script.Script}
 use Rattle.model_line.specs.Parameters.{terminal_count}
 use Rattle.model_logic.specs.{Choice.Choice, Histories.MeetsBy}
+use Rattle.model_logic.specs.RuleLaws.{meets_same}
 use Rattle.model_timing.specs.{declared.step.Step.Step, Timing.TimingValues, Choice.timing_choice}
 use Rattle.run_changes.specs.changes.PlayedTracks.{played, shown_is}
 use Rattle.run_signal.specs.Levels.{level_signal}
 use Rattle.run_step.specs.{LaneBox.lane_box, Played.ends_of_tick, Runs.AreDelayed}
 use Rattle.run_step.specs.Runs.{IsPoint}
-use Rattle.judge_settle.proofs.corner_lemmas.Played.{meets_same, opposite, same_way}
+use Rattle.judge_settle.proofs.corner_lemmas.Played.{same_way}
 use Rattle.judge_settle.proofs.corner.play.fails.Goals as goal
 
 pub run_tracks-requires-clause-delayed : goal.run_tracks-requires-clause-delayed
@@ -54,7 +56,7 @@ returns c =
             let yes : IsTrue c.meets.result = c.meets.ensures.1
             (subst (λ (u : ℕ → Bool). MeetsBy script.kind script.deadline line.horizon u)
             (shown_is trips k track at) met) in
-            let no : IsFalse c.meets.result = opposite c.meets.result told in
+            let no : IsFalse c.meets.result = not-true c.meets.result told in
             absurd (cc);
       };
       passes = λ told. λ h is_h.

@@ -1,8 +1,9 @@
 use Rattle.std.proofs.Common.{◌≡◌, List, Some, length, sym, subst}
 use Rattle.std.specs.Prelude.{slice_get}
+use Rattle.model_history.specs.ListLaws.{last_push}
 use Rattle.judge_cases.specs.declared.view.View.{View}
 use Rattle.judge_settle.proofs.settle_lemmas.TreeLaws.{leaf_yes}
-use Rattle.judge_settle.proofs.settle_lemmas.LeafLaws.{last_at, one_more}
+use Rattle.judge_settle.proofs.settle_lemmas.LeafLaws.{one_more}
 use Rattle.judge_settle.proofs.settle.leaves.taken_leaf.Goals as goal
 
 pub returns-clause-grown : goal.returns-clause-grown
@@ -12,7 +13,7 @@ returns-clause-grown c = λ line script k size shown.
     let after = c.push.new.self.items in
     let at : slice_get after (length before) ≡ Some view =
     subst (λ (l : List View). slice_get l (length before) ≡ Some view)
-    (sym c.in_ok-push.ensures.items) (last_at before view) in
+    (sym c.in_ok-push.ensures.items) (last_push before view) in
     leaf_yes line script k view size c.in_ok-tree.tree c.in_ok-tree.ensures.nodes
     c.in_ok-tree.ensures.yes
     (λ box assumed views.

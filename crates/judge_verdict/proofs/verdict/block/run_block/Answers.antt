@@ -9,7 +9,7 @@ use Rattle.run_changes.specs.changes.Until.{ReachTick}
 use Rattle.model_line.specs.Parameters.{param_count, terminal_count}
 use Rattle.model_timing.specs.Blocks.{candidate_in, AreBlockSpans}
 use Rattle.judge_verdict.specs.verdict.Candidates.{looked_at, trips_in}
-use Rattle.judge_verdict.proofs.verdict_lemmas.BlockLaws.{block_point, block_delayed}
+use Rattle.run_step.specs.BlockLaws.{block_point, block_delayed}
 use Rattle.judge_verdict.proofs.verdict.block.run_block.Goals as goal
 
 pub run_tracks_until-requires-clause-delayed : goal.run_tracks_until-requires-clause-delayed

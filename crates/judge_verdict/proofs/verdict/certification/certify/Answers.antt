@@ -4,10 +4,12 @@ use Rattle.std.specs.Prelude.{slice_get}
 use Rattle.model_logic.specs.Choice.{Choice, DelaysFromOne, IsInside, declared_box}
 use Rattle.model_logic.specs.Histories.{PairHistory, IsPairHistory}
 use Rattle.model_logic.specs.Rule.{Broken, rule_of}
+use Rattle.model_logic.specs.RuleLaws.{only_unknown, same_meets}
 use Rattle.model_line.specs.Parameters.{terminal_count}
+use Rattle.model_line.specs.DeadlineLaws.{deadline_early}
 use Rattle.model_timing.specs.Timing.{TimingValues}
 use Rattle.model_timing.specs.{Choice.timing_choice, Candidates.candidate}
-use Rattle.model_timing.specs.{Candidates.candidate_count}
+use Rattle.model_timing.specs.Candidates.{candidate_count}
 use Rattle.judge_verdict.specs.verdict.PairWavesOf.{pair_history}
 use Rattle.model_history.specs.ListLaws.{exists_at}
 use Rattle.judge_verdict.specs.declared.verdict.verdict.Verdict.{Verdict}
@@ -15,10 +17,9 @@ use Rattle.judge_verdict.specs.declared.verdict.verdict.Verdict.TheVariants.{Yes
 use Rattle.judge_verdict.specs.declared.verdict.standing.Standing.{Standing}
 use Rattle.judge_verdict.specs.verdict.Verdicts.{PassesAt, IsRefuted, IsOpen, IsRefutation, AreVerdicts}
 use Rattle.judge_verdict.specs.verdict.Standings.{verdict_as}
-use Rattle.judge_verdict.proofs.verdict_lemmas.FailingLaws.{same_meets}
 use Rattle.judge_verdict.proofs.verdict_lemmas.VerdictLaws.{verdicts_at_end, standing_of_line, broken_first}
-use Rattle.judge_verdict.proofs.verdict_lemmas.VerdictLaws.{only_unknown, rule_same, keys_same, verdicts_same}
-use Rattle.judge_verdict.proofs.verdict_lemmas.VerdictLaws.{deadline_early, printable_keys, printable_verdicts}
+use Rattle.judge_verdict.proofs.verdict_lemmas.VerdictLaws.{rule_same, keys_same, verdicts_same}
+use Rattle.judge_verdict.proofs.verdict_lemmas.VerdictLaws.{printable_keys, printable_verdicts}
 use Rattle.judge_verdict.proofs.verdict.certification.certify.Goals as goal
 
 pub verdicts-requires : goal.verdicts-requires

@@ -1,7 +1,7 @@
 use Rattle.std.proofs.Common.{◌≡◌, ◌-◌, ◌<◌, ℕ, List, length, sym, ◌∙◌, arith}
 use Rattle.run_signal.specs.declared.tern.Tern.{Tern}
 use Rattle.run_waves.specs.waves.Waves.{wave_at}
-use Rattle.judge_verdict.proofs.verdict_lemmas.TrackLaws.{level_at}
+use Rattle.run_waves.specs.waves.WaveLaws.{wave_at-level}
 use Rattle.judge_verdict.proofs.verdict.track_waves.track_wave.Goals as goal
 
 pub stretches-preserved : goal.stretches-preserved
@@ -21,6 +21,6 @@ stretches-preserved c =
       );
       values = c.waves_grow.ensures.ticks wave c.push.new.self c.at.result n (wave_at track)
           c.stretches.invariant.values c.in_ok-push.ensures
-          (λ k low high. sym (level_at track c.at.result t c.at.ensures)
+          (λ k low high. sym (wave_at-level track c.at.result t c.at.ensures)
           ∙ sym (stays.same k (omega arith) (omega arith)));
     }

@@ -5,7 +5,7 @@ use Rattle.std.specs.Prelude.{vec_capacity}
 use Rattle.model_line.specs.Parameters.{terminal_count}
 use Rattle.model_logic.specs.PairMean.{PairWorld}
 use Rattle.model_logic.specs.Choice.{pair_world_of}
-use Rattle.model_logic.specs.{Tree.Tree}
+use Rattle.model_logic.specs.Tree.{Tree}
 use Rattle.model_settle.specs.Under.{pair_under}
 use Rattle.net_gates.specs.NetOf.{key_of, AreGatesOf}
 use Rattle.run_step.specs.{GatePairs.GateSignals, Ticks.AreSent, Ticks.KeysSent}
@@ -14,7 +14,8 @@ use Rattle.run_ticks.specs.cases.Ticks.{IsReady, LaneStands, under_pairs, own_pa
 use Rattle.run_ticks.specs.cases.Given.{CanReceive, IsWorldAt, span_box, spans_at}
 use Rattle.run_ticks.proofs.cases_lemmas.GivenLaws.{can_receive, world_at}
 use Rattle.run_step.specs.SendLaws.{none_sent, fresh_sent, one_tick_sent}
-use Rattle.run_ticks.proofs.cases_lemmas.ValueLaws.{tick_fits, values_none, values_more}
+use Rattle.run_step.specs.ValueLaws.{tick_fits}
+use Rattle.run_ticks.proofs.cases_lemmas.ValueLaws.{values_none, values_more}
 use Rattle.run_ticks.proofs.cases_lemmas.UnderLaws.{gates_told}
 use Rattle.run_ticks.proofs.cases.ticks.run_ticks.Goals as goal
 

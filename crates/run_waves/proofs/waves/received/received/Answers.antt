@@ -3,8 +3,8 @@ use Rattle.std.proofs.lemmas.Bool.Decides.{same_from_decides}
 use Rattle.model_history.specs.Rails.{Ends, Rails, rails_delayed}
 use Rattle.run_signal.specs.Spans.{ends_of}
 use Rattle.run_waves.specs.waves.Waves.{wave_at}
-use Rattle.run_waves.proofs.waves_lemmas.DelayLaws.{wave_sound}
 use Rattle.run_waves.proofs.waves.received.received.Goals as goal
+use Rattle.run_waves.specs.waves.WaveLaws.{wave_sound}
 
 pub returns : goal.returns
 returns c =

@@ -5,7 +5,7 @@ use Rattle.std.proofs.lemmas.Bool.{and_parts, and_from}
 use Rattle.model_line.specs.{declared.script.Place.Place, Seen.same_place}
 use Rattle.model_logic.specs.declared.time.Time.{Time}
 use Rattle.model_logic.specs.Tree.{Tree, Const, Seen, Loss, Raw, Not, And, Or, Timer, Seal}
-use Rattle.model_settle.specs.SameTree.{same_value, same_time, same_tree}
+use Rattle.model_logic.specs.SameTree.{same_value, same_time, same_tree}
 
 value-same : (v w : Bool) → same_value v w ≡ true → v ≡ w
 value-same true true e = refl
@@ -17,10 +17,10 @@ value-itself : (v : Bool) → same_value v v ≡ true
 value-itself true = refl
 value-itself false = refl
 
-place-same : (p q : Place) → same_place p q ≡ true → p ≡ q
+pub place-same : (p q : Place) → same_place p q ≡ true → p ≡ q
 place-same p q e = search rules
 
-place-itself : (p : Place) → same_place p p ≡ true
+pub place-itself : (p : Place) → same_place p p ≡ true
 place-itself p = search rules
 
 time-same : (p q : Time) → same_time p q ≡ true → p ≡ q

@@ -1,6 +1,5 @@
--- Lists made of a list for each number.
-use Rattle.std.proofs.Common.{◌≡◌, ◌<◌, ◌+◌, ◌++◌, ◌∷◌, [], ℕ, zero, suc, List, ◌∙◌, ap, arith}
-use Rattle.std.proofs.Common.{append_assoc}
+-- Laws of lists made of a list for each number.
+use Rattle.std.proofs.Common.{◌≡◌, ◌<◌, ◌+◌, ◌++◌, ℕ, zero, suc, List, ◌∙◌, ap, arith, append_assoc}
 use Rattle.std.proofs.lemmas.List.Elements.{All-nil, All-append}
 use Rattle.std.specs.List.{All}
 use Rattle.draw_gates.specs.roles.Each.{each_of}

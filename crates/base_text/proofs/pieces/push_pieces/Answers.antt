@@ -1,8 +1,8 @@
 use Rattle.std.proofs.Common.{◌≡◌, ◌++◌, List, ℕ, Bor, [], map, take, sym, ◌∙◌, ap, arith}
 use Rattle.std.proofs.Common.{append_assoc, get_or, ◌+◌}
 use Rattle.std.specs.List.{concat}
-use Rattle.run_changes.specs.rows.RowLaws.{one_piece_more}
-use Rattle.file_records.proofs.recorded.put.put.Goals as goal
+use Rattle.base_text.specs.PieceLaws.{one_piece_more}
+use Rattle.base_text.proofs.pieces.push_pieces.Goals as goal
 
 pub loop-piece-preserved : goal.loop-piece-preserved
 loop-piece-preserved c =

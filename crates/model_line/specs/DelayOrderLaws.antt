@@ -7,15 +7,15 @@ use Rattle.model_line.specs.Parameters.{channel_count, delay_param}
 use Rattle.model_line.specs.Laws.{SettingsAreCounted}
 use Rattle.model_line.specs.{declared.line.Line.Line, declared.line.Scheme.Scheme}
 
-some_settings : (s : Scheme) → 1 ≤ length (channel_settings s)
+pub some_settings : (s : Scheme) → 1 ≤ length (channel_settings s)
 some_settings Pott = omega arith
 some_settings Putt = omega arith
 some_settings Dcb = omega arith
 some_settings Dcub = omega arith
 some_settings Dtt = omega arith
 
-pub delays_ascend : (counted : SettingsAreCounted) (line : Line) (c d : ℕ) → c < d
-    → d < channel_count line → delay_param line c < delay_param line d
+pub delays_ascend : (counted : SettingsAreCounted) (line : Line) (c d : ℕ) → c < d → d < channel_count line
+    → delay_param line c < delay_param line d
 delays_ascend counted line c d less within =
     let before : ℕ = length (settings_of_terminals line.scheme 0 line.terminals.items) in
     let each : ℕ = length (channel_settings line.scheme) in
