@@ -320,22 +320,35 @@ const PICTURES: &[Word] = &[
 /// The command line: a word for each command, with files and names.
 pub fn command<'a>(alloc: Global) -> Result<Command<'a>, AllocError> {
     let mut commands = Vec::new(alloc);
-    push_words(alloc, ANSWERS, &mut commands)?;
-    commands.push(comtrade(alloc)?)?;
-    push_words(alloc, PICTURES, &mut commands)?;
-    Command::new(alloc, "study")
+    push_commands(alloc, &mut commands)?;
+    let study = Command::new(alloc, "study")
         .about("A line and its fault scripts: answers and pictures.")
-        .version(VERSION)
-        .subcommand_required(true)
-        .arg_required_else_help(true)
-        .subcommands(commands)
+        .version(VERSION);
+    with_commands(study, commands)
+}
+
+// Pushes the commands, in the order of the help.
+fn push_commands<'a>(alloc: Global, commands: &mut Vec<Command<'a>>) -> Result<(), AllocError> {
+    push_words(alloc, ANSWERS, commands)?;
+    commands.push(comtrade(alloc)?)?;
+    push_words(alloc, PICTURES, commands)
 }
 
 fn comtrade<'a>(alloc: Global) -> Result<Command<'a>, AllocError> {
     let mut commands = Vec::new(alloc);
     push_words(alloc, RECORDS, &mut commands)?;
-    Command::new(alloc, "comtrade")
-        .about("Records of relays (COMTRADE), in and out")
+    let comtrade = Command::new(alloc, "comtrade").about(
+        "Records of relays (COMTRADE), in and out",
+    );
+    with_commands(comtrade, commands)
+}
+
+// A command that wants one of these behind it.
+fn with_commands<'a>(
+    command: Command<'a>,
+    commands: Vec<Command<'a>>,
+) -> Result<Command<'a>, AllocError> {
+    command
         .subcommand_required(true)
         .arg_required_else_help(true)
         .subcommands(commands)

@@ -1,6 +1,7 @@
 pub mod TimesSteps
 pub mod TerminalCounts
 pub mod ItemSteps
+pub mod TableSteps
 pub mod ChannelPairs
 pub mod Binds
 pub mod ChannelSteps

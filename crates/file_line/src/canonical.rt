@@ -1,14 +1,16 @@
 //! The canonical table of a line.
 
-ghost use Rattle.std.specs.Prelude.{◌≡◌, ◌<◌, ◌≤◌, ℕ, true, pos, Ok, IfOk, OnOk, map, length};
-ghost use Rattle.std.specs.Prelude.{get_or};
-ghost use Rattle.toml.specs.{Data.table, Data.string, Data.integer, Data.Members};
-ghost use Rattle.toml.specs.{View.view, View.table_view, declared.value.Value.Value};
+ghost use Rattle.std.specs.Prelude.{◌≡◌, ◌<◌, ◌≤◌, true, pos, IfOk, OnOk, length};
+ghost use Rattle.std.specs.Prelude.{get_or, codes, ◌∷◌, []};
+ghost use Rattle.toml.specs.{Data.table, Data.string, Data.integer, Data.array};
+ghost use Rattle.toml.specs.View.{view, table_view, items_of};
 ghost use Rattle.model_line.specs.{PlainNames.is_plain_name, ParamNames.name_at};
 ghost use Rattle.model_line.specs.declared.line.Owner.TheVariants as owner;
-ghost use Rattle.file_line.specs.Canonical.{put_member, put_all, terminal_members, tables_from};
-ghost use Rattle.file_line.specs.Canonical.{channel_members, scheme_text};
-ghost use Rattle.file_line.specs.Canonical.{head_pairs, canonical_in};
+ghost use Rattle.file_line.specs.Canonical.{put_member, put_all, terminal_members, terminals_data};
+ghost use Rattle.file_line.specs.Canonical.{put_times, setting_pair, channel_members, channels_data};
+ghost use Rattle.file_line.specs.Canonical.{scheme_text, head_pairs, table_pairs, canonical_in};
+ghost use Rattle.model_line.specs.Settings.{receiver_settings};
+ghost use Rattle.model_line.specs.declared.line.Setting.TheVariants.{Delay};
 
 use crate::table::{OwnerTimes, put};
 use model_line::{
@@ -78,6 +80,24 @@ fn name_of(line: &Line, k: u32) -> &str
     text_of(&line.terminals[k as usize].name)
 }
 
+// Puts the values of a channel between these terminals.
+fn put_channel(times: &OwnerTimes, from: &str, to: &str, table: &mut Table) -> Result<(), Memory>
+    ensures { OnOk result
+        (table_view table.new
+        ≡ put_times times.now.unit times.now.line.now times.now.owner
+        (receiver_settings times.now.line.now.scheme)
+        (put_all
+        ((codes "from", string from.now) ∷ (codes "to", string to.now)
+        ∷ setting_pair times.now.unit times.now.line.now times.now.owner Delay ∷ [])
+        (table_view table.old))) }
+{
+    put_text(times.alloc, table, "from", from)?;
+    put_text(times.alloc, table, "to", to)?;
+    let delay = times.time(Setting::Delay)?;
+    put(times.alloc, table, Setting::Delay.key(), delay)?;
+    times.put_times(receiver_settings(times.line.scheme), table)
+}
+
 // The table of channel c.
 fn channel_table(
     alloc: Global,
@@ -98,36 +118,40 @@ fn channel_table(
         owner: Owner::Channel(c),
     };
     let mut table = Table::new(alloc);
-    put_text(alloc, &mut table, "from", name_of(line, channel.from))?;
-    put_text(alloc, &mut table, "to", name_of(line, channel.to))?;
-    put(
-        alloc,
-        &mut table,
-        Setting::Delay.key(),
-        times.time(Setting::Delay)?,
-    )?;
-    times.put_times(receiver_settings(line.scheme), &mut table)?;
+    let from = name_of(line, channel.from);
+    let to = name_of(line, channel.to);
+    put_channel(&times, from, to, &mut table)?;
     Ok(Value::Table(table))
 }
 
-// A table for each of these, by its number and itself.
-fn tables<X, F>(alloc: Global, items: &[X], table_of: F) -> Result<Vec<Value>, Memory>
-where
-    X: Copy,
-    F: Fn(u32, X) -> Result<Value, Memory>,
-    requires few { length items.now ≤ 6 }
-    requires callable { (k : ℕ) (x : X) → k < length items.now → x ≡ get_or items.now k x
-        → F.pre table_of k x }
-    ensures { (members : ℕ → X → Members)
-        → ((k : ℕ) (x : X) (v : Value) → F.post table_of k x (Ok v)
-        → view v ≡ table (members k x))
-        → IfOk result (λ vs. map view vs.items ≡ tables_from members 0 items.now) }
+// Puts the tables of the terminals.
+fn put_terminals(alloc: Global, unit: u32, line: &Line, table: &mut Table) -> Result<(), Memory>
+    requires { unit ≤ 1000000 }
+    ensures { OnOk result
+        (table_view table.new
+        ≡ put_member (codes "terminal") (array (items_of (terminals_data unit line.now)))
+        (table_view table.old)) }
 {
     let mut tables = Vec::new(alloc);
-    for (k, item) in items.iter().enumerate() {
-        tables.push(table_of(k as u32, *item)?)?;
+    for k in 0..line.terminals.len() {
+        tables.push(terminal_table(alloc, unit, line, k as u32, line.terminals[k])?)?;
     }
-    Ok(tables)
+    put(alloc, table, "terminal", Value::Array(tables))
+}
+
+// Puts the tables of the channels.
+fn put_channels(alloc: Global, unit: u32, line: &Line, table: &mut Table) -> Result<(), Memory>
+    requires { unit ≤ 1000000 }
+    ensures { OnOk result
+        (table_view table.new
+        ≡ put_member (codes "channel") (array (items_of (channels_data unit line.now)))
+        (table_view table.old)) }
+{
+    let mut tables = Vec::new(alloc);
+    for c in 0..line.channels.len() {
+        tables.push(channel_table(alloc, unit, line, c as u32, line.channels[c])?)?;
+    }
+    put(alloc, table, "channel", Value::Array(tables))
 }
 
 fn text_of_scheme(scheme: Scheme) -> &'static str
@@ -155,6 +179,25 @@ fn put_head(alloc: Global, version: u32, line: &Line, table: &mut Table) -> Resu
     put(alloc, table, "zone1_trip", Value::Boolean(line.zone1_trip))
 }
 
+// The values at the top, and the tables of the terminals and of the channels.
+fn put_line(
+    alloc: Global,
+    version: u32,
+    unit: u32,
+    line: &Line,
+    table: &mut Table,
+) -> Result<(), Memory>
+    requires { unit ≤ 1000000 }
+    ensures { OnOk result
+        (table_view table.new
+        ≡ put_all (table_pairs unit line.now)
+        (put_all (head_pairs version line.now) (table_view table.old))) }
+{
+    put_head(alloc, version, line, table)?;
+    put_terminals(alloc, unit, line, table)?;
+    put_channels(alloc, unit, line, table)
+}
+
 /// The canonical table of a line, with times in units.
 #[tactic(auto, unfolding(crate::specs::Canonical::canonical_in))]
 pub fn canonical(alloc: Global, version: u32, unit: u32, line: &Line) -> Result<Table, Memory>
@@ -162,14 +205,6 @@ pub fn canonical(alloc: Global, version: u32, unit: u32, line: &Line) -> Result<
     ensures { IfOk result (λ t. table_view t ≡ canonical_in version unit line.now) }
 {
     let mut table = Table::new(alloc);
-    put_head(alloc, version, line, &mut table)?;
-    let terminals = tables(alloc, &line.terminals, |k, terminal| {
-        terminal_table(alloc, unit, line, k, terminal)
-    })?;
-    put(alloc, &mut table, "terminal", Value::Array(terminals))?;
-    let channels = tables(alloc, &line.channels, |c, channel| {
-        channel_table(alloc, unit, line, c, channel)
-    })?;
-    put(alloc, &mut table, "channel", Value::Array(channels))?;
+    put_line(alloc, version, unit, line, &mut table)?;
     Ok(table)
 }

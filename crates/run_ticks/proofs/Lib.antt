@@ -1,1 +1,2 @@
 pub mod cases_lemmas
+mod RoomLaws

@@ -127,18 +127,20 @@ fn push_step(
     let mut digits = Buffer::new();
     let from = digits.format(step.from).as_bytes();
     let mut field: Vec<u8> = Vec::new(alloc);
-    push_bytes(&mut field, param.bytes())?;
-    push_bytes(&mut field, b"@")?;
-    push_bytes(&mut field, from)?;
+    push_name(&mut field, param.bytes(), from)?;
     let mut digits = Buffer::new();
     let value = digits.format(step.value.value()).as_bytes();
     push_fields(alloc, text, name, field.as_slice(), value)
 }
 
-fn push_bytes(text: &mut Vec<u8>, bytes: &[u8]) -> Result<(), Memory>
-    ensures { OnOk result (text.new.items ≡ text.old.items ++ bytes.now) }
+// Appends the name of a step: its parameter, `@` and its tick.
+fn push_name(field: &mut Vec<u8>, param: &[u8], from: &[u8]) -> Result<(), Memory>
+    ensures { OnOk result (field.new.items ≡ field.old.items ++ (param.now ++ 64 ∷ from.now)) }
 {
-    text.extend_from_slice(bytes).map_err(|_| Memory)
+    field.extend_from_slice(param)?;
+    field.extend_from_slice(b"@")?;
+    field.extend_from_slice(from)?;
+    Ok(())
 }
 
 // A record of three fields.

@@ -3,6 +3,7 @@ use Rattle.run_signal.specs.Signals.{SignalOf}
 use Rattle.std.proofs.Common.{◌≡◌, ℕ, ◌+◌, ◌-◌, ◌<◌, ◌≤◌, List, length, Some, sym, ◌∙◌, ap, subst}
 use Rattle.std.proofs.Common.{arith, ⊎_elim, inl, inr, refl, ◌*◌}
 use Rattle.std.proofs.Math.Nat.{mul-le-mul}
+use Rattle.std.proofs.lemmas.Nat.{mul-le}
 use Rattle.std.proofs.lemmas.Option.{slice_get_within}
 use Rattle.std.specs.Prelude.{slice_get, slice_set}
 use Rattle.model_history.specs.Rails.{Rails, Ends, rails_at}
@@ -29,6 +30,13 @@ few_channels line =
     let less : n - 1 ≤ 2 = omega (arith, line.two_or_three.1) in
     let most : n * (n - 1) ≤ 3 * 2 = mul-le-mul line.two_or_three.1 less in
     omega (arith, most, line.pairs_once.count)
+
+-- an element of a list that fits stands at a number that fits
+pub offset_fits : (k n size : ℕ) → k < n → n * size < 9223372036854775808
+    → k * size < 18446744073709551616
+offset_fits k n size lt fits =
+    let le : k * size ≤ n * size = mul-le k size n size (omega (arith, lt)) (omega arith) in
+    omega (arith, le, fits)
 
 -- a due tick that was made earlier still is
 pub soon_kept : (first i : ℕ) (old new : List ℕ) → length old ≡ length new → AreHastened old new

@@ -1,9 +1,11 @@
 -- The spans that each gate shows, gate after gate in one list.
 use Rattle.std.proofs.Common.{◌≡◌, ℕ, ◌+◌, ◌-◌, ◌<◌, ◌≤◌, List, [], ◌∷◌, ◌++◌, Some, length}
 use Rattle.std.proofs.Common.{get_or, take, drop, refl, sym, ap, subst, ◌∙◌, arith, ⊎_elim}
+use Rattle.std.proofs.Common.{Bool, true, false, cond, append_assoc}
 use Rattle.std.proofs.lemmas.Bool.{cases_lt}
 use Rattle.std.proofs.lemmas.List.{append-nil, drop-append-le, get_or_append_left, get_or_push}
 use Rattle.std.proofs.lemmas.List.{length-append, length-drop, take-append-le}
+use Rattle.std.proofs.lemmas.List.Elements.{filter_more}
 use Rattle.std.proofs.Math.Seq.{drop-append_seam, take-length}
 use Rattle.std.specs.Prelude.{slice_get}
 use Rattle.std.specs.List.{filter, slice_range}
@@ -44,6 +46,26 @@ pub none_shown : (g : Gate) (all spans : List SeenSpan) → ShowsNone g
     → spans ≡ spans ++ filter (is_shown_by g) all
 none_shown g all spans none =
     sym (ap (λ l. spans ++ l) (filter_none g all none) ∙ append-nil spans)
+
+-- one span more, which is kept or left
+module _ (p : SeenSpan → Bool) (all pre old new : List SeenSpan) (i : ℕ) (d : SeenSpan)
+    (lt : i < length all) (before : old ≡ pre ++ filter p (take i all)) where
+  abbrev first : List SeenSpan
+  first = filter p (take i all)
+
+  pub kept_one : p (get_or all i d) ≡ true → new ≡ old ++ get_or all i d ∷ []
+      → new ≡ pre ++ filter p (take (i + 1) all)
+  kept_one on is =
+      is ∙ ap (λ (l : List SeenSpan). l ++ get_or all i d ∷ []) before
+      ∙ append_assoc pre first (get_or all i d ∷ [])
+      ∙ ap (λ (b : Bool). pre ++ (first ++ cond b (get_or all i d ∷ []) [])) (sym on)
+      ∙ ap (λ (l : List SeenSpan). pre ++ l) (sym (filter_more p all i d lt))
+
+  pub left_one : p (get_or all i d) ≡ false → new ≡ old → new ≡ pre ++ filter p (take (i + 1) all)
+  left_one off is =
+      is ∙ before ∙ ap (λ (l : List SeenSpan). pre ++ l) (sym (append-nil first))
+      ∙ ap (λ (b : Bool). pre ++ (first ++ cond b (get_or all i d ∷ []) [])) (sym off)
+      ∙ ap (λ (l : List SeenSpan). pre ++ l) (sym (filter_more p all i d lt))
 
 module _ {X : Type 0} where
   -- what stands between two places of a list does so in a longer one

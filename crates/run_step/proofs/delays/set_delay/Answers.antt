@@ -1,10 +1,25 @@
-use Rattle.std.proofs.Common.{◌≡◌, ◌≤◌, Some, sym, ◌∙◌, ap, arith}
+use Rattle.std.proofs.Common.{◌≡◌, ℕ, ◌+◌, ◌<◌, ◌≤◌, Some, sym, ◌∙◌, ap, arith}
 use Rattle.std.proofs.lemmas.Option.{slice_get-get_or}
 use Rattle.std.specs.Prelude.{slice_get, option_map, get_or}
 use Rattle.model_timing.specs.Timing.{number_at}
 use Rattle.run_step.specs.LaneBox.{ends_in}
 use Rattle.run_step.specs.InputLaws.{number_keeps}
 use Rattle.run_step.proofs.delays.set_delay.Goals as goal
+
+some_most : 1 ≤ 4000
+some_most = omega arith
+
+-- a stretch of one tick at least ends later
+ends_later : (t n : ℕ) → 1 ≤ n → t < t + n
+ends_later t n some = omega (arith, some)
+
+pub returns-then-t-delay-clause-stands : goal.returns-then-t-delay-clause-stands
+returns-then-t-delay-clause-stands g c = c.requires.stands
+
+pub returns-clause-set : goal.returns-clause-set
+returns-clause-set g c =
+    ends_later c.args.t c.lesser.result
+    (c.lesser.ensures.some c.steps_stay-stays.ensures.some some_most)
 
 pub returns-clause-stands : goal.returns-clause-stands
 returns-clause-stands g c =

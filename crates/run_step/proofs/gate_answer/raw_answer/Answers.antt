@@ -1,4 +1,5 @@
-use Rattle.std.proofs.Common.{◌≡◌, ◌<◌, rules, ℕ, Some, refl, sym, subst, ◌∙◌, ap, length, get_or, arith}
+use Rattle.std.proofs.Common.{◌≡◌, ◌<◌, ℕ, Some, refl, sym, subst, rules, ◌∙◌, ap, length, get_or}
+use Rattle.std.proofs.Math.Nat.{lt_of_lt_of_le}
 use Rattle.std.proofs.lemmas.Option.{slice_get-get_or}
 use Rattle.std.specs.Prelude.{slice_get}
 use Rattle.model_history.specs.Rails.{rails_delayed}
@@ -13,7 +14,9 @@ bounds-moment-channel g c =
 
 pub offset_bounds-moment-channel : goal.offset_bounds-moment-channel
 offset_bounds-moment-channel g c =
-    let inside = bounds-moment-channel g c in search (rules, inside)
+    let inside : c.args.channel < length c.args.moment.now.delays.now =
+    subst (λ (n : ℕ). c.args.channel < n) (sym c.requires.moment.delays.count) c.requires.exists in
+    search (rules, inside)
 
 pub bounds-moment-delay : goal.bounds-moment-delay
 bounds-moment-delay g c =
@@ -22,9 +25,10 @@ bounds-moment-delay g c =
 
 pub offset_bounds-moment-delay : goal.offset_bounds-moment-delay
 offset_bounds-moment-delay g c =
-    let inside =
-    sender_inside g.V.Signal.signal c.args.moment.now c.args.channel
-    c.index-moment-channel.result c.requires.moment c.requires.exists in
+    let moment = c.args.moment.now in
+    let e = c.index-moment-channel.result in
+    let inside : (get_or moment.delays.now c.args.channel e).from < length moment.sent.now =
+    sender_inside g.V.Signal.signal moment c.args.channel e c.requires.moment c.requires.exists in
     search (rules, inside)
 
 pub received-requires-clause-later : goal.received-requires-clause-later
@@ -34,7 +38,8 @@ received-requires-clause-later g c = λ lane inside.
     let e = c.index-moment-channel.result in
     let d = get_or delays.now c.args.channel e in
     let at : slice_get delays.now c.args.channel ≡ Some d =
-    slice_get-get_or delays.now c.args.channel e (omega (arith, can.count, c.requires.exists)) in
+    slice_get-get_or delays.now c.args.channel e
+    (subst (λ (n : ℕ). c.args.channel < n) (sym can.count) c.requires.exists) in
     can.later c.args.channel d at lane inside
 
 pub received-requires-clause-room : goal.received-requires-clause-room
@@ -48,8 +53,8 @@ received-requires-clause-room g c =
     c.index-moment-channel.result can c.requires.exists in
     let f : slice_get moment.sent.now d.from ≡ Some s =
     slice_get-get_or moment.sent.now d.from c.index-moment-delay.result inside in
-    let range = moment.line.now.horizon_in_range in
-    omega (arith, (can.sent.each d.from s f).0, can.tick, range.1)
+    subst (λ (n : ℕ). n < 4000) (sym (can.sent.each d.from s f).0)
+    (lt_of_lt_of_le can.tick moment.line.now.horizon_in_range.1)
 
 pub returns : goal.returns
 returns g c = λ lane w keys inside of have.
@@ -60,11 +65,11 @@ returns g c = λ lane w keys inside of have.
     let s = get_or moment.sent.now d.from c.index-moment-delay.result in
     let at : slice_get moment.delays.now c.args.channel ≡ Some d =
     slice_get-get_or moment.delays.now c.args.channel c.index-moment-channel.result
-    (omega (arith, can.delays.count, c.requires.exists)) in
+    (subst (λ (n : ℕ). c.args.channel < n) (sym can.delays.count) c.requires.exists) in
     let there = can.delays.from c.args.channel d at in
     let f : slice_get moment.sent.now d.from ≡ Some s =
     slice_get-get_or moment.sent.now d.from c.index-moment-delay.result
-    (omega (arith, there, can.sent.count)) in
+    (subst (λ (n : ℕ). d.from < n) (sym can.sent.count) there) in
     let delay = of.delay c.args.channel d at in
     c.received.ensures lane inside
     ∙ received-is c.history_laws.ensures (in_lane g.V.Signal.signal.rails lane s.keys) (keys d.from)

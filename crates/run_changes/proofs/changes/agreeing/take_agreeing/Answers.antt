@@ -116,3 +116,49 @@ returns g c = λ script given lane inside.
     ↔ LaneAgrees g.V.Signal.signal.ends c.args.run.now script lane
     c.args.recorded.now.keys.items c.args.recorded.now.trips.items m) last
     (c.loop-t.invariant.agree script given lane inside)
+
+pub take_stretch-stays-requires-clause-can : goal.take_stretch-stays-requires-clause-can
+take_stretch-stays-requires-clause-can g c = c.requires.can
+
+pub take_stretch-stays-requires-clause-tick : goal.take_stretch-stays-requires-clause-tick
+take_stretch-stays-requires-clause-tick g c = c.loop-t-test.true
+
+pub take_stretch-stays-requires-clause-kept : goal.take_stretch-stays-requires-clause-kept
+take_stretch-stays-requires-clause-kept g c = c.loop-t.invariant.kept
+
+pub overflow_add-end : goal.overflow_add-end
+overflow_add-end g c =
+    record {
+      fits = omega (
+        arith,
+        c.take_stretch-stays.ensures.fits,
+        c.args.run.now.compiled.now.line.now.horizon_in_range.1,
+      );
+    }
+
+pub agreeing_tracks-keys-requires-clause-from : goal.agreeing_tracks-keys-requires-clause-from
+agreeing_tracks-keys-requires-clause-from g c = omega (arith, c.take_stretch-stays.ensures.some)
+
+pub agreeing_tracks-keys-requires-clause-end : goal.agreeing_tracks-keys-requires-clause-end
+agreeing_tracks-keys-requires-clause-end g c = c.take_stretch-stays.ensures.fits
+
+pub agreeing_tracks-keys-requires-clause-recorded : goal.agreeing_tracks-keys-requires-clause-recorded
+agreeing_tracks-keys-requires-clause-recorded g c =
+    let line = c.args.run.now.compiled.now.line.now in
+    subst (λ (l : List (SentKeys Level)). AreSent (terminal_count line) line.horizon line.horizon l)
+    (sym c.as_slice-in-loop-t.ensures.value) c.requires.keys
+
+pub agreeing_tracks-trips-requires-clause-from : goal.agreeing_tracks-trips-requires-clause-from
+agreeing_tracks-trips-requires-clause-from g c = omega (arith, c.take_stretch-stays.ensures.some)
+
+pub agreeing_tracks-trips-requires-clause-end : goal.agreeing_tracks-trips-requires-clause-end
+agreeing_tracks-trips-requires-clause-end g c = c.take_stretch-stays.ensures.fits
+
+pub agreeing_tracks-trips-requires-clause-recorded : goal.agreeing_tracks-trips-requires-clause-recorded
+agreeing_tracks-trips-requires-clause-recorded g c =
+    let line = c.args.run.now.compiled.now.line.now in
+    subst (λ (l : List (SentKeys Level)). AreSent (terminal_count line) line.horizon line.horizon l)
+    (sym c.as_slice-in-loop-t-3.ensures.value) c.requires.trips
+
+pub loop-t-smaller : goal.loop-t-smaller
+loop-t-smaller g c = omega (arith, c.take_stretch-stays.ensures.some, c.loop-t-test.true)

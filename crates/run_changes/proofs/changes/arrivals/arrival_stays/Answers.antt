@@ -101,3 +101,60 @@ returns-clause-keeps g c = λ lane u inside is.
     let low : lane < 64 = omega (arith, inside, few) in
     c.next_span.invariant.keeps lane inside low
     (c.next_span.invariant.passed lane low (omega (arith, inside, lanes, over))) u is
+
+pub least-least-requires : goal.least-least-requires
+least-least-requires g c =
+    subst (λ k. c.next_span.lane < k) (c.LANES-lanes.ensures ∙ sym g.met.V.Signal.lanes_are)
+    c.next_span-test.true
+
+pub greatest-greatest-requires : goal.greatest-greatest-requires
+greatest-greatest-requires g c =
+    subst (λ k. c.next_span.lane < k) (c.LANES-lanes.ensures ∙ sym g.met.V.Signal.lanes_are)
+    c.next_span-test.true
+
+pub alike-alike-requires : goal.alike-alike-requires
+alike-alike-requires g c =
+    subst (λ k. c.next_span.lane < k) (c.LANES-lanes.ensures ∙ sym g.met.V.Signal.lanes_are)
+    c.next_span-test.true
+
+pub sooner-first-requires-clause-later : goal.sooner-first-requires-clause-later
+sooner-first-requires-clause-later g c =
+    let inside : c.next_span.lane < g.V.Signal.signal.lanes =
+    subst (λ k. c.next_span.lane < k) (c.LANES-lanes.ensures ∙ sym g.met.V.Signal.lanes_are)
+    c.next_span-test.true in
+    subst (λ (k : ℕ). 1 ≤ k) (sym c.least-least.ensures.least)
+    (c.requires.later c.next_span.lane inside)
+
+pub sooner-stays-requires-clause-later : goal.sooner-stays-requires-clause-later
+sooner-stays-requires-clause-later g c =
+    let inside : c.next_span.lane < g.V.Signal.signal.lanes =
+    subst (λ k. c.next_span.lane < k) (c.LANES-lanes.ensures ∙ sym g.met.V.Signal.lanes_are)
+    c.next_span-test.true in
+    let some : 1 ≤ (g.V.Signal.signal.ends c.args.delay.now c.next_span.lane).least =
+    c.requires.later c.next_span.lane inside in
+    let order = (c.least-least.ensures.in_order c.next_span.lane inside).ordered in
+    omega (arith, some, order, c.greatest-greatest.ensures.greatest)
+
+pub sooner-first-requires-clause-known : goal.sooner-first-requires-clause-known
+sooner-first-requires-clause-known g c = c.requires.known
+
+pub sooner-first-requires-clause-early : goal.sooner-first-requires-clause-early
+sooner-first-requires-clause-early g c = c.requires.early
+
+pub sooner-stays-requires-clause-known : goal.sooner-stays-requires-clause-known
+sooner-stays-requires-clause-known g c = c.requires.known
+
+pub sooner-stays-requires-clause-early : goal.sooner-stays-requires-clause-early
+sooner-stays-requires-clause-early g c = c.requires.early
+
+pub sooner-first-requires-clause-some : goal.sooner-first-requires-clause-some
+sooner-first-requires-clause-some g c = c.next_span.invariant.some
+
+pub sooner-stays-requires-clause-some : goal.sooner-stays-requires-clause-some
+sooner-stays-requires-clause-some g c = c.sooner-first.ensures.some
+
+pub returns-clause-some : goal.returns-clause-some
+returns-clause-some g c = c.next_span.invariant.some
+
+pub returns-clause-limited : goal.returns-clause-limited
+returns-clause-limited g c = c.next_span.invariant.limited

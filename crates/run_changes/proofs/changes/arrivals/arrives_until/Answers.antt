@@ -1,8 +1,9 @@
-use Rattle.std.proofs.Common.{◌≡◌, ℕ, suc, ◌+◌, ◌-◌, ◌<◌, ◌≤◌, Some, subst, arith, get_or, length, rules}
+use Rattle.std.proofs.Common.{◌≡◌, ℕ, suc, ◌+◌, ◌-◌, ◌<◌, ◌≤◌, Some, subst, arith, get_or, length}
 use Rattle.std.proofs.lemmas.Option.{slice_get-get_or}
 use Rattle.std.specs.Prelude.{slice_get}
 use Rattle.run_step.specs.Lasts.{RawLasts}
 use Rattle.run_step.specs.DelayLaws.{raw_lasts, sender_inside}
+use Rattle.run_changes.proofs.changes_lemmas.HearLaws.{offset_fits}
 use Rattle.run_changes.proofs.changes.arrivals.arrives_until.Goals as goal
 
 pub bounds-moment-channel : goal.bounds-moment-channel
@@ -13,7 +14,7 @@ pub offset_bounds-moment-channel : goal.offset_bounds-moment-channel
 offset_bounds-moment-channel g c =
     let inside : c.args.channel < length c.args.moment.now.delays.now =
     omega (arith, c.requires.moment.delays.count, c.requires.exists) in
-    search (rules, inside)
+    record { fits = offset_fits _ (length c.args.moment.now.delays.now) _ inside c.type_inv.moment.1.0.0.1.1 }
 
 pub bounds-moment-delay : goal.bounds-moment-delay
 bounds-moment-delay g c =
@@ -25,7 +26,7 @@ offset_bounds-moment-delay g c =
     let inside =
     sender_inside g.V.Signal.signal c.args.moment.now c.args.channel
     c.index-moment-channel.result c.requires.moment c.requires.exists in
-    search (rules, inside)
+    record { fits = offset_fits _ (length c.args.moment.now.sent.now) _ inside c.type_inv.moment.1.1.0.0.1.1 }
 
 pub arrival_stays-stays-requires-clause-later : goal.arrival_stays-stays-requires-clause-later
 arrival_stays-stays-requires-clause-later g c = λ lane inside.

@@ -1,11 +1,11 @@
-use Rattle.std.proofs.Common.{◌≡◌, ℕ, ◌+◌, ◌≤◌, Some, refl, sym, subst, inl, inr, get_or, rules, ◌<◌, ◌∙◌, ap, length, arith}
+use Rattle.std.proofs.Common.{◌≡◌, ℕ, ◌+◌, ◌≤◌, Some, refl, sym, subst, inl, inr, get_or, ◌<◌, ◌∙◌, ap, length, arith}
 use Rattle.std.proofs.lemmas.Option.{slice_get-get_or, slice_get_read}
 use Rattle.std.specs.Prelude.{slice_get}
 use Rattle.net_gates.specs.{Readers.AreBelow, NetOf.key_of}
 use Rattle.run_changes.specs.changes.Hears.{IsLastKey}
 use Rattle.run_step.specs.DelayLaws.{sender_inside}
 use Rattle.model_history.specs.ListLaws.{one_value}
-use Rattle.run_changes.proofs.changes_lemmas.HearLaws.{few_channels}
+use Rattle.run_changes.proofs.changes_lemmas.HearLaws.{few_channels, hastened_none, offset_fits}
 use Rattle.run_changes.proofs.changes.hear.hear_one.Goals as goal
 
 pub bounds-moment-delay : goal.bounds-moment-delay
@@ -20,7 +20,7 @@ offset_bounds-moment-delay g c =
     sender_inside g.V.Signal.signal c.args.moment.now c.args.channel
     c.index-moment-channel.result c.requires.moment (subst (λ (n : ℕ). c.args.channel < n)
     c.requires.moment.delays.count c.requires.inside) in
-    search (rules, inside)
+    record { fits = offset_fits _ (length c.args.moment.now.sent.now) _ inside c.type_inv.moment.1.1.0.0.1.1 }
 
 pub hasten-requires-clause-inside : goal.hasten-requires-clause-inside
 hasten-requires-clause-inside g c =
@@ -80,7 +80,9 @@ overflow_add-first g c =
     let limited : e.soonest ≤ 4000 = soon.limited in
     let early : c.args.moment.now.t < c.args.moment.now.line.now.horizon =
     c.requires.moment.tick in
-    search (rules, limited, early)
+    record {
+      fits = omega (arith, limited, early, c.args.moment.now.line.now.horizon_in_range.1);
+    }
 
 pub hasten-requires-clause-later : goal.hasten-requires-clause-later
 hasten-requires-clause-later g c =
@@ -120,4 +122,25 @@ overflow_cast-channel g c =
         c.requires.moment.delays.count,
         few_channels c.args.moment.now.line.now,
       );
+    }
+
+pub returns-then-is_last-clause-hastened : goal.returns-then-is_last-clause-hastened
+returns-then-is_last-clause-hastened g c = hastened_none c.args.dues.now.items
+
+pub returns-clause-hastened : goal.returns-clause-hastened
+returns-clause-hastened g c = c.hasten.ensures.hastened
+
+pub bounds-moment-channel : goal.bounds-moment-channel
+bounds-moment-channel g c = c.requires.inside
+
+pub hasten-requires-clause-marks : goal.hasten-requires-clause-marks
+hasten-requires-clause-marks g c = c.requires.marks
+
+pub hasten-requires-clause-next : goal.hasten-requires-clause-next
+hasten-requires-clause-next g c = c.requires.next
+
+pub offset_bounds-moment-channel : goal.offset_bounds-moment-channel
+offset_bounds-moment-channel g c =
+    record {
+      fits = offset_fits _ (length c.args.moment.now.delays.now) _ c.requires.inside c.type_inv.moment.1.0.0.1.1;
     }

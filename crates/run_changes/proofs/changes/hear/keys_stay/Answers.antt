@@ -71,3 +71,21 @@ returns g c = λ _ k s x sa xa.
     let same : length c.key_gates-gates.result.now ≡ length c.args.net.now.keys =
     ap length c.key_gates-gates.ensures in
     c.loop-k.invariant k s x (omega (arith, within, over, same, c.requires.terminals)) sa xa
+
+pub bounds-sent-k : goal.bounds-sent-k
+bounds-sent-k g c =
+    omega (
+      arith,
+      c.loop-k-test.true,
+      ap length c.key_gates-gates.ensures,
+      c.requires.terminals,
+    )
+
+pub offset_bounds-sent-k : goal.offset_bounds-sent-k
+offset_bounds-sent-k g c =
+    omega (
+      arith,
+      c.loop-k-test.true,
+      ap length c.key_gates-gates.ensures,
+      c.requires.terminals,
+    )

@@ -1,4 +1,4 @@
-use Rattle.std.proofs.Common.{◌≡◌, length, ◌∙◌, ap, subst, Some}
+use Rattle.std.proofs.Common.{◌≡◌, length, ◌∙◌, ap, arith, subst, Some}
 use Rattle.std.proofs.lemmas.List.{length-replicate}
 use Rattle.std.specs.Prelude.{slice_get}
 use Rattle.run_changes.specs.declared.changes.since.Since.{Since}
@@ -34,3 +34,22 @@ returns-clause-wait g c = λ lane p inside times.
     (λ i due at. at_replicate c.len-count.result 0 i due
     (subst (λ x. slice_get x i ≡ Some due) c.in_ok-dues.ensures at))
     (c.in_ok-cells.ensures.stands lane p.world p.pairs inside times)
+
+pub fresh_marks-requires-clause-few : goal.fresh_marks-requires-clause-few
+fresh_marks-requires-clause-few g c =
+    omega (arith, c.len-count.ensures.len, c.args.run.now.compiled.now.of_line.laws.gates.few)
+
+pub fresh_marks-requires-clause-short : goal.fresh_marks-requires-clause-short
+fresh_marks-requires-clause-short g c = c.args.run.now.compiled.now.line.now.horizon_in_range.1
+
+pub fresh_cells-requires-clause-names : goal.fresh_cells-requires-clause-names
+fresh_cells-requires-clause-names g c = c.args.run.now.compiled.now.of_line.named
+
+pub fresh_cells-requires-clause-spans : goal.fresh_cells-requires-clause-spans
+fresh_cells-requires-clause-spans g c = c.requires.spans
+
+pub returns-clause-horizon : goal.returns-clause-horizon
+returns-clause-horizon g c = c.in_ok-marks.ensures.horizon
+
+pub returns-clause-next : goal.returns-clause-next
+returns-clause-next g c = c.in_ok-marks.ensures.next

@@ -44,3 +44,9 @@ returns-clause-stands g c =
         wait = c.in_ok-gates.ensures.wait l (p l) il (λ x. refl);
       };
     }
+
+pub fresh_delays-requires : goal.fresh_delays-requires
+fresh_delays-requires g c = record { spans = c.requires.spans }
+
+pub fresh_gates-requires : goal.fresh_gates-requires
+fresh_gates-requires g c = record { spans = c.requires.spans }

@@ -336,3 +336,55 @@ returns-clause-stands g c = λ script before.
                 agree (c.trace.ensures.lags lane (p lane) inside (given lane inside) was.wait) lasts;
           };
     }
+
+pub renew_delays-requires-clause-can : goal.renew_delays-requires-clause-can
+renew_delays-requires-clause-can g c = c.requires.can
+
+pub renew_delays-requires-clause-early : goal.renew_delays-requires-clause-early
+renew_delays-requires-clause-early g c =
+    omega (arith, c.requires.tick, c.args.run.now.compiled.now.line.now.horizon_in_range.1)
+
+pub renew_delays-requires-clause-delays : goal.renew_delays-requires-clause-delays
+renew_delays-requires-clause-delays g c = c.requires.kept.delays
+
+pub renew_delays-requires-clause-stand : goal.renew_delays-requires-clause-stand
+renew_delays-requires-clause-stand g c = c.requires.kept.stand
+
+pub renew_delays-requires-clause-until : goal.renew_delays-requires-clause-until
+renew_delays-requires-clause-until g c = c.requires.kept.until
+
+pub trace-requires-clause-gates : goal.trace-requires-clause-gates
+trace-requires-clause-gates g c = c.requires.kept.gates
+
+pub trace-requires-clause-horizon : goal.trace-requires-clause-horizon
+trace-requires-clause-horizon g c = c.requires.kept.horizon
+
+pub trace-requires-clause-reached : goal.trace-requires-clause-reached
+trace-requires-clause-reached g c = c.requires.kept.reached
+
+pub hear-requires-clause-laws : goal.hear-requires-clause-laws
+hear-requires-clause-laws g c = c.args.run.now.compiled.now.of_line.laws
+
+pub hear-requires-clause-terminals : goal.hear-requires-clause-terminals
+hear-requires-clause-terminals g c = c.args.run.now.compiled.now.of_line.terminals
+
+pub hear-requires-clause-dues : goal.hear-requires-clause-dues
+hear-requires-clause-dues g c = c.trace.ensures.gates.dues
+
+pub hear-requires-clause-marks : goal.hear-requires-clause-marks
+hear-requires-clause-marks g c = c.trace.ensures.gates.marks
+
+pub hear-requires-clause-next : goal.hear-requires-clause-next
+hear-requires-clause-next g c = c.trace.ensures.next
+
+pub quiet_ticks-stays-requires-clause-next : goal.quiet_ticks-stays-requires-clause-next
+quiet_ticks-stays-requires-clause-next g c = c.hear.ensures.next
+
+pub send_all-requires-clause-some : goal.send_all-requires-clause-some
+send_all-requires-clause-some g c = c.quiet_ticks-stays.ensures.some
+
+pub send_all-requires-2-clause-some : goal.send_all-requires-2-clause-some
+send_all-requires-2-clause-some g c = c.quiet_ticks-stays.ensures.some
+
+pub returns-clause-some : goal.returns-clause-some
+returns-clause-some g c = c.quiet_ticks-stays.ensures.some

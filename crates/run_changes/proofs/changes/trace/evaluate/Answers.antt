@@ -1,9 +1,9 @@
 use Rattle.std.proofs.Common.{◌≡◌, ℕ, ◌+◌, ◌-◌, ◌<◌, length, Some, refl, sym, ◌∙◌}
-use Rattle.std.proofs.Common.{subst, arith, inl, inr, ⊎_elim, length-set}
-use Rattle.std.proofs.lemmas.List.{get_or-set_same}
+use Rattle.std.proofs.Common.{subst, ap, arith, inl, inr, ⊎_elim, length-set}
+use Rattle.std.proofs.lemmas.List.{get_or-set_same, length-take-le}
 use Rattle.std.proofs.lemmas.Option.{slice_get_read}
 use Rattle.std.specs.Prelude.{slice_get, slice_set, take}
-use Rattle.net_gates.specs.declared.gate.Gate.{Gate}
+use Rattle.net_gates.specs.{declared.gate.Gate.Gate, Gates.HasArguments}
 use Rattle.run_step.specs.Shown.{IsShown}
 use Rattle.run_step.specs.{Lasts.Lasts, Ticks.ValuesAgree}
 use Rattle.run_changes.specs.changes.Marks.{AreMarked}
@@ -171,3 +171,31 @@ returns-clause-lasts g c = λ p all lane h d inside ha dat.
     ))
     lane inside)))
     (c.tell.ensures.lowered i d dat)
+
+pub look-value-requires-clause-cell : goal.look-value-requires-clause-cell
+look-value-requires-clause-cell g c =
+    let i = c.args.i in
+    let gates = c.args.net.now.gates in
+    let cell = c.index_mut.result.now in
+    c.requires.gates.cells.each i c.gate-gate.result.now cell c.gate-gate.ensures.is
+    (slice_get_read c.args.gates.now.cells.items (length gates) i cell
+    (sym c.requires.gates.cells.count) c.requires.inside c.index_mut.ensures.value)
+
+pub look-value-requires-clause-arguments : goal.look-value-requires-clause-arguments
+look-value-requires-clause-arguments g c =
+    let i = c.args.i in
+    let column = c.deref.result.now in
+    let long : length column ≡ length c.args.net.now.gates =
+    ap length c.deref.ensures.value ∙ c.requires.gates.column in
+    subst (λ (n : ℕ). HasArguments n c.gate-gate.result.now)
+    (sym (length-take-le i column (omega (arith, long, c.requires.inside))))
+    (c.requires.can.laws.gates.earlier i c.gate-gate.result.now c.gate-gate.ensures.is)
+
+pub settle-requires-clause-room : goal.settle-requires-clause-room
+settle-requires-clause-room g c = c.requires.gates.marks.room
+
+pub look-value-requires-clause-moment : goal.look-value-requires-clause-moment
+look-value-requires-clause-moment g c = c.requires.can.hear
+
+pub look-value-requires-clause-set : goal.look-value-requires-clause-set
+look-value-requires-clause-set g c = c.requires.can.set

@@ -1,4 +1,4 @@
-use Rattle.std.proofs.Common.{◌≡◌, ℕ, ◌-◌, ◌*◌, ◌<◌, ◌≤◌, Some, length, sym, subst, arith, inr, ⊎_elim}
+use Rattle.std.proofs.Common.{◌≡◌, ℕ, ◌-◌, ◌*◌, ◌<◌, ◌≤◌, Some, length, refl, sym, subst, arith, inr, ⊎_elim}
 use Rattle.std.proofs.lemmas.Bool.{cases_lt}
 use Rattle.std.specs.Prelude.{slice_get}
 use Rattle.run_changes.specs.changes.Marks.{IsMarked}
@@ -120,3 +120,57 @@ returns-clause-lasts g c = λ p ready lane k h d inside low lt ha dat.
     (subst (λ (j : ℕ). slice_get net.gates j ≡ Some h) here ha)
     (subst (λ (j : ℕ). slice_get c.evaluate.new.gates.dues.items j ≡ Some d) here dat))
     (cases_lt k next)
+
+pub next_marked-next-requires-clause-few : goal.next_marked-next-requires-clause-few
+next_marked-next-requires-clause-few g c =
+    omega (arith, c.len.ensures.len, c.requires.can.laws.gates.few)
+
+pub next_marked-next-requires-clause-inside : goal.next_marked-next-requires-clause-inside
+next_marked-next-requires-clause-inside g c =
+    omega (arith, c.requires.inside, c.len.ensures.len)
+
+pub returns-then-next-len-clause-further : goal.returns-then-next-len-clause-further
+returns-then-next-len-clause-further g c =
+    omega (arith, c.requires.inside, c.if-next-len.true, c.len-2.ensures.len)
+
+pub returns-then-next-len-clause-inside : goal.returns-then-next-len-clause-inside
+returns-then-next-len-clause-inside g c =
+    omega (arith, c.next_marked-next.ensures.limited, c.len.ensures.len)
+
+pub returns-then-next-len-clause-next : goal.returns-then-next-len-clause-next
+returns-then-next-len-clause-next g c = c.requires.next
+
+pub returns-then-next-len-clause-horizon : goal.returns-then-next-len-clause-horizon
+returns-then-next-len-clause-horizon g c = refl
+
+pub evaluate-requires-clause-inside : goal.evaluate-requires-clause-inside
+evaluate-requires-clause-inside g c =
+    omega (arith, c.next_marked-next.ensures.limited, c.len.ensures.len, c.if-next-len.false, c.len-2.ensures.len)
+
+pub evaluate-requires-clause-can : goal.evaluate-requires-clause-can
+evaluate-requires-clause-can g c = c.requires.can
+
+pub evaluate-requires-clause-next : goal.evaluate-requires-clause-next
+evaluate-requires-clause-next g c = c.requires.next
+
+pub overflow_add-result : goal.overflow_add-result
+overflow_add-result g c =
+    record {
+      fits = omega (arith, c.next_marked-next.ensures.limited, c.len.ensures.len, c.requires.can.laws.gates.few);
+    }
+
+pub returns-clause-further : goal.returns-clause-further
+returns-clause-further g c = omega (arith, c.next_marked-next.ensures.later)
+
+pub returns-clause-inside : goal.returns-clause-inside
+returns-clause-inside g c =
+    omega (arith, c.next_marked-next.ensures.limited, c.len.ensures.len, c.if-next-len.false, c.len-2.ensures.len)
+
+pub returns-clause-gates : goal.returns-clause-gates
+returns-clause-gates g c = c.evaluate.ensures.gates
+
+pub returns-clause-next : goal.returns-clause-next
+returns-clause-next g c = c.evaluate.ensures.next
+
+pub returns-clause-horizon : goal.returns-clause-horizon
+returns-clause-horizon g c = c.evaluate.ensures.horizon

@@ -65,3 +65,16 @@ returns-clause-exact g c = λ lane choice inside point.
     exact_at c.line_laws.ensures c.args.compiled.now.line.now c.args.script.now _
     (c.requires.delayed lane inside) choice point _
     (returns-clause-history g c lane inside).is
+
+pub fresh_kept-requires : goal.fresh_kept-requires
+fresh_kept-requires g c = record { spans = c.requires.spans }
+
+pub take_until-requires-clause-kept : goal.take_until-requires-clause-kept
+take_until-requires-clause-kept g c = c.in_ok-kept.ensures.can
+
+pub take_until-requires-clause-can : goal.take_until-requires-clause-can
+take_until-requires-clause-can g c = record {
+  ascending = c.requires.ascending;
+  delayed = c.requires.delayed;
+  one_each = c.requires.spans;
+}

@@ -56,3 +56,19 @@ returns-clause-exact g c = λ lane choice inside point.
     kept.trips.items c.take_until.ensures.kept.trips stands.trips_kept
     (subst (λ (m : ℕ). k < m) (sym (of_line.laws.same ∙ of_line.terminals)) kn)
     (omega (arith, lt, reached)))
+
+pub fresh_kept-requires : goal.fresh_kept-requires
+fresh_kept-requires g c = record { spans = c.requires.spans }
+
+pub take_until-requires-clause-kept : goal.take_until-requires-clause-kept
+take_until-requires-clause-kept g c = c.in_ok-kept.ensures.can
+
+pub take_until-requires-clause-inside : goal.take_until-requires-clause-inside
+take_until-requires-clause-inside g c = c.requires.inside
+
+pub take_until-requires-clause-can : goal.take_until-requires-clause-can
+take_until-requires-clause-can g c = record {
+  ascending = c.requires.ascending;
+  delayed = c.requires.delayed;
+  one_each = c.requires.spans;
+}

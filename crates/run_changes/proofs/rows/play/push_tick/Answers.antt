@@ -5,7 +5,8 @@ use Rattle.std.specs.Prelude.{slice_get}
 use Rattle.model_line.specs.Parameters.{terminal_count}
 use Rattle.run_step.specs.LoopLaws.{part_more}
 use Rattle.run_changes.specs.changes.PlayedTracks.{played}
-use Rattle.run_changes.specs.{rows.PlayRows.terminal_rows, rows.RowLaws.texts_more, rows.StandingLaws.PairStands}
+use Rattle.run_changes.specs.{rows.PlayRows.terminal_rows, rows.RowLaws.texts_done, rows.RowLaws.texts_more}
+use Rattle.run_changes.specs.rows.StandingLaws.{PairStands}
 use Rattle.run_changes.proofs.rows.play.push_tick.Goals as goal
 
 pub loop-k-init : goal.loop-k-init
@@ -58,3 +59,30 @@ returns-clause-stand c = record {
       c.loop-k.invariant.stand.done i p
       (omega (arith, within, c.loop-k.invariant.count, c.loop-k-test.false)) at;
 }
+
+pub returns-clause-rows : goal.returns-clause-rows
+returns-clause-rows c =
+    let line = c.args.line.now in
+    let keys = c.args.tracks.now.keys.items in
+    let trips = c.args.tracks.now.trips.items in
+    texts_done c.args.text.now.items c.loop-k.text.items
+    (terminal_rows c.args.names.now.timing c.args.names.now.script line (played keys trips) c.args.t)
+    c.loop-k.k (terminal_count line) (omega (arith, c.loop-k-test.false, c.len-k-end.ensures))
+    (omega (arith, c.loop-k.auto.k-end, c.len-k-end.ensures)) c.loop-k.invariant.rows
+
+pub push_terminal-requires-clause-terminal : goal.push_terminal-requires-clause-terminal
+push_terminal-requires-clause-terminal c =
+    omega (arith, c.loop-k-test.true, c.len-k-end.ensures)
+
+pub index_mut-requires : goal.index_mut-requires
+index_mut-requires c =
+    omega (arith, c.loop-k-test.true, c.len-k-end.ensures, c.loop-k.invariant.count)
+
+pub push_terminal-requires-clause-tick : goal.push_terminal-requires-clause-tick
+push_terminal-requires-clause-tick c = c.requires.tick
+
+pub push_terminal-requires-clause-keys : goal.push_terminal-requires-clause-keys
+push_terminal-requires-clause-keys c = c.requires.keys
+
+pub push_terminal-requires-clause-trips : goal.push_terminal-requires-clause-trips
+push_terminal-requires-clause-trips c = c.requires.trips

@@ -8,127 +8,141 @@ use Rattle.run_step.specs.CellStands.{HasCell}
 use Rattle.run_ticks.proofs.cases_lemmas.KindLaws.{has_by, stands_by, pair_by, not_pair, and_pair, or_pair}
 use Rattle.run_ticks.proofs.cases.answer.answer.Goals as goal
 
-pub returns-in-Seen-clause-answers : goal.returns-in-Seen-clause-answers
-returns-in-Seen-clause-answers g c = λ lane w keys u inside world sent agree before.
-    seen_pair w keys u c.args.t c.args.gate.now _ c.in-Seen.place c.in-Seen.is
-    (subst (λ b. g.V.Signal.signal.rails c.known-in-Seen.result lane ≡ both b) (c.shown_in.ensures
-    ∙ world.seen c.in-Seen.place)
-    (c.known-in-Seen.ensures lane inside))
+pub returns-in-Seen : goal.returns-in-Seen
+returns-in-Seen g c = record {
+  answers = λ lane w keys u inside world sent agree before.
+      seen_pair w keys u c.args.t c.args.gate.now _ c.in-Seen.place c.in-Seen.is
+      (subst (λ b. g.V.Signal.signal.rails c.known-in-Seen.result lane ≡ both b) (c.shown_in.ensures
+      ∙ world.seen c.in-Seen.place)
+      (c.known-in-Seen.ensures lane inside));
+  shape = has_by c.args.gate.now (gate.Seen c.in-Seen.place) c.args.cell.now c.in-Seen.is tt;
+  stands = λ lane w u inside agree before.
+      stands_by g.V.Signal.signal g.V.Timed.stands_for lane w u (suc c.args.t)
+      c.args.gate.now (gate.Seen c.in-Seen.place) c.args.cell.now c.in-Seen.is tt;
+}
 
-pub returns-in-Loss-clause-answers : goal.returns-in-Loss-clause-answers
-returns-in-Loss-clause-answers g c = λ lane w keys u inside world sent agree before.
-    loss_pair w keys u c.args.t c.args.gate.now _ c.in-Loss.channel c.in-Loss.is
-    (subst (λ b. g.V.Signal.signal.rails c.known-in-Loss.result lane ≡ both b) (c.lost_in.ensures
-    ∙ world.lost c.in-Loss.channel)
-    (c.known-in-Loss.ensures lane inside))
+pub returns-in-Loss : goal.returns-in-Loss
+returns-in-Loss g c = record {
+  answers = λ lane w keys u inside world sent agree before.
+      loss_pair w keys u c.args.t c.args.gate.now _ c.in-Loss.channel c.in-Loss.is
+      (subst (λ b. g.V.Signal.signal.rails c.known-in-Loss.result lane ≡ both b) (c.lost_in.ensures
+      ∙ world.lost c.in-Loss.channel)
+      (c.known-in-Loss.ensures lane inside));
+  shape = has_by c.args.gate.now (gate.Loss c.in-Loss.channel) c.args.cell.now c.in-Loss.is tt;
+  stands = λ lane w u inside agree before.
+      stands_by g.V.Signal.signal g.V.Timed.stands_for lane w u (suc c.args.t)
+      c.args.gate.now (gate.Loss c.in-Loss.channel) c.args.cell.now c.in-Loss.is tt;
+}
 
-pub returns-in-Raw-clause-answers : goal.returns-in-Raw-clause-answers
-returns-in-Raw-clause-answers g c = λ lane w keys u inside world sent agree before.
-    raw_pair w keys u c.args.t c.args.gate.now _ c.in-Raw.channel c.in-Raw.is
-    (c.raw_answer.ensures lane w keys inside world.channels sent)
+pub returns-in-Raw : goal.returns-in-Raw
+returns-in-Raw g c = record {
+  answers = λ lane w keys u inside world sent agree before.
+      raw_pair w keys u c.args.t c.args.gate.now _ c.in-Raw.channel c.in-Raw.is
+      (c.raw_answer.ensures lane w keys inside world.channels sent);
+  shape = has_by c.args.gate.now (gate.Raw c.in-Raw.channel) c.args.cell.now c.in-Raw.is tt;
+  stands = λ lane w u inside agree before.
+      stands_by g.V.Signal.signal g.V.Timed.stands_for lane w u (suc c.args.t)
+      c.args.gate.now (gate.Raw c.in-Raw.channel) c.args.cell.now c.in-Raw.is tt;
+}
 
-pub returns-in-Timer-clause-stands : goal.returns-in-Timer-clause-stands
-returns-in-Timer-clause-stands g c = λ lane w u inside agree before.
-    timer_stands g.V.Signal.signal g.V.Timed.stands_for lane w (λ _ _. both false) u
-    c.args.t c.args.gate.now c.args.cell.now c.timer_answer.new.cell c.in-Timer.x
-    c.in-Timer.field-1 c.in-Timer.field-2 c.in-Timer.is
-    (g.V.Signal.signal.rails c.argument-in-Timer.result lane)
-    (agree c.in-Timer.x.0 c.argument-in-Timer.result c.argument-in-Timer.ensures) before
-    (λ p d inputs h. c.timer_answer.ensures.stands lane p d inputs inside h)
+pub returns-in-Timer : goal.returns-in-Timer
+returns-in-Timer g c = record {
+  stands = λ lane w u inside agree before.
+      timer_stands g.V.Signal.signal g.V.Timed.stands_for lane w (λ _ _. both false) u
+      c.args.t c.args.gate.now c.args.cell.now c.timer_answer.new.cell c.in-Timer.x
+      c.in-Timer.field-1 c.in-Timer.field-2 c.in-Timer.is
+      (g.V.Signal.signal.rails c.argument-in-Timer.result lane)
+      (agree c.in-Timer.x.0 c.argument-in-Timer.result c.argument-in-Timer.ensures) before
+      (λ p d inputs h. c.timer_answer.ensures.stands lane p d inputs inside h);
+  answers = λ lane w keys u inside world sent agree before.
+      timer_pair g.V.Signal.signal g.V.Timed.stands_for lane w keys u
+      c.args.t c.args.gate.now c.args.cell.now c.timer_answer.new.cell c.in-Timer.x
+      c.in-Timer.field-1 c.in-Timer.field-2 c.in-Timer.is
+      (g.V.Signal.signal.rails c.argument-in-Timer.result lane)
+      (agree c.in-Timer.x.0 c.argument-in-Timer.result c.argument-in-Timer.ensures) before
+      c.recorded_ticks_suffice.ensures (g.V.Signal.signal.rails c.timer_answer.result lane)
+      (λ p d inputs h. c.timer_answer.ensures.timed lane p d inputs inside h);
+  shape = has_by c.args.gate.now (gate.Timer c.in-Timer.x c.in-Timer.field-1 c.in-Timer.field-2)
+      c.timer_answer.new.cell c.in-Timer.is c.timer_answer.ensures.shape;
+}
 
-pub returns-in-Timer-clause-answers : goal.returns-in-Timer-clause-answers
-returns-in-Timer-clause-answers g c = λ lane w keys u inside world sent agree before.
-    timer_pair g.V.Signal.signal g.V.Timed.stands_for lane w keys u
-    c.args.t c.args.gate.now c.args.cell.now c.timer_answer.new.cell c.in-Timer.x
-    c.in-Timer.field-1 c.in-Timer.field-2 c.in-Timer.is
-    (g.V.Signal.signal.rails c.argument-in-Timer.result lane)
-    (agree c.in-Timer.x.0 c.argument-in-Timer.result c.argument-in-Timer.ensures) before
-    c.recorded_ticks_suffice.ensures (g.V.Signal.signal.rails c.timer_answer.result lane)
-    (λ p d inputs h. c.timer_answer.ensures.timed lane p d inputs inside h)
+pub returns-in-Seal : goal.returns-in-Seal
+returns-in-Seal g c = record {
+  stands = λ lane w u inside agree before.
+      seal_stands g.V.Signal.signal g.V.Timed.stands_for lane w (λ _ _. both false) u
+      c.args.t c.args.gate.now c.args.cell.now c.seal_answer.new.cell c.in-Seal.x c.in-Seal.y
+      c.in-Seal.is
+      (g.V.Signal.signal.rails c.argument-in-Seal.result lane)
+      (g.V.Signal.signal.rails c.argument-in-Seal-2.result lane)
+      (agree c.in-Seal.x.0 c.argument-in-Seal.result c.argument-in-Seal.ensures)
+      (agree c.in-Seal.y.0 c.argument-in-Seal-2.result c.argument-in-Seal-2.ensures) before
+      (λ x y h. c.seal_answer.ensures.stands lane x y inside h);
+  answers = λ lane w keys u inside world sent agree before.
+      seal_pair g.V.Signal.signal g.V.Timed.stands_for lane w keys u
+      c.args.t c.args.gate.now c.args.cell.now c.seal_answer.new.cell c.in-Seal.x c.in-Seal.y
+      c.in-Seal.is
+      (g.V.Signal.signal.rails c.argument-in-Seal.result lane)
+      (g.V.Signal.signal.rails c.argument-in-Seal-2.result lane)
+      (agree c.in-Seal.x.0 c.argument-in-Seal.result c.argument-in-Seal.ensures)
+      (agree c.in-Seal.y.0 c.argument-in-Seal-2.result c.argument-in-Seal-2.ensures) before
+      c.recorded_ticks_suffice.ensures (g.V.Signal.signal.rails c.seal_answer.result lane)
+      (λ x y h. c.seal_answer.ensures.sealed lane x y inside h);
+  shape = has_by c.args.gate.now (gate.Seal c.in-Seal.x c.in-Seal.y) c.seal_answer.new.cell c.in-Seal.is
+      c.seal_answer.ensures.shape;
+}
 
-pub returns-in-Seal-clause-stands : goal.returns-in-Seal-clause-stands
-returns-in-Seal-clause-stands g c = λ lane w u inside agree before.
-    seal_stands g.V.Signal.signal g.V.Timed.stands_for lane w (λ _ _. both false) u
-    c.args.t c.args.gate.now c.args.cell.now c.seal_answer.new.cell c.in-Seal.x c.in-Seal.y
-    c.in-Seal.is
-    (g.V.Signal.signal.rails c.argument-in-Seal.result lane)
-    (g.V.Signal.signal.rails c.argument-in-Seal-2.result lane)
-    (agree c.in-Seal.x.0 c.argument-in-Seal.result c.argument-in-Seal.ensures)
-    (agree c.in-Seal.y.0 c.argument-in-Seal-2.result c.argument-in-Seal-2.ensures) before
-    (λ x y h. c.seal_answer.ensures.stands lane x y inside h)
+pub returns-in-Const : goal.returns-in-Const
+returns-in-Const g c = record {
+  shape = has_by c.args.gate.now (gate.Const c.in-Const.value) c.args.cell.now c.in-Const.is tt;
+  stands = λ lane w u inside agree before.
+      stands_by g.V.Signal.signal g.V.Timed.stands_for lane w u (suc c.args.t)
+      c.args.gate.now (gate.Const c.in-Const.value) c.args.cell.now c.in-Const.is tt;
+  answers = λ lane w keys u inside world sent agree before.
+      pair_by w keys u c.args.t c.args.gate.now _ (gate.Const c.in-Const.value) c.in-Const.is
+      (c.known.ensures lane inside);
+}
 
-pub returns-in-Seal-clause-answers : goal.returns-in-Seal-clause-answers
-returns-in-Seal-clause-answers g c = λ lane w keys u inside world sent agree before.
-    seal_pair g.V.Signal.signal g.V.Timed.stands_for lane w keys u
-    c.args.t c.args.gate.now c.args.cell.now c.seal_answer.new.cell c.in-Seal.x c.in-Seal.y
-    c.in-Seal.is
-    (g.V.Signal.signal.rails c.argument-in-Seal.result lane)
-    (g.V.Signal.signal.rails c.argument-in-Seal-2.result lane)
-    (agree c.in-Seal.x.0 c.argument-in-Seal.result c.argument-in-Seal.ensures)
-    (agree c.in-Seal.y.0 c.argument-in-Seal-2.result c.argument-in-Seal-2.ensures) before
-    c.recorded_ticks_suffice.ensures (g.V.Signal.signal.rails c.seal_answer.result lane)
-    (λ x y h. c.seal_answer.ensures.sealed lane x y inside h)
+pub returns-in-Not : goal.returns-in-Not
+returns-in-Not g c = record {
+  shape = has_by c.args.gate.now (gate.Not c.in-Not.x) c.args.cell.now c.in-Not.is tt;
+  stands = λ lane w u inside agree before.
+      stands_by g.V.Signal.signal g.V.Timed.stands_for lane w u (suc c.args.t)
+      c.args.gate.now (gate.Not c.in-Not.x) c.args.cell.now c.in-Not.is tt;
+  answers = λ lane w keys u inside world sent agree before.
+      not_pair w keys u c.args.t c.args.gate.now _ c.in-Not.x c.in-Not.is
+      (g.V.Signal.signal.rails c.argument.result lane)
+      (agree c.in-Not.x.0 c.argument.result c.argument.ensures) (c.not.ensures lane inside);
+}
 
-pub returns-in-Const-clause-shape : goal.returns-in-Const-clause-shape
-returns-in-Const-clause-shape g c = has_by c.args.gate.now (gate.Const c.in-Const.value) c.args.cell.now c.in-Const.is tt
+pub returns-in-And : goal.returns-in-And
+returns-in-And g c = record {
+  shape = has_by c.args.gate.now (gate.And c.in-And.x c.in-And.y) c.args.cell.now c.in-And.is tt;
+  stands = λ lane w u inside agree before.
+      stands_by g.V.Signal.signal g.V.Timed.stands_for lane w u (suc c.args.t)
+      c.args.gate.now (gate.And c.in-And.x c.in-And.y) c.args.cell.now c.in-And.is tt;
+  answers = λ lane w keys u inside world sent agree before.
+      and_pair w keys u c.args.t c.args.gate.now _ c.in-And.x c.in-And.y c.in-And.is
+      (g.V.Signal.signal.rails c.argument-in-And.result lane)
+      (g.V.Signal.signal.rails c.argument-in-And-2.result lane)
+      (agree c.in-And.x.0 c.argument-in-And.result c.argument-in-And.ensures)
+      (agree c.in-And.y.0 c.argument-in-And-2.result c.argument-in-And-2.ensures)
+      (c.and.ensures lane inside);
+}
 
-pub returns-in-Const-clause-stands : goal.returns-in-Const-clause-stands
-returns-in-Const-clause-stands g c = λ lane w u inside agree before.
-    stands_by g.V.Signal.signal g.V.Timed.stands_for lane w u (suc c.args.t)
-    c.args.gate.now (gate.Const c.in-Const.value) c.args.cell.now c.in-Const.is tt
-
-pub returns-in-Seen-clause-shape : goal.returns-in-Seen-clause-shape
-returns-in-Seen-clause-shape g c = has_by c.args.gate.now (gate.Seen c.in-Seen.place) c.args.cell.now c.in-Seen.is tt
-
-pub returns-in-Seen-clause-stands : goal.returns-in-Seen-clause-stands
-returns-in-Seen-clause-stands g c = λ lane w u inside agree before.
-    stands_by g.V.Signal.signal g.V.Timed.stands_for lane w u (suc c.args.t)
-    c.args.gate.now (gate.Seen c.in-Seen.place) c.args.cell.now c.in-Seen.is tt
-
-pub returns-in-Loss-clause-shape : goal.returns-in-Loss-clause-shape
-returns-in-Loss-clause-shape g c = has_by c.args.gate.now (gate.Loss c.in-Loss.channel) c.args.cell.now c.in-Loss.is tt
-
-pub returns-in-Loss-clause-stands : goal.returns-in-Loss-clause-stands
-returns-in-Loss-clause-stands g c = λ lane w u inside agree before.
-    stands_by g.V.Signal.signal g.V.Timed.stands_for lane w u (suc c.args.t)
-    c.args.gate.now (gate.Loss c.in-Loss.channel) c.args.cell.now c.in-Loss.is tt
-
-pub returns-in-Raw-clause-shape : goal.returns-in-Raw-clause-shape
-returns-in-Raw-clause-shape g c = has_by c.args.gate.now (gate.Raw c.in-Raw.channel) c.args.cell.now c.in-Raw.is tt
-
-pub returns-in-Raw-clause-stands : goal.returns-in-Raw-clause-stands
-returns-in-Raw-clause-stands g c = λ lane w u inside agree before.
-    stands_by g.V.Signal.signal g.V.Timed.stands_for lane w u (suc c.args.t)
-    c.args.gate.now (gate.Raw c.in-Raw.channel) c.args.cell.now c.in-Raw.is tt
-
-pub returns-in-Not-clause-shape : goal.returns-in-Not-clause-shape
-returns-in-Not-clause-shape g c = has_by c.args.gate.now (gate.Not c.in-Not.x) c.args.cell.now c.in-Not.is tt
-
-pub returns-in-Not-clause-stands : goal.returns-in-Not-clause-stands
-returns-in-Not-clause-stands g c = λ lane w u inside agree before.
-    stands_by g.V.Signal.signal g.V.Timed.stands_for lane w u (suc c.args.t)
-    c.args.gate.now (gate.Not c.in-Not.x) c.args.cell.now c.in-Not.is tt
-
-pub returns-in-And-clause-shape : goal.returns-in-And-clause-shape
-returns-in-And-clause-shape g c = has_by c.args.gate.now (gate.And c.in-And.x c.in-And.y) c.args.cell.now c.in-And.is tt
-
-pub returns-in-And-clause-stands : goal.returns-in-And-clause-stands
-returns-in-And-clause-stands g c = λ lane w u inside agree before.
-    stands_by g.V.Signal.signal g.V.Timed.stands_for lane w u (suc c.args.t)
-    c.args.gate.now (gate.And c.in-And.x c.in-And.y) c.args.cell.now c.in-And.is tt
-
-pub returns-in-Or-clause-shape : goal.returns-in-Or-clause-shape
-returns-in-Or-clause-shape g c = has_by c.args.gate.now (gate.Or c.in-Or.x c.in-Or.y) c.args.cell.now c.in-Or.is tt
-
-pub returns-in-Or-clause-stands : goal.returns-in-Or-clause-stands
-returns-in-Or-clause-stands g c = λ lane w u inside agree before.
-    stands_by g.V.Signal.signal g.V.Timed.stands_for lane w u (suc c.args.t)
-    c.args.gate.now (gate.Or c.in-Or.x c.in-Or.y) c.args.cell.now c.in-Or.is tt
-
-pub returns-in-Const-clause-answers : goal.returns-in-Const-clause-answers
-returns-in-Const-clause-answers g c = λ lane w keys u inside world sent agree before.
-    pair_by w keys u c.args.t c.args.gate.now _ (gate.Const c.in-Const.value) c.in-Const.is
-    (c.known.ensures lane inside)
+pub returns-in-Or : goal.returns-in-Or
+returns-in-Or g c = record {
+  shape = has_by c.args.gate.now (gate.Or c.in-Or.x c.in-Or.y) c.args.cell.now c.in-Or.is tt;
+  stands = λ lane w u inside agree before.
+      stands_by g.V.Signal.signal g.V.Timed.stands_for lane w u (suc c.args.t)
+      c.args.gate.now (gate.Or c.in-Or.x c.in-Or.y) c.args.cell.now c.in-Or.is tt;
+  answers = λ lane w keys u inside world sent agree before.
+      or_pair w keys u c.args.t c.args.gate.now _ c.in-Or.x c.in-Or.y c.in-Or.is
+      (g.V.Signal.signal.rails c.argument-in-Or.result lane)
+      (g.V.Signal.signal.rails c.argument-in-Or-2.result lane)
+      (agree c.in-Or.x.0 c.argument-in-Or.result c.argument-in-Or.ensures)
+      (agree c.in-Or.y.0 c.argument-in-Or-2.result c.argument-in-Or-2.ensures)
+      (c.or.ensures lane inside);
+}
 
 pub raw_answer-requires-clause-exists : goal.raw_answer-requires-clause-exists
 raw_answer-requires-clause-exists g c =
@@ -138,12 +152,6 @@ pub argument-requires : goal.argument-requires
 argument-requires g c =
     subst (HasArguments (length c.args.earlier.now)) c.in-Not.is c.requires.arguments
 
-pub returns-in-Not-clause-answers : goal.returns-in-Not-clause-answers
-returns-in-Not-clause-answers g c = λ lane w keys u inside world sent agree before.
-    not_pair w keys u c.args.t c.args.gate.now _ c.in-Not.x c.in-Not.is
-    (g.V.Signal.signal.rails c.argument.result lane)
-    (agree c.in-Not.x.0 c.argument.result c.argument.ensures) (c.not.ensures lane inside)
-
 pub argument-requires-in-And : goal.argument-requires-in-And
 argument-requires-in-And g c =
     (subst (HasArguments (length c.args.earlier.now)) c.in-And.is c.requires.arguments).0
@@ -151,15 +159,6 @@ argument-requires-in-And g c =
 pub argument-requires-in-And-2 : goal.argument-requires-in-And-2
 argument-requires-in-And-2 g c =
     (subst (HasArguments (length c.args.earlier.now)) c.in-And.is c.requires.arguments).1
-
-pub returns-in-And-clause-answers : goal.returns-in-And-clause-answers
-returns-in-And-clause-answers g c = λ lane w keys u inside world sent agree before.
-    and_pair w keys u c.args.t c.args.gate.now _ c.in-And.x c.in-And.y c.in-And.is
-    (g.V.Signal.signal.rails c.argument-in-And.result lane)
-    (g.V.Signal.signal.rails c.argument-in-And-2.result lane)
-    (agree c.in-And.x.0 c.argument-in-And.result c.argument-in-And.ensures)
-    (agree c.in-And.y.0 c.argument-in-And-2.result c.argument-in-And-2.ensures)
-    (c.and.ensures lane inside)
 
 pub argument-requires-in-Or : goal.argument-requires-in-Or
 argument-requires-in-Or g c =
@@ -169,15 +168,6 @@ pub argument-requires-in-Or-2 : goal.argument-requires-in-Or-2
 argument-requires-in-Or-2 g c =
     (subst (HasArguments (length c.args.earlier.now)) c.in-Or.is c.requires.arguments).1
 
-pub returns-in-Or-clause-answers : goal.returns-in-Or-clause-answers
-returns-in-Or-clause-answers g c = λ lane w keys u inside world sent agree before.
-    or_pair w keys u c.args.t c.args.gate.now _ c.in-Or.x c.in-Or.y c.in-Or.is
-    (g.V.Signal.signal.rails c.argument-in-Or.result lane)
-    (g.V.Signal.signal.rails c.argument-in-Or-2.result lane)
-    (agree c.in-Or.x.0 c.argument-in-Or.result c.argument-in-Or.ensures)
-    (agree c.in-Or.y.0 c.argument-in-Or-2.result c.argument-in-Or-2.ensures)
-    (c.or.ensures lane inside)
-
 pub argument-requires-in-Timer : goal.argument-requires-in-Timer
 argument-requires-in-Timer g c =
     subst (HasArguments (length c.args.earlier.now)) c.in-Timer.is c.requires.arguments
@@ -185,11 +175,6 @@ argument-requires-in-Timer g c =
 pub timer_answer-requires : goal.timer_answer-requires
 timer_answer-requires g c =
     subst (λ (k : Gate). HasCell k c.args.cell.now) c.in-Timer.is c.requires.cell
-
-pub returns-in-Timer-clause-shape : goal.returns-in-Timer-clause-shape
-returns-in-Timer-clause-shape g c =
-    has_by c.args.gate.now (gate.Timer c.in-Timer.x c.in-Timer.field-1 c.in-Timer.field-2)
-    c.timer_answer.new.cell c.in-Timer.is c.timer_answer.ensures.shape
 
 pub argument-requires-in-Seal : goal.argument-requires-in-Seal
 argument-requires-in-Seal g c =
@@ -202,8 +187,3 @@ argument-requires-in-Seal-2 g c =
 pub seal_answer-requires : goal.seal_answer-requires
 seal_answer-requires g c =
     subst (λ (k : Gate). HasCell k c.args.cell.now) c.in-Seal.is c.requires.cell
-
-pub returns-in-Seal-clause-shape : goal.returns-in-Seal-clause-shape
-returns-in-Seal-clause-shape g c =
-    has_by c.args.gate.now (gate.Seal c.in-Seal.x c.in-Seal.y) c.seal_answer.new.cell c.in-Seal.is
-    c.seal_answer.ensures.shape

@@ -1,6 +1,5 @@
-use Rattle.std.proofs.Common.{◌≡◌, ℕ, suc, ◌<◌, ◌≤◌, ◌+◌, ◌*◌, ◌++◌, refl, sym, ◌∙◌, ap, arith}
+use Rattle.std.proofs.Common.{◌≡◌, ℕ, suc, ◌<◌, ◌≤◌, ◌+◌, ◌*◌, ◌++◌, refl, sym, ◌∙◌, ap}
 use Rattle.std.proofs.Common.{add-one, length, length-append, subst}
-use Rattle.std.proofs.Math.Nat.{mul-le-mul}
 use Rattle.std.specs.Prelude.{vec_capacity}
 use Rattle.model_line.specs.Parameters.{terminal_count}
 use Rattle.model_logic.specs.PairMean.{PairWorld}
@@ -14,39 +13,11 @@ use Rattle.run_ticks.specs.cases.Ticks.{IsReady, LaneStands, under_pairs, own_pa
 use Rattle.run_ticks.specs.cases.Given.{CanReceive, IsWorldAt, span_box, spans_at}
 use Rattle.run_ticks.proofs.cases_lemmas.GivenLaws.{can_receive, world_at}
 use Rattle.run_step.specs.SendLaws.{none_sent, fresh_sent, one_tick_sent}
-use Rattle.run_step.specs.ValueLaws.{tick_fits}
 use Rattle.run_ticks.proofs.cases_lemmas.ValueLaws.{values_none, values_more}
 use Rattle.run_ticks.proofs.cases_lemmas.UnderLaws.{gates_told}
+use Rattle.run_ticks.proofs.RoomLaws.{product_fits, terminals_fit, none_so_far, has_room, room_kept}
+use Rattle.run_ticks.proofs.RoomLaws.{tick_more, tick_has_room, all_told, fits_once}
 use Rattle.run_ticks.proofs.cases.ticks.run_ticks.Goals as goal
-
-none_so_far : (n long : ℕ) → long ≡ 0 → long ≡ 0 * n
-none_so_far n long none = omega (arith, none)
-
--- what was made for so many has room for them
-has_room : (n width room : ℕ) → room ≡ width → width ≡ n → n ≤ room
-has_room n width room made same = omega (arith, made, same)
-
--- room for all is kept where it does not get less
-room_kept : (n room new : ℕ) → n ≤ room → room ≤ new → n ≤ new
-room_kept n room new all more = omega (arith, all, more)
-
--- a tick's values more
-tick_more : (t n long wide : ℕ) → long ≡ t * n → wide ≡ n → long + wide ≡ (t + 1) * n
-tick_more t n long wide so_far here = omega (arith, so_far, here)
-
--- a tick's values fit where there is room for all
-tick_has_room : (t horizon n long wide column room : ℕ) → t < horizon → long ≡ t * n
-    → wide ≡ column → column ≡ n → horizon * n ≤ room → long + wide ≤ room
-tick_has_room t horizon n long wide column room early so_far here all_here all =
-    omega (arith, so_far, here, all_here, all, tick_fits t horizon n early)
-
--- all values at the last tick
-all_told : (t horizon n long : ℕ) → horizon ≤ t → t ≤ horizon → long ≡ t * n → long ≡ horizon * n
-all_told t horizon n long over under so_far =
-    let last : t ≡ horizon = omega (arith, over, under) in so_far ∙ ap (λ (m : ℕ). m * n) last
-
-fits_once : (t horizon : ℕ) → t < horizon → t + 1 ≤ horizon
-fits_once t horizon early = omega (arith, early)
 
 pub fresh_cells-requires : goal.fresh_cells-requires
 fresh_cells-requires g c =
@@ -60,26 +31,18 @@ fresh_tracks-requires g c = c.args.compiled.now.line.now.horizon_in_range.1
 
 pub overflow_mul-compiled : goal.overflow_mul-compiled
 overflow_mul-compiled g c =
-    let most : c.args.compiled.now.line.now.horizon * c.len-width.result ≤ 4000 * 512 =
-    mul-le-mul c.args.compiled.now.line.now.horizon_in_range.1 c.len-width.ensures.few in
-    record { fits = omega (arith, most) }
+    product_fits c.args.compiled.now.line.now.horizon c.len-width.result
+    c.args.compiled.now.line.now.horizon_in_range.1 c.len-width.ensures.few
 
 pub overflow_mul-compiled-2 : goal.overflow_mul-compiled-2
 overflow_mul-compiled-2 g c =
-    let most : c.args.compiled.now.line.now.horizon * c.len-width.result ≤ 4000 * 512 =
-    mul-le-mul c.args.compiled.now.line.now.horizon_in_range.1 c.len-width.ensures.few in
-    record { fits = omega (arith, most) }
+    product_fits c.args.compiled.now.line.now.horizon c.len-width.result
+    c.args.compiled.now.line.now.horizon_in_range.1 c.len-width.ensures.few
 
 pub overflow_cast-key_gates : goal.overflow_cast-key_gates
 overflow_cast-key_gates g c =
-    record {
-      fits = omega (
-        arith,
-        ap length c.key_gates.ensures,
-        c.args.compiled.now.of_line.terminals,
-        c.args.compiled.now.line.now.two_or_three.1,
-      );
-    }
+    terminals_fit (length c.key_gates.result.now) _ _ (ap length c.key_gates.ensures)
+    c.args.compiled.now.of_line.terminals c.args.compiled.now.line.now.two_or_three.1
 
 pub loop-t-init : goal.loop-t-init
 unfolding pair_world_of
@@ -98,7 +61,8 @@ loop-t-init g c =
       own_count = none_so_far n _ (ap length c.in_ok-owns.ensures.items);
       column_room = has_room n c.len-width.result _ c.in_ok-column.ensures.exact width;
       own_column_room = has_room n c.len-width.result _ c.in_ok-own_column.ensures.exact width;
-      present_room = omega (arith, c.in_ok-present.ensures.exact);
+      present_room = has_room (length c.args.script.now.spans.items) c.len.result _
+          c.in_ok-present.ensures.exact (c.len.ensures ∙ c.args.script.now.spans.ok.0);
       values_room = has_room (line.horizon * n) _ _ c.in_ok-values.ensures.exact all_ticks;
       owns_room = has_room (line.horizon * n) _ _ c.in_ok-owns.ensures.exact all_ticks;
       cells = c.in_ok-cells.ensures.shape;

@@ -1,21 +1,22 @@
-use Rattle.std.proofs.Common.{◌≡◌, ℕ, ◌<◌, ◌≤◌, ◌+◌, ◌++◌, ◌∷◌, [], Some, refl, sym, ◌∙◌, ap, arith}
+use Rattle.std.proofs.Common.{◌≡◌, ℕ, ◌<◌, ◌≤◌, ◌+◌, ◌++◌, ◌∷◌, [], Some, refl, sym, ◌∙◌, ap}
 use Rattle.std.proofs.Common.{length, length-append, subst}
 use Rattle.std.proofs.lemmas.Option.{slice_get_within, slice_get_read}
-use Rattle.std.specs.Prelude.{slice_get, vec_capacity}
+use Rattle.std.specs.Prelude.{slice_get, vec_capacity, vec_len}
 use Rattle.net_gates.specs.{Formulas.formula_of, Gates.HasArguments}
 use Rattle.model_settle.specs.Under.{assumed_or}
 use Rattle.run_step.specs.Ticks.{ValuesAgree}
 use Rattle.run_ticks.specs.cases.Masks.{HaveRows}
 use Rattle.run_ticks.proofs.cases_lemmas.MaskLaws.{put_is}
 use Rattle.run_step.specs.WalkLaws.{have_more, cells_more, walked_none, agree_none, agree_more}
+use Rattle.run_ticks.proofs.RoomLaws.{from_none, no_less, all_done, is_done, place_left}
 use Rattle.run_ticks.proofs.cases.walk.walk.Goals as goal
 
 pub loop-i-init : goal.loop-i-init
 loop-i-init g c = record {
-  room = (let old : length c.args.net.now.gates ≤ vec_capacity c.args.column.now =
-      c.requires.room in omega (arith, old, c.clear.ensures.capacity));
-  own_room = (let old : length c.args.net.now.gates ≤ vec_capacity c.args.owns.now =
-      c.requires.own_room in omega (arith, old, c.clear-2.ensures.capacity));
+  room = subst (λ (n : ℕ). length c.args.net.now.gates ≤ n) (sym c.clear.ensures.capacity)
+      c.requires.room;
+  own_room = subst (λ (n : ℕ). length c.args.net.now.gates ≤ n) (sym c.clear-2.ensures.capacity)
+      c.requires.own_room;
   count = ap length c.clear.ensures.items;
   own_count = ap length c.clear-2.ensures.items;
   cells = c.requires.cells;
@@ -31,21 +32,18 @@ loop-i-init g c = record {
 }
 
 pub gate-gate-requires : goal.gate-gate-requires
-gate-gate-requires g c = omega (arith, c.loop-i-test.true, c.len-i-end.ensures.len)
+gate-gate-requires g c =
+    subst (λ (n : ℕ). c.loop-i.i < n) c.len-i-end.ensures.len c.loop-i-test.true
 
 pub index_mut-requires : goal.index_mut-requires
 index_mut-requires g c =
-    omega (
-      arith,
-      c.loop-i-test.true,
-      c.len-i-end.ensures.len,
-      c.loop-i.invariant.cells.count,
-      c.loop-i.cells.ok.0,
-    )
+    subst (λ (n : ℕ). c.loop-i.i < n)
+    (c.len-i-end.ensures.len ∙ sym (c.loop-i.cells.ok.0 ∙ c.loop-i.invariant.cells.count))
+    c.loop-i-test.true
 
 pub answer-own-requires-clause-names : goal.answer-own-requires-clause-names
 answer-own-requires-clause-names g c =
-    c.requires.names.each c.loop-i.i c.gate-gate.result.now (omega arith) c.gate-gate.ensures.is
+    c.requires.names.each c.loop-i.i c.gate-gate.result.now (from_none c.loop-i.i) c.gate-gate.ensures.is
 
 pub answer-own-requires-clause-arguments : goal.answer-own-requires-clause-arguments
 answer-own-requires-clause-arguments g c =
@@ -78,36 +76,25 @@ mask_at-mask-requires-clause-rows g c =
 
 pub mask_at-mask-requires-clause-gate : goal.mask_at-mask-requires-clause-gate
 mask_at-mask-requires-clause-gate g c =
-    omega (arith, c.loop-i-test.true, c.len-i-end.ensures.len, c.len.ensures.len)
+    subst (λ (n : ℕ). c.loop-i.i < n) (c.len-i-end.ensures.len ∙ sym c.len.ensures.len)
+    c.loop-i-test.true
 
 pub mask_at-mask-requires-clause-short : goal.mask_at-mask-requires-clause-short
 mask_at-mask-requires-clause-short g c = c.args.line.now.horizon_in_range.1
 
 pub push_reserved-requires : goal.push_reserved-requires
 push_reserved-requires g c =
-    let room : length c.args.net.now.gates ≤ vec_capacity c.loop-i.owns =
-    c.loop-i.invariant.own_room in
-    omega (
-      arith,
-      room,
-      c.loop-i.invariant.own_count,
-      c.loop-i.owns.ok.0,
-      c.loop-i-test.true,
-      c.len-i-end.ensures.len,
-    )
+    let long : vec_len c.loop-i.owns ≡ c.loop-i.i = c.loop-i.owns.ok.0 ∙ c.loop-i.invariant.own_count in
+    place_left (vec_len c.loop-i.owns) c.loop-i.i c.len-i-end.result (length c.args.net.now.gates)
+    (vec_capacity c.loop-i.owns) long c.loop-i-test.true c.len-i-end.ensures.len
+    c.loop-i.invariant.own_room
 
 pub push_reserved-requires-in-loop-i : goal.push_reserved-requires-in-loop-i
 push_reserved-requires-in-loop-i g c =
-    let room : length c.args.net.now.gates ≤ vec_capacity c.loop-i.column =
-    c.loop-i.invariant.room in
-    omega (
-      arith,
-      room,
-      c.loop-i.invariant.count,
-      c.loop-i.column.ok.0,
-      c.loop-i-test.true,
-      c.len-i-end.ensures.len,
-    )
+    let long : vec_len c.loop-i.column ≡ c.loop-i.i = c.loop-i.column.ok.0 ∙ c.loop-i.invariant.count in
+    place_left (vec_len c.loop-i.column) c.loop-i.i c.len-i-end.result (length c.args.net.now.gates)
+    (vec_capacity c.loop-i.column) long c.loop-i-test.true c.len-i-end.ensures.len
+    c.loop-i.invariant.room
 
 pub loop-i-preserved : goal.loop-i-preserved
 loop-i-preserved g c =
@@ -137,8 +124,8 @@ loop-i-preserved g c =
     slice_get_read cells (length gates) i c.index_mut.result.now
     (sym c.loop-i.invariant.cells.count) inside c.index_mut.ensures.value in
     record {
-      room = omega arith;
-      own_room = omega arith;
+      room = subst (λ (n : ℕ). length gates ≤ n) (sym same_room) old_room;
+      own_room = subst (λ (n : ℕ). length gates ≤ n) (sym same_own) old_own;
       count = ap length pushed ∙ length-append column (x ∷ [])
           ∙ ap (λ (n : ℕ). n + 1) c.loop-i.invariant.count;
       own_count = ap length own_pushed ∙ length-append owns (own ∷ [])
@@ -149,7 +136,7 @@ loop-i-preserved g c =
           let before = c.loop-i.invariant.walked lane level w keys u v inside put world ready in
           let agree : ValuesAgree rails lane u t c.as_slice.result.now =
           subst (ValuesAgree rails lane u t) (sym c.as_slice.ensures.value) before.0.0 in
-          let now = before.1.left i here c.index_mut.result.now (omega arith) gate_is old in
+          let now = before.1.left i here c.index_mut.result.now (no_less i) gate_is old in
           let own_is : rails own lane ≡ v i t =
           c.answer-own.ensures.answers lane w keys u inside world ready.sent agree now
           ∙ sym (ready.told.owns i here gate_is) in
@@ -181,23 +168,13 @@ returns-clause-own_room g c = c.loop-i.invariant.own_room
 
 pub returns-clause-count : goal.returns-clause-count
 returns-clause-count g c =
-    omega (
-      arith,
-      c.loop-i.invariant.count,
-      c.loop-i.auto.i-end,
-      c.loop-i-test.false,
-      c.len-i-end.ensures.len,
-    )
+    all_done _ c.loop-i.i c.len-i-end.result (length c.args.net.now.gates)
+    c.loop-i.invariant.count c.loop-i.auto.i-end c.loop-i-test.false c.len-i-end.ensures.len
 
 pub returns-clause-own_count : goal.returns-clause-own_count
 returns-clause-own_count g c =
-    omega (
-      arith,
-      c.loop-i.invariant.own_count,
-      c.loop-i.auto.i-end,
-      c.loop-i-test.false,
-      c.len-i-end.ensures.len,
-    )
+    all_done _ c.loop-i.i c.len-i-end.result (length c.args.net.now.gates)
+    c.loop-i.invariant.own_count c.loop-i.auto.i-end c.loop-i-test.false c.len-i-end.ensures.len
 
 pub returns-clause-cells : goal.returns-clause-cells
 returns-clause-cells g c = c.loop-i.invariant.cells
@@ -206,9 +183,9 @@ pub returns-clause-stands : goal.returns-clause-stands
 returns-clause-stands g c = λ lane level w keys u v inside put world ready i gate cell ga ca.
     let within : i < length c.args.net.now.gates =
     slice_get_within c.args.net.now.gates i gate ga in
-    let len : c.len-i-end.result ≡ length c.args.net.now.gates = c.len-i-end.ensures.len in
-    let over : c.len-i-end.result ≤ c.loop-i.i = c.loop-i-test.false in
-    let lt : i < c.loop-i.i = omega (arith, within, len, over) in
+    let lt : i < c.loop-i.i =
+    is_done i c.loop-i.i c.len-i-end.result (length c.args.net.now.gates) within
+    c.len-i-end.ensures.len c.loop-i-test.false in
     (c.loop-i.invariant.walked lane level w keys u v inside put world ready).1.done i gate cell lt
     ga ca
 

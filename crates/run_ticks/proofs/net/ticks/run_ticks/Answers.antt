@@ -1,6 +1,6 @@
-use Rattle.std.proofs.Common.{◌≡◌, ℕ, suc, ◌<◌, ◌≤◌, ◌+◌, ◌*◌, ◌++◌, refl, sym, ◌∙◌, ap, arith}
-use Rattle.std.proofs.Common.{length, length-append, subst}
-use Rattle.std.proofs.Math.Nat.{mul-le-mul}
+use Rattle.std.proofs.Common.{◌≡◌, ℕ, suc, ◌<◌, ◌≤◌, ◌+◌, ◌*◌, ◌++◌, refl, sym, ◌∙◌, ap}
+use Rattle.std.proofs.Common.{add-one, length, length-append, subst}
+use Rattle.std.proofs.Math.Nat.{lt_of_lt_of_le}
 use Rattle.std.specs.Prelude.{vec_capacity}
 use Rattle.model_line.specs.Parameters.{terminal_count}
 use Rattle.model_logic.specs.PairMean.{PairWorld, PairSignals}
@@ -16,8 +16,10 @@ use Rattle.run_step.specs.GivenLaws.{stand_none, stand_later, shown_none, shown_
 use Rattle.run_step.specs.GivenLaws.{can_receive}
 use Rattle.run_step.specs.GivenLaws.{world_at}
 use Rattle.run_step.specs.SendLaws.{none_sent, fresh_sent, one_tick_sent}
-use Rattle.run_step.specs.ValueLaws.{tick_fits, values_none, values_more}
+use Rattle.run_step.specs.ValueLaws.{values_none, values_more}
 use Rattle.run_step.specs.{GatePairLaws.gate_pairs-kind, RunLaws.key_pair}
+use Rattle.run_ticks.proofs.RoomLaws.{product_fits, terminals_fit, none_so_far, has_room, room_kept}
+use Rattle.run_ticks.proofs.RoomLaws.{tick_more, tick_has_room, all_told, fits_once, next_later}
 use Rattle.run_ticks.proofs.net.ticks.run_ticks.Goals as goal
 
 pub fresh_tracks-requires : goal.fresh_tracks-requires
@@ -25,20 +27,14 @@ fresh_tracks-requires g c = c.args.run.now.compiled.now.line.now.horizon_in_rang
 
 pub overflow_mul-compiled : goal.overflow_mul-compiled
 overflow_mul-compiled g c =
-    let most : c.args.run.now.compiled.now.line.now.horizon * c.len-width.result ≤ 4000 * 512 =
-    mul-le-mul c.args.run.now.compiled.now.line.now.horizon_in_range.1 c.len-width.ensures.few in
-    record { fits = omega (arith, most) }
+    product_fits c.args.run.now.compiled.now.line.now.horizon c.len-width.result
+    c.args.run.now.compiled.now.line.now.horizon_in_range.1 c.len-width.ensures.few
 
 pub overflow_cast-key_gates : goal.overflow_cast-key_gates
 overflow_cast-key_gates g c =
-    record {
-      fits = omega (
-        arith,
-        ap length c.key_gates.ensures,
-        c.args.run.now.compiled.now.of_line.terminals,
-        c.args.run.now.compiled.now.line.now.two_or_three.1,
-      );
-    }
+    terminals_fit (length c.key_gates.result.now) _ _ (ap length c.key_gates.ensures)
+    c.args.run.now.compiled.now.of_line.terminals
+    c.args.run.now.compiled.now.line.now.two_or_three.1
 
 pub loop-t-init : goal.loop-t-init
 unfolding pair_world_of lane_box
@@ -50,16 +46,12 @@ loop-t-init g c =
     let all : count ≡ terminal_count line =
     ap length c.key_gates.ensures ∙ c.args.run.now.compiled.now.of_line.terminals in
     let width : c.len-width.result ≡ n = c.len-width.ensures.len in
-    let column : vec_capacity c.in_ok-column.column ≡ c.len-width.result =
-    c.in_ok-column.ensures.exact in
-    let values : vec_capacity c.in_ok-values.values ≡ line.horizon * c.len-width.result =
-    c.in_ok-values.ensures.exact in
-    let whole : vec_capacity c.in_ok-values.values ≡ line.horizon * n =
-    values ∙ ap (λ (m : ℕ). line.horizon * m) width in
+    let all_ticks : line.horizon * c.len-width.result ≡ line.horizon * n =
+    ap (λ (m : ℕ). line.horizon * m) width in
     record {
-      count = omega (arith, ap length c.in_ok-values.ensures.items);
-      column_room = omega (arith, column, width);
-      values_room = omega (arith, whole);
+      count = none_so_far n _ (ap length c.in_ok-values.ensures.items);
+      column_room = has_room n c.len-width.result _ c.in_ok-column.ensures.exact width;
+      values_room = has_room (line.horizon * n) _ _ c.in_ok-values.ensures.exact all_ticks;
       delays = c.in_ok-inputs.ensures.delays;
       stand = stand_none g.V.Signal.signal c.args.run.now
           c.in_ok-inputs.inputs.delays.items c.in_ok-inputs.ensures.fresh;
@@ -88,7 +80,7 @@ turn-requires-clause-can g c = c.requires
 
 pub turn-requires-clause-early : goal.turn-requires-clause-early
 turn-requires-clause-early g c =
-    omega (arith, c.loop-t-test.true, c.args.run.now.compiled.now.line.now.horizon_in_range.1)
+    lt_of_lt_of_le c.loop-t-test.true c.args.run.now.compiled.now.line.now.horizon_in_range.1
 
 pub turn-requires-clause-delays : goal.turn-requires-clause-delays
 turn-requires-clause-delays g c = c.loop-t.invariant.delays
@@ -129,7 +121,8 @@ send_all-requires-clause-gates g c =
     (subst (λ (n : ℕ). AreGatesOf net.keys n) (sym wide) c.args.run.now.compiled.now.of_line.laws.keys)
 
 pub send_all-requires-clause-room : goal.send_all-requires-clause-room
-send_all-requires-clause-room g c = omega (arith, c.loop-t-test.true)
+send_all-requires-clause-room g c =
+    fits_once c.loop-t.t c.args.run.now.compiled.now.line.now.horizon c.loop-t-test.true
 
 pub send_all-requires-clause-sent : goal.send_all-requires-clause-sent
 send_all-requires-clause-sent g c =
@@ -150,25 +143,25 @@ loop-t-preserved g c =
     let ends = g.V.Signal.signal.ends in
     let rails = g.V.Signal.signal.rails in
     let n = length net.gates in
-    let next : suc t ≡ t + 1 = omega arith in
+    let next : suc t ≡ t + 1 = sym (add-one t) in
     let values = c.loop-t.values.items in
     let column = c.walk.new.column.items in
     let long : length values ≡ t * n = c.loop-t.invariant.count in
     let wide : length column ≡ n = c.walk.ensures.count in
     let pushed : c.extend_within.new.list.items ≡ values ++ column =
     c.extend_within.ensures.items ∙ ap (λ l. values ++ l) c.as_slice-in-loop-t-3.ensures.value in
-    let longer : length values + length column ≡ (t + 1) * n = omega (arith, long, wide) in
+    let longer = tick_more t n (length values) (length column) long wide in
     let room : line.horizon * n ≤ vec_capacity c.loop-t.values = c.loop-t.invariant.values_room in
     let more : vec_capacity c.loop-t.values ≤ vec_capacity c.extend_within.new.list =
     c.extend_within.ensures.room in
     record {
       count = ap length pushed ∙ length-append values column ∙ longer;
       column_room = c.walk.ensures.room;
-      values_room = omega (arith, room, more);
+      values_room = room_kept _ _ _ room more;
       delays = c.turn.ensures.delays;
-      stand = stand_later g.V.Signal.signal c.args.run.now inputs.delays.items t (t + 1) (omega arith)
-          c.turn.ensures.stand;
-      shown = shown_later script.spans.items inputs.shown t (t + 1) inputs.until (omega arith)
+      stand = stand_later g.V.Signal.signal c.args.run.now inputs.delays.items t (t + 1)
+          (next_later t) c.turn.ensures.stand;
+      shown = shown_later script.spans.items inputs.shown t (t + 1) inputs.until (next_later t)
           (c.turn.ensures.shown script.spans.items c.loop-t.invariant.shown);
       cells = c.walk.ensures.cells;
       sent =
@@ -226,23 +219,16 @@ loop-t-preserved g c =
 
 pub extend_within-requires : goal.extend_within-requires
 extend_within-requires g c =
-    let n = length c.args.run.now.compiled.now.net.now.gates in
-    let long : length c.loop-t.values.items ≡ c.loop-t.t * n = c.loop-t.invariant.count in
-    let wide : length c.walk.new.column.items ≡ n = c.walk.ensures.count in
-    let same : length c.as_slice-in-loop-t-3.result.now ≡ length c.walk.new.column.items =
-    ap length c.as_slice-in-loop-t-3.ensures.value in
-    let room : c.args.run.now.compiled.now.line.now.horizon * n ≤ vec_capacity c.loop-t.values =
-    c.loop-t.invariant.values_room in
-    let fits : c.loop-t.t * n + n ≤ c.args.run.now.compiled.now.line.now.horizon * n =
-    tick_fits c.loop-t.t c.args.run.now.compiled.now.line.now.horizon n c.loop-t-test.true in
-    omega (arith, long, wide, same, room, fits)
+    tick_has_room c.loop-t.t c.args.run.now.compiled.now.line.now.horizon
+    (length c.args.run.now.compiled.now.net.now.gates) _ _ _ _ c.loop-t-test.true
+    c.loop-t.invariant.count (ap length c.as_slice-in-loop-t-3.ensures.value)
+    c.walk.ensures.count c.loop-t.invariant.values_room
 
 pub returns-clause-count : goal.returns-clause-count
 returns-clause-count g c =
-    let over : c.args.run.now.compiled.now.line.now.horizon ≤ c.loop-t.t = c.loop-t-test.false in
-    let under : c.loop-t.t ≤ c.args.run.now.compiled.now.line.now.horizon = c.loop-t.auto.t-end in
-    let last : c.loop-t.t ≡ c.args.run.now.compiled.now.line.now.horizon = omega arith in
-    c.loop-t.invariant.count ∙ ap (λ (m : ℕ). m * length c.args.run.now.compiled.now.net.now.gates) last
+    all_told c.loop-t.t c.args.run.now.compiled.now.line.now.horizon
+    (length c.args.run.now.compiled.now.net.now.gates) _ c.loop-t-test.false c.loop-t.auto.t-end
+    c.loop-t.invariant.count
 
 pub returns-clause-told : goal.returns-clause-told
 returns-clause-told g c = λ lane inside. (c.loop-t.invariant.lanes lane inside).told

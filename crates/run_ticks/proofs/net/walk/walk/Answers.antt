@@ -1,4 +1,4 @@
-use Rattle.std.proofs.Common.{◌≡◌, ℕ, ◌<◌, ◌≤◌, ◌+◌, ◌++◌, ◌∷◌, [], Some, refl, sym, ◌∙◌, ap, arith}
+use Rattle.std.proofs.Common.{◌≡◌, ℕ, ◌<◌, ◌≤◌, ◌+◌, ◌++◌, ◌∷◌, [], Some, refl, sym, ◌∙◌, ap}
 use Rattle.std.proofs.Common.{length, length-append, subst}
 use Rattle.std.proofs.lemmas.Option.{slice_get_within, slice_get_read}
 use Rattle.std.specs.Prelude.{slice_get, vec_capacity}
@@ -6,12 +6,13 @@ use Rattle.net_gates.specs.Gates.{HasArguments}
 use Rattle.run_step.specs.Ticks.{ValuesAgree}
 use Rattle.run_step.specs.WalkLaws.{have_more, walked_more, walked_none, agree_none}
 use Rattle.run_step.specs.ShownByLaws.{world_shows}
+use Rattle.run_ticks.proofs.RoomLaws.{from_none, all_done, is_done, place_left}
 use Rattle.run_ticks.proofs.net.walk.walk.Goals as goal
 
 pub loop-i-init : goal.loop-i-init
 loop-i-init g c = record {
-  room = (let old : length c.args.net.now.gates ≤ vec_capacity c.args.column.now =
-      c.requires.room in omega (arith, old, c.clear.ensures.capacity));
+  room = subst (λ (n : ℕ). length c.args.net.now.gates ≤ n) (sym c.clear.ensures.capacity)
+      c.requires.room;
   count = ap length c.clear.ensures.items;
   cells = c.requires.cells;
   walked = λ lane w keys u inside world ready. (
@@ -23,21 +24,18 @@ loop-i-init g c = record {
 }
 
 pub gate-requires : goal.gate-requires
-gate-requires g c = omega (arith, c.loop-i-test.true, c.len-i-end.ensures.len)
+gate-requires g c =
+    subst (λ (n : ℕ). c.loop-i.i < n) c.len-i-end.ensures.len c.loop-i-test.true
 
 pub index_mut-requires : goal.index_mut-requires
 index_mut-requires g c =
-    omega (
-      arith,
-      c.loop-i-test.true,
-      c.len-i-end.ensures.len,
-      c.loop-i.invariant.cells.count,
-      c.loop-i.cells.ok.0,
-    )
+    subst (λ (n : ℕ). c.loop-i.i < n)
+    (c.len-i-end.ensures.len ∙ sym (c.loop-i.cells.ok.0 ∙ c.loop-i.invariant.cells.count))
+    c.loop-i-test.true
 
 pub answer-value-requires-clause-names : goal.answer-value-requires-clause-names
 answer-value-requires-clause-names g c =
-    c.requires.names.each c.loop-i.i c.gate.result.now (omega arith) c.gate.ensures.is
+    c.requires.names.each c.loop-i.i c.gate.result.now (from_none c.loop-i.i) c.gate.ensures.is
 
 pub answer-value-requires-clause-arguments : goal.answer-value-requires-clause-arguments
 answer-value-requires-clause-arguments g c =
@@ -59,16 +57,9 @@ answer-value-requires-clause-moment g c = c.requires.moment
 
 pub push_reserved-requires : goal.push_reserved-requires
 push_reserved-requires g c =
-    let room : length c.args.net.now.gates ≤ vec_capacity c.loop-i.column =
-    c.loop-i.invariant.room in
-    omega (
-      arith,
-      room,
-      c.loop-i.invariant.count,
-      c.loop-i.column.ok.0,
-      c.loop-i-test.true,
-      c.len-i-end.ensures.len,
-    )
+    place_left _ c.loop-i.i c.len-i-end.result (length c.args.net.now.gates) _
+    (c.loop-i.column.ok.0 ∙ c.loop-i.invariant.count) c.loop-i-test.true c.len-i-end.ensures.len
+    c.loop-i.invariant.room
 
 pub loop-i-preserved : goal.loop-i-preserved
 loop-i-preserved g c =
@@ -90,7 +81,7 @@ loop-i-preserved g c =
     slice_get_read cells (length gates) i c.index_mut.result.now
     (sym c.loop-i.invariant.cells.count) inside c.index_mut.ensures.value in
     record {
-      room = omega arith;
+      room = subst (λ (n : ℕ). length gates ≤ n) (sym same_room) old_room;
       count = ap length pushed ∙ length-append column (x ∷ [])
           ∙ ap (λ (n : ℕ). n + 1) c.loop-i.invariant.count;
       cells = have_more gates cells i here c.answer-value.new.cell gate_is
@@ -114,13 +105,8 @@ returns-clause-room g c = c.loop-i.invariant.room
 
 pub returns-clause-count : goal.returns-clause-count
 returns-clause-count g c =
-    omega (
-      arith,
-      c.loop-i.invariant.count,
-      c.loop-i.auto.i-end,
-      c.loop-i-test.false,
-      c.len-i-end.ensures.len,
-    )
+    all_done _ c.loop-i.i c.len-i-end.result (length c.args.net.now.gates)
+    c.loop-i.invariant.count c.loop-i.auto.i-end c.loop-i-test.false c.len-i-end.ensures.len
 
 pub returns-clause-cells : goal.returns-clause-cells
 returns-clause-cells g c = c.loop-i.invariant.cells
@@ -129,9 +115,9 @@ pub returns-clause-stands : goal.returns-clause-stands
 returns-clause-stands g c = λ lane w keys u inside world ready i gate cell ga ca.
     let within : i < length c.args.net.now.gates =
     slice_get_within c.args.net.now.gates i gate ga in
-    let len : c.len-i-end.result ≡ length c.args.net.now.gates = c.len-i-end.ensures.len in
-    let over : c.len-i-end.result ≤ c.loop-i.i = c.loop-i-test.false in
-    let lt : i < c.loop-i.i = omega (arith, within, len, over) in
+    let lt : i < c.loop-i.i =
+    is_done i c.loop-i.i c.len-i-end.result (length c.args.net.now.gates) within
+    c.len-i-end.ensures.len c.loop-i-test.false in
     (c.loop-i.invariant.walked lane w keys u inside world ready).1.done i gate cell lt ga ca
 
 pub returns-clause-answers : goal.returns-clause-answers
