@@ -1,6 +1,6 @@
 -- Records of a file one after another.
-use Rattle.std.proofs.Common.{◌≡◌, ℕ, ◌+◌, ◌<◌, Bool, List, [], ◌∷◌, length, Result, Ok, Err, refl}
-use Rattle.std.proofs.Common.{sym, ap, subst, ◌∙◌, arith}
+use Rattle.std.proofs.Common.{◌≡◌, ℕ, ◌+◌, ◌<◌, List, [], ◌∷◌, length, Result, Ok, Err, refl}
+use Rattle.std.proofs.Common.{sym, ap, ◌∙◌, arith}
 use Rattle.base_records.specs.RecordFile.{RecordFile, after_header, after_records}
 use Rattle.base_memory.specs.declared.stopped.Stopped.{Stopped}
 use Rattle.base_memory.specs.{Gives.◌>>=◌, Gives.Fails, CheckLaws.fails_ends}

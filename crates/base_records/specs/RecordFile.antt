@@ -1,5 +1,5 @@
 -- What a file of records says: a header, and then what each record makes of those before it.
-use Rattle.std.specs.Prelude.{ℕ, ◌+◌, Bool, List, [], ◌∷◌, Result, Ok, Err, if◌then◌else◌}
+use Rattle.std.specs.Prelude.{ℕ, ◌+◌, List, [], ◌∷◌, Result, Ok, Err, if◌then◌else◌}
 use Rattle.base_memory.specs.Gives.{◌>>=◌}
 use Rattle.base_records.specs.{Fields.are_fields, Records.records_of}
 

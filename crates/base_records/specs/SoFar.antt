@@ -1,18 +1,15 @@
 -- What the records so far say: things that are finished, and the latest, to which a record adds.
-use Rattle.std.specs.Prelude.{List, [], ◌∷◌, ◌++◌, Option, None, Some, map, option_map}
+use Rattle.std.specs.Prelude.{List, [], ◌++◌, Option, None, Some, map, option_map}
+use Rattle.std.specs.Prelude.{option_to_list}
 use Rattle.base_records.specs.declared.reading.Reading.{Reading}
 
 pub record SoFar (V : Type 0) : Type 0 where
   pub done : List V
   pub latest : Option V
 
-abbrev pub one_or_none : {V : Type 0} → Option V → List V
-one_or_none None = []
-one_or_none (Some v) = v ∷ []
-
 -- all of them, in file order
 abbrev pub all_of : {V : Type 0} → SoFar V → List V
-all_of s = s.done ++ one_or_none s.latest
+all_of s = s.done ++ option_to_list s.latest
 
 -- before the first
 abbrev pub nothing : {V : Type 0} → SoFar V

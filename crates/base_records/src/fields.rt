@@ -3,7 +3,7 @@
 ghost use Rattle.std.specs.Prelude.{◌≡◌, ◌≢◌, ◌<◌, [], ◌∷◌, MatchOption, Some, length};
 ghost use Rattle.std.specs.Str.{bytes_eq};
 ghost use Rattle.csv.specs.Records.{fields_of, field_at};
-ghost use Rattle.base_records.specs.Fields.{are_fields, is_empty};
+ghost use Rattle.base_records.specs.Fields.{are_fields, is_empty, level_named};
 
 use csv::ByteRecord;
 
@@ -79,4 +79,17 @@ pub fn is_nothing(field: &[u8]) -> bool
     ensures { result ≡ is_empty field.now }
 {
     matches!(field, [])
+}
+
+/// A level, `0` or `1`.
+pub fn level_named(field: &[u8]) -> Option<bool>
+    ensures { result ≡ level_named field.now }
+{
+    if is(field, b"0") {
+        Some(false)
+    } else if is(field, b"1") {
+        Some(true)
+    } else {
+        None
+    }
 }

@@ -14,7 +14,9 @@ mod write;
 
 pub use base_memory::{Memory, Stopped};
 pub use fault::print_fault;
-pub use fields::{field, five_fields, has_five, has_three, is, is_nothing, three_fields};
+pub use fields::{
+    field, five_fields, has_five, has_three, is, is_nothing, level_named, three_fields,
+};
 pub use read::read_file;
 pub use reader::RecordReader;
 pub use reading::Reading;

@@ -1,7 +1,6 @@
 //! What the records so far say.
 
-ghost use Rattle.std.specs.Prelude.{◌≡◌, [], ◌++◌, None, IfOk};
-ghost use Rattle.base_records.specs.SoFar.{one_or_none};
+ghost use Rattle.std.specs.Prelude.{◌≡◌, [], ◌++◌, None, IfOk, option_to_list};
 
 use base_memory::Memory;
 use std::alloc::Global;
@@ -27,7 +26,7 @@ impl<T: Drop> Reading<T> {
 
     /// All of them, in file order.
     pub fn finished(self) -> Result<Vec<T>, Memory>
-        ensures { IfOk result (λ v. v.items ≡ self.done.items ++ one_or_none self.latest) }
+        ensures { IfOk result (λ v. v.items ≡ self.done.items ++ option_to_list self.latest) }
     {
         let Reading { mut done, latest } = self;
         if let Some(last) = latest {

@@ -22,7 +22,7 @@ pub use fault::TextFault;
 pub use find::find_byte;
 pub use line::{LineReader, read_lines};
 pub use milliseconds::{push_ms, push_ticks};
-pub use numbers::push_number;
+pub use numbers::{number_in, push_number};
 pub use part::{PartReader, read_each};
 pub use start::{after, after_name, is};
 pub use whole::read_text;

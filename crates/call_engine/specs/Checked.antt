@@ -1,5 +1,5 @@
 -- The lines that tell what a check of a text found.
-use Rattle.std.specs.Prelude.{◌≡◌, ◌≢◌, [], ◌∷◌, ℕ, List, codes, decimal}
+use Rattle.std.specs.Prelude.{◌≡◌, [], ◌∷◌, ℕ, List, codes, decimal}
 use Rattle.std.specs.List.{concat}
 use Rattle.model_line.specs.NamesByNumber.{terminal_name, parameter_name, script_name}
 use Rattle.model_line.specs.{declared.line.Line.Line, declared.script.Script.Script}

@@ -32,8 +32,8 @@ pub fn accepted_text(alloc: Global, counts: Counts) -> Result<Vec<u8>, Memory>
     )
 }
 
-/// The first line that leaves the grammar.
-pub fn rejected_line(alloc: Global, number: u32) -> Result<Vec<u8>, Memory>
+/// The first line that leaves the grammar; a text of trees may have more lines than 32 bits count.
+pub fn rejected_line(alloc: Global, number: usize) -> Result<Vec<u8>, Memory>
     ensures { IfOk result (λ text. text.items ≡ concat (line_pieces number)) }
 {
     let mut digits = Buffer::new();

@@ -3,7 +3,6 @@
 //! numbers and steps of a choice that matter, and the digest of a text.
 #![tactic(auto)]
 
-mod beginning;
 mod drawings;
 mod firsts;
 mod hash;
@@ -11,7 +10,6 @@ mod least;
 mod slacks;
 mod told;
 
-pub use beginning::inception;
 pub use drawings::{bands, play};
 pub use firsts::{Firsts, find_firsts};
 pub use hash::hash_of;

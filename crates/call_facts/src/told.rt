@@ -9,7 +9,7 @@ ghost use Rattle.call_facts.specs.Told.{is_at_least as is_at_least_of};
 ghost use Rattle.call_facts.specs.Lists.{EachOf, if_one, those_below};
 
 use draw_page::{ToldStep, ToldTime};
-use judge_settle::corner::{nominal, number_of};
+use judge_settle::corner::number_of;
 use model_line::{Line, Memory, name_of_parameter};
 use model_timing::{Step, Timing};
 use run_signal::Tick;
@@ -70,7 +70,7 @@ fn is_told(line: &Line, timing: &Timing, i: u32) -> bool
     ensures { result ≡ is_told_of line.now timing.now i }
 {
     let number = number_of(timing, i);
-    number != nominal(line, i) && number != line.least(i)
+    number != line.middle(i) && number != line.least(i)
 }
 
 fn is_at_least(line: &Line, timing: &Timing, i: u32) -> bool
@@ -79,7 +79,7 @@ fn is_at_least(line: &Line, timing: &Timing, i: u32) -> bool
     ensures { result ≡ is_at_least_of line.now timing.now i }
 {
     let number = number_of(timing, i);
-    number != nominal(line, i) && number == line.least(i)
+    number != line.middle(i) && number == line.least(i)
 }
 
 /// The names of the times that stand at their least, where that is not the middle.

@@ -1,5 +1,5 @@
 -- What a page rests on: an answer to each obligation, and the first ticks of its trip.
-use Rattle.std.specs.Prelude.{◌≡◌, ◌<◌, ◌+◌, ◌*◌, List, Some, slice_get}
+use Rattle.std.specs.Prelude.{◌≡◌, ◌<◌, List, Some, slice_get}
 use Rattle.model_line.specs.{declared.line.Line.Line, declared.script.Script.Script}
 use Rattle.model_line.specs.Parameters.{terminal_count}
 use Rattle.judge_settle.specs.settle.Answers.{IsAnswer}

@@ -3,7 +3,7 @@ use Rattle.std.specs.Prelude.{◌≡◌, ◌≤◌, ◌+◌, ◌*◌, ℕ, List,
 use Rattle.std.specs.List.{flat_map, list_any}
 use Rattle.model_line.specs.{declared.line.Line.Line, declared.script.Script.Script}
 use Rattle.model_line.specs.Parameters.{terminal_count}
-use Rattle.draw_run.specs.layout.Drawings.{scheme_said}
+use Rattle.model_line.specs.NamesByNumber.{scheme_initials}
 use Rattle.draw_page.specs.{declared.page.Page.Page, declared.page.Counts.Counts}
 use Rattle.draw_page.specs.Pages.{page_of}
 use Rattle.draw_page.specs.declared.page.{Time.Time, Digest.Digest}
@@ -22,7 +22,7 @@ use Rattle.call_facts.specs.Times.{AreTimes}
 -- the head: the line's own words and numbers
 pub record IsHeadOf (line : Line) (title : List ℕ) (page : Page) : Type 0 where
   pub title_is : page.title.items ≡ title
-  pub scheme : page.scheme.items ≡ scheme_said line.scheme
+  pub scheme : page.scheme.items ≡ scheme_initials line.scheme
   pub zone1 : page.zone1_trip ≡ line.zone1_trip
   pub tick : page.tick_us ≡ line.tick_us
   pub horizon : page.horizon ≡ line.horizon

@@ -7,8 +7,8 @@ ghost use Rattle.call_facts.specs.Lists.{At};
 
 use crate::known::Known;
 use crate::parts::{Part, swept};
-use call_facts::inception;
 use draw_page::Case;
+use draw_run::diagram::inception;
 use judge_report::deadline;
 use model_line::Memory;
 use std::alloc::Global;

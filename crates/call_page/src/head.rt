@@ -1,12 +1,12 @@
 //! The head of a page.
 
 ghost use Rattle.std.specs.Prelude.{◌≡◌, IfOk, map};
-ghost use Rattle.draw_run.specs.layout.Drawings.{scheme_said};
+ghost use Rattle.model_line.specs.NamesByNumber.{scheme_initials};
 
 use crate::said::Asked;
 use call_answer::text_of;
 use itoa::Buffer;
-use model_line::{Line, Memory, Scheme};
+use model_line::{Line, Memory, scheme_word};
 use std::alloc::Global;
 
 /// The words of a page's head.
@@ -22,13 +22,13 @@ pub struct HeadWords {
 /// What is asked for, and the line's own words.
 pub fn head(alloc: Global, line: &Line, asked: &Asked<'_>) -> Result<HeadWords, Memory>
     ensures title { IfOk result (λ head. head.title.items ≡ asked.now.title.now) }
-    ensures scheme { IfOk result (λ head. head.scheme.items ≡ scheme_said line.now.scheme) }
+    ensures scheme { IfOk result (λ head. head.scheme.items ≡ scheme_initials line.now.scheme) }
     ensures terminals { IfOk result (λ head.
         map (λ name. name.items) head.terminals.items
         ≡ map (λ t. t.name) line.now.terminals.items) }
 {
     let title = Vec::from_slice(alloc, asked.title)?;
-    let scheme = Vec::from_slice(alloc, scheme_words(line.scheme))?;
+    let scheme = Vec::from_slice(alloc, scheme_word(line.scheme))?;
     let program = Vec::from_slice(alloc, asked.program)?;
     let kit = Vec::from_slice(alloc, asked.kit)?;
     let terminals = terminal_names(alloc, line)?;
@@ -39,19 +39,6 @@ pub fn head(alloc: Global, line: &Line, asked: &Asked<'_>) -> Result<HeadWords, 
         program,
         kit,
     })
-}
-
-// The scheme, as `POTT`.
-fn scheme_words(scheme: Scheme) -> &'static [u8]
-    ensures { result.now ≡ scheme_said scheme }
-{
-    match scheme {
-        Scheme::Pott => b"POTT",
-        Scheme::Putt => b"PUTT",
-        Scheme::Dcb => b"DCB",
-        Scheme::Dcub => b"DCUB",
-        Scheme::Dtt => b"DTT",
-    }
 }
 
 // The names of the terminals, in line order.

@@ -4,7 +4,7 @@ ghost use Rattle.std.specs.Prelude.{◌≡◌, ◌<◌, ◌≤◌, ◌+◌, ◌-
 ghost use Rattle.std.specs.List.{flat_map};
 ghost use Rattle.file_tables.specs.script.SoFar.{AreOnce};
 ghost use Rattle.file_study.specs.sweeps.Studies.{script_names};
-ghost use Rattle.draw_run.specs.layout.Drawings.{scheme_said};
+ghost use Rattle.model_line.specs.NamesByNumber.{scheme_initials};
 ghost use Rattle.call_tables.specs.Rows.{AreRows};
 ghost use Rattle.call_answer.specs.Study.{IsAnyStudy};
 ghost use Rattle.call_page.specs.Choices.{IsChoiceOf, IsUndecidedOf, failing_row, open_row};
@@ -183,7 +183,7 @@ fn told(alloc: Global, study: &Study, asked: &Asked<'_>) -> Result<Words, Memory
     requires once { AreOnce (script_names study.now.scripts.items) }
     ensures title { IfOk result (λ told. told.head.title.items ≡ asked.now.title.now) }
     ensures scheme { IfOk result (λ told.
-        told.head.scheme.items ≡ scheme_said study.now.line.scheme) }
+        told.head.scheme.items ≡ scheme_initials study.now.line.scheme) }
     ensures terminals { IfOk result (λ told.
         map (λ name. name.items) told.head.terminals.items
         ≡ map (λ t. t.name) study.now.line.terminals.items) }

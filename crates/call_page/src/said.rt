@@ -12,13 +12,11 @@ ghost use Rattle.call_page.specs.{Pages.IsPageText, Pages.page_answer};
 
 use crate::known::Known;
 use crate::page::page;
-use crate::undecided::is_open;
-use call_answer::{Done, Said, Study};
+use call_answer::{Said, Study};
 use call_facts::find_firsts;
-use call_tables::{Row, settle_all};
+use call_tables::{Row, settle_all, status_of};
 use draw_page::page_text;
 use file_study::sweeps::Group;
-use judge_settle::settle::Answer;
 use model_line::Memory;
 use std::alloc::Global;
 
@@ -79,37 +77,4 @@ fn text_of_rows(
         page_text(alloc, &page)
     };
     Ok(text?)
-}
-
-fn status_of(rows: &[Row]) -> Done
-    ensures { result ≡ status_by (list_any row_fails rows.now) (list_any row_is_open rows.now) }
-{
-    if some_fails(rows) {
-        Done::SomeNo
-    } else if some_is_open(rows) {
-        Done::SomeUndecided
-    } else {
-        Done::Good
-    }
-}
-
-fn some_fails(rows: &[Row]) -> bool
-    ensures { result ≡ list_any row_fails rows.now }
-{
-    rows.iter().any(|row| is_failing(row))
-}
-
-fn some_is_open(rows: &[Row]) -> bool
-    ensures { result ≡ list_any row_is_open rows.now }
-{
-    rows.iter().any(|row| is_open(row))
-}
-
-fn is_failing(row: &Row) -> bool
-    ensures { result ≡ row_fails row.now }
-{
-    match row.settled.answer {
-        Answer::Fails(_) => true,
-        Answer::Held(_) | Answer::Open(_) => false,
-    }
 }

@@ -3,15 +3,14 @@
 ghost use Rattle.std.specs.Prelude.{◌≡◌, ◌<◌, ◌++◌, ◌^◌, List, IfOk, OnOk, length};
 ghost use Rattle.std.specs.List.{flat_map};
 ghost use Rattle.call_tables.specs.declared.row.Row.{Row as RowOf};
-ghost use Rattle.call_tables.specs.{Rows.AreRows, Table.is_open as row_is_open};
+ghost use Rattle.call_tables.specs.{Rows.AreRows};
 ghost use Rattle.call_page.specs.{Choices.IsUndecidedOf, Choices.open_row};
 ghost use Rattle.call_facts.specs.Lists.{EachOf};
 
 use crate::parts::{Part, part_of_script};
 use call_answer::Study;
-use call_tables::Row;
+use call_tables::{Row, is_open};
 use draw_page::Undecided;
-use judge_settle::settle::Answer;
 use model_line::{Memory, name_of_script, name_of_terminal};
 use std::alloc::Global;
 
@@ -54,16 +53,6 @@ fn push_open(
         those.push(one)?;
     }
     Ok(())
-}
-
-/// Whether an obligation is open.
-pub fn is_open(row: &Row) -> bool
-    ensures { result ≡ row_is_open row.now }
-{
-    match row.settled.answer {
-        Answer::Open(_) => true,
-        Answer::Held(_) | Answer::Fails(_) => false,
-    }
 }
 
 fn one(alloc: Global, study: &Study, parts: &[Part], row: &Row) -> Result<Undecided, Memory>

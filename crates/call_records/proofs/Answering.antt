@@ -1,12 +1,12 @@
 -- What may be answered over all that was read.
-use Rattle.std.proofs.Common.{◌≡◌, ◌∷◌, ◌∙◌, ℕ, List, [], Option, None, Some, Result, Ok, Err, map, refl, ap, sym, subst, inl, inr}
+use Rattle.std.proofs.Common.{◌≡◌, ◌∷◌, ◌∙◌, ℕ, List, [], Option, None, Some, Result, Ok, Err, map, refl, ap, subst, inl, inr}
 use Rattle.std.specs.Prelude.{Vec, slice_get}
 use Rattle.std.specs.declared.alloc.Global.{Global}
 use Rattle.model_line.specs.declared.line.Line.{Line}
 use Rattle.file_comtrade.specs.declared.record.RecordFault.{RecordFault}
 use Rattle.file_records.specs.map.Maps.{MapValues}
 use Rattle.file_records.specs.tracks.Tracks.{AreTracks, BytesValues, FailsAt, PlacedValues, TrackValues, placed_from}
-use Rattle.call_records.specs.Answers.{Answers, IsSourceRefusal, answer_of, over_work, placed_of}
+use Rattle.call_records.specs.Answers.{Answers, answer_of, over_work, placed_of}
 use Rattle.call_records.specs.Course.{RecorderFiles, bytes_in}
 use Rattle.call_records.specs.Faults.{record_refusal}
 use Rattle.call_records.specs.Halts.{End, Tells}

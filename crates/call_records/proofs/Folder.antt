@@ -1,6 +1,6 @@
 -- The folder of a name, found from its end.
-use Rattle.std.proofs.Common.{◌≡◌, ◌==◌, ◌-◌, ◌<◌, ◌≤◌, ℕ, Bool, true, false, not, List, length, take}
-use Rattle.std.proofs.Common.{get_or, ap, arith, sym, subst, ◌∙◌, refl}
+use Rattle.std.proofs.Common.{◌≡◌, ◌==◌, ◌-◌, ◌<◌, ◌≤◌, ℕ, true, false, not, List, length, take}
+use Rattle.std.proofs.Common.{get_or, ap, arith}
 use Rattle.std.specs.List.{suffix_len}
 use Rattle.std.proofs.lemmas.List.Sums.{suffix_len_is}
 use Rattle.call_records.specs.Beside.{folder_of}

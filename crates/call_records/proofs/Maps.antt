@@ -1,6 +1,6 @@
 -- What every map keeps.
 use Rattle.std.proofs.Common.{◌≡◌, ◌<◌, ◌≤◌, ◌+◌, ◌-◌, ◌++◌, ◌&&◌, ℕ, pos, negsuc, true, List, []}
-use Rattle.std.proofs.Common.{◌∷◌, Ok, Err, length, length-append, arith, subst, sym, ap, refl}
+use Rattle.std.proofs.Common.{◌∷◌, Ok, length, length-append, arith, subst, ap, refl}
 use Rattle.std.specs.Prelude.{codes, nat_le, nat_lt}
 use Rattle.std.proofs.lemmas.Bool.{and_parts, leb-true}
 use Rattle.toml.specs.Data.{Data, string, integer, float, boolean, datetime, array, table, Members, Items}

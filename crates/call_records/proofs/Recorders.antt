@@ -1,5 +1,5 @@
 -- The files of recorders, one recorder on.
-use Rattle.std.proofs.Common.{◌≡◌, ◌∷◌, ◌<◌, ◌+◌, ◌++◌, ℕ, List, [], Result, drop, get_or, length, map}
+use Rattle.std.proofs.Common.{◌∷◌, ◌<◌, ◌+◌, ◌++◌, ℕ, List, [], Result, drop, get_or, length, map}
 use Rattle.std.proofs.lemmas.List.{drop_more}
 use Rattle.file_records.specs.map.Recorders.{recorder_values}
 use Rattle.file_records.specs.declared.map.recorder.Recorder.{Recorder}

@@ -5,9 +5,8 @@ use Rattle.std.proofs.lemmas.Bool.{le-ltb, lt-ltb}
 use Rattle.base_text.specs.{store.CountLaws.same_both, store.Store.SameCounts}
 use Rattle.model_line.specs.declared.line.Line.{Line}
 use Rattle.file_line.specs.Lines.{LineValues, line_values}
-use Rattle.call_records.specs.{Answers.answer_of, Answers.refuses, Halts.End, Halts.Tells, Halts.told_of}
+use Rattle.call_records.specs.{Answers.answer_of, Halts.End, Halts.Tells, Halts.told_of}
 use Rattle.call_records.specs.Course.{Course, NamedFile, makes, over, reads, refused, RecorderFiles}
-use Rattle.call_records.specs.Faults.{too_long_line}
 use Rattle.call_records.specs.Files.{AllTold, Cause, Fetches, Held, NoneRose, Runs, answers}
 use Rattle.call_records.specs.Read.{Gives, IsMemory, Stops, text_seen}
 use Rattle.call_ask.specs.declared.records.RecordsWork.{RecordsWork as Work}

@@ -1,5 +1,5 @@
 -- What may be answered over all that was read: how the call ends, and its text on out.
-use Rattle.std.specs.Prelude.{◌≡◌, ◌⊎◌, ◌<◌, ◌∷◌, ℕ, List, [], Ok, Err, map, length, get_or, Some, slice_get, false}
+use Rattle.std.specs.Prelude.{◌≡◌, ◌⊎◌, ◌<◌, ◌∷◌, ℕ, List, [], Ok, Err, map, length, Some, slice_get}
 use Rattle.model_line.specs.declared.line.Line.{Line}
 use Rattle.file_comtrade.specs.declared.record.RecordFault.{RecordFault}
 use Rattle.file_records.specs.map.Maps.{MapValues}

@@ -4,7 +4,7 @@ use Rattle.std.specs.Prelude.{decimal}
 use Rattle.std.specs.List.{concat}
 use Rattle.model_line.specs.declared.line.Line.{Line}
 use Rattle.model_line.specs.NamesByNumber.{terminal_name}
-use Rattle.file_line.specs.{Faults.fault_name, declared.fault.LineFault.LineFault}
+use Rattle.file_line.specs.{declared.fault.LineFault.LineFault}
 use Rattle.file_line.specs.declared.fault.LineFault.TheVariants as line_fault
 use Rattle.file_comtrade.specs.declared.fault.{ConfigFault.ConfigFault, DataFault.DataFault}
 use Rattle.file_comtrade.specs.declared.fault.ConfigFault.TheVariants as config_fault

@@ -1,7 +1,6 @@
 -- What a store tells of the files of a course.
 use Rattle.std.specs.Prelude.{◌≡◌, ◌⊎◌, ◌<◌, ◌≤◌, ℕ, List, [], Option, Some, IfSome, Result, Ok, Err}
-use Rattle.std.specs.Prelude.{Vec, length, nat_lt, cond, ⊤}
-use Rattle.std.specs.declared.alloc.Global.{Global}
+use Rattle.std.specs.Prelude.{length, nat_lt, cond, ⊤}
 use Rattle.base_text.specs.{store.Counts.Rose, store.Store.SameCounts}
 use Rattle.model_line.specs.declared.line.Line.{Line}
 use Rattle.file_line.specs.Lines.{line_values}

@@ -1,5 +1,5 @@
 -- What the readers of the call answer.
-use Rattle.std.specs.Prelude.{◌≡◌, ◌⊎◌, ℕ, List, [], Vec, Option, None, Some, Result, Ok, Err, map, slice_get, ⊤}
+use Rattle.std.specs.Prelude.{◌≡◌, ◌⊎◌, ℕ, List, [], Vec, Option, None, Some, Result, Ok, Err, slice_get, ⊤}
 use Rattle.std.specs.declared.alloc.Global.{Global}
 use Rattle.file_comtrade.specs.declared.record.RecordFault.{RecordFault}
 use Rattle.file_records.specs.tracks.Tracks.{PlacedValues}

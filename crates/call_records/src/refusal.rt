@@ -202,16 +202,16 @@ fn config_halt(alloc: Global, config: &[u8], fault: ConfigFault) -> Halt
 }
 
 // What is wrong in a sample.
-fn sample_refused(alloc: Global, data: &[u8], n: usize, words: &[u8]) -> Halt
-    ensures { Tells (refusal_line data.now (sample_words n words.now)) result }
+fn sample_refused(alloc: Global, file: &[u8], n: usize, words: &[u8]) -> Halt
+    ensures { Tells (refusal_line file.now (sample_words n words.now)) result }
 {
     let mut digits = Buffer::new();
     let n = digits.format(n).as_bytes();
-    refused(alloc, data, &[b"sample ", n, b": ", words])
+    refused(alloc, file, &[b"sample ", n, b": ", words])
 }
 
-fn level_refused(alloc: Global, data: &[u8], n: usize, channel: usize) -> Halt
-    ensures { Tells (refusal_line data.now (data_words
+fn level_refused(alloc: Global, file: &[u8], n: usize, channel: usize) -> Halt
+    ensures { Tells (refusal_line file.now (data_words
         (data_of.Level n channel))) result }
 {
     let mut digits = Buffer::new();
@@ -220,7 +220,7 @@ fn level_refused(alloc: Global, data: &[u8], n: usize, channel: usize) -> Halt
     let channel = more.format(channel).as_bytes();
     refused(
         alloc,
-        data,
+        file,
         &[
             b"sample ",
             n,
@@ -231,40 +231,40 @@ fn level_refused(alloc: Global, data: &[u8], n: usize, channel: usize) -> Halt
     )
 }
 
-fn data_halt(alloc: Global, data: &[u8], fault: DataFault) -> Halt
-    ensures { Tells (refusal_line data.now (data_words fault)) result }
+fn data_halt(alloc: Global, file: &[u8], fault: DataFault) -> Halt
+    ensures { Tells (refusal_line file.now (data_words fault)) result }
 {
     match fault {
-        DataFault::Absent(n) => missing_refused(alloc, data, b"sample ", n),
-        DataFault::Surplus => refused(alloc, data, &[b"more data than the samples"]),
+        DataFault::Absent(n) => missing_refused(alloc, file, b"sample ", n),
+        DataFault::Surplus => refused(alloc, file, &[b"more data than the samples"]),
         DataFault::Fields(n) => {
-            sample_refused(alloc, data, n, b"not as many fields as channels")
+            sample_refused(alloc, file, n, b"not as many fields as channels")
         }
         DataFault::Number(n) => sample_refused(
             alloc,
-            data,
+            file,
             n,
             b"its number is not one above that of the sample before",
         ),
-        DataFault::Stamp(n) => sample_refused(alloc, data, n, b"its stamp is not a number"),
-        DataFault::Level { sample, channel } => level_refused(alloc, data, sample, channel),
+        DataFault::Stamp(n) => sample_refused(alloc, file, n, b"its stamp is not a number"),
+        DataFault::Level { sample, channel } => level_refused(alloc, file, sample, channel),
         DataFault::NoStamp(n) => {
-            sample_refused(alloc, data, n, b"it has no stamp, and there is no rate")
+            sample_refused(alloc, file, n, b"it has no stamp, and there is no rate")
         }
         DataFault::TooLate(n) => {
-            sample_refused(alloc, data, n, b"its time is 2^64 nanoseconds or more")
+            sample_refused(alloc, file, n, b"its time is 2^64 nanoseconds or more")
         }
         DataFault::Earlier(n) => sample_refused(
             alloc,
-            data,
+            file,
             n,
             b"its time is before that of the sample before",
         ),
     }
 }
 
-fn gap_refused(alloc: Global, data: &[u8], from: u128, to: u128) -> Halt
-    ensures { Tells (refusal_line data.now (gap_words from (Some to))) result }
+fn gap_refused(alloc: Global, file: &[u8], from: u128, to: u128) -> Halt
+    ensures { Tells (refusal_line file.now (gap_words from (Some to))) result }
 {
     let mut digits = Buffer::new();
     let from = digits.format(from).as_bytes();
@@ -272,17 +272,17 @@ fn gap_refused(alloc: Global, data: &[u8], from: u128, to: u128) -> Halt
     let to = more.format(to).as_bytes();
     refused(
         alloc,
-        data,
+        file,
         &[b"samples from tick ", from, b" to tick ", to, b" alone"],
     )
 }
 
-fn tick_halt(alloc: Global, data: &[u8], fault: TickFault) -> Halt
-    ensures { Tells (refusal_line data.now (tick_words fault)) result }
+fn tick_halt(alloc: Global, file: &[u8], fault: TickFault) -> Halt
+    ensures { Tells (refusal_line file.now (tick_words fault)) result }
 {
     match fault.to {
-        None => refused(alloc, data, &[b"all samples are before tick 0"]),
-        Some(to) => gap_refused(alloc, data, fault.from, to),
+        None => refused(alloc, file, &[b"all samples are before tick 0"]),
+        Some(to) => gap_refused(alloc, file, fault.from, to),
     }
 }
 
@@ -305,11 +305,11 @@ fn channel_refused(alloc: Global, config: &[u8], what: &[u8], channel: &ChannelN
 pub fn record_halt(
     alloc: Global,
     config: &[u8],
-    data: &[u8],
+    samples: &[u8],
     channel: &ChannelName,
     fault: RecordFault,
 ) -> Halt
-    ensures { Tells (record_refusal config.now data.now
+    ensures { Tells (record_refusal config.now samples.now
         (channel_said channel.now) fault) result }
 {
     match fault {
@@ -323,7 +323,7 @@ pub fn record_halt(
             b"there is more than one digital channel ",
             channel,
         ),
-        RecordFault::Data(why) => data_halt(alloc, data, why),
-        RecordFault::Ticks(why) => tick_halt(alloc, data, why),
+        RecordFault::Data(why) => data_halt(alloc, samples, why),
+        RecordFault::Ticks(why) => tick_halt(alloc, samples, why),
     }
 }

@@ -11,7 +11,6 @@ use Rattle.call_work.specs.declared.explain.fault.ExplainFault.TheVariants as ex
 use Rattle.call_work.specs.load.Loaded.{halt_by}
 use Rattle.call_study.specs.{Answers.answer_by, Ends.Gives}
 use Rattle.call_work.specs.load.Reading.{explain_halt, explain_in, which_script}
-use Rattle.call_work.specs.declared.load.halt.Halt.TheVariants as halt
 
 module _ (within : ℕ) (form : ExplainForm) (line : Line) (scripts : List Script)
     (record_bytes : List ℕ) (script : Option (List ℕ)) (which : Option ℕ)

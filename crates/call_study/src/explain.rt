@@ -29,15 +29,15 @@ pub fn explain(
     alloc: Global,
     how: Explaining,
     bytes: &Bytes,
-    record: &[u8],
+    recording: &[u8],
     script: Option<&str>,
 ) -> Result<Said, Halt>
-    requires { length record.now ≤ 1048576 }
-    ensures { Gives (answer_by (explain_of how.within how.form (given_of bytes.now) record.now
+    requires { length recording.now ≤ 1048576 }
+    ensures { Gives (answer_by (explain_of how.within how.form (given_of bytes.now) recording.now
         (option_copied script.entry))) result }
 {
     let loaded = load(alloc, bytes)?;
-    explain_few(alloc, how, &loaded, record, script)
+    explain_few(alloc, how, &loaded, recording, script)
 }
 
 // The same over what was read; denied where there are too many scripts.
@@ -45,17 +45,17 @@ fn explain_few(
     alloc: Global,
     how: Explaining,
     loaded: &Loaded,
-    record: &[u8],
+    recording: &[u8],
     script: Option<&str>,
 ) -> Result<Said, Halt>
     requires loaded { IsLoaded loaded.now }
-    requires short { length record.now ≤ 1048576 }
-    ensures { Gives (answer_by (explain_of how.within how.form (as_read (studied loaded.now)) record.now
+    requires short { length recording.now ≤ 1048576 }
+    ensures { Gives (answer_by (explain_of how.within how.form (as_read (studied loaded.now)) recording.now
         (option_copied script.entry))) result }
 {
     match at_most(64, loaded.study.scripts.as_slice()) {
         Some(why) => Err(Halt::Denied(why)),
-        None => explain_over(alloc, how, &loaded.study, record, script),
+        None => explain_over(alloc, how, &loaded.study, recording, script),
     }
 }
 
@@ -64,13 +64,13 @@ fn explain_over<'a>(
     alloc: Global,
     how: Explaining,
     study: &'a Study,
-    record: &'a [u8],
+    recording: &'a [u8],
     script: Option<&str>,
 ) -> Result<Said, Halt>
     requires few { length study.now.scripts.items ≤ 64 }
-    requires short { length record.now ≤ 1048576 }
+    requires short { length recording.now ≤ 1048576 }
     ensures { Gives (answer_by (explain_in how.within how.form study.now.line
-        study.now.scripts.items record.now (option_copied script.entry))) result }
+        study.now.scripts.items recording.now (option_copied script.entry))) result }
 {
     let scripts = study.scripts.as_slice();
     let Some(which) = script_named(scripts, script) else {
@@ -82,7 +82,7 @@ fn explain_over<'a>(
             net: &study.net,
         },
         scripts,
-        record,
+        record: recording,
         script: which,
         within: how.within,
         analyses: how.analyses,

@@ -3,12 +3,13 @@
 ghost use Rattle.std.specs.Prelude.{◌≡◌, IfOk};
 ghost use Rattle.std.specs.List.{concat};
 ghost use Rattle.call_answer.specs.{Answers.Says, Study.IsStudy};
-ghost use Rattle.call_engine.specs.Checked.{line_pieces};
 ghost use Rattle.call_tables.specs.Recheck.{recheck_answer, rejected_pieces};
 
 use base_memory::{Memory, Stopped};
 use call_answer::{Said, Study, text_of};
-use call_engine::checked::{accepted_text, place, rejected_outside, rejected_passes};
+use call_engine::checked::{
+    accepted_text, place, rejected_line, rejected_outside, rejected_passes,
+};
 use cert_settle::{SettleFault, check_settle};
 use itoa::Buffer;
 use net_gates::Compiled;
@@ -63,13 +64,4 @@ fn rejected_text(alloc: Global, study: &Study, fault: SettleFault) -> Result<Vec
             tick,
         } => rejected_passes(alloc, study, script, terminal, tick),
     }
-}
-
-// The first line that leaves the grammar; a text has more lines than a number of 32 bits counts.
-fn rejected_line(alloc: Global, number: usize) -> Result<Vec<u8>, Memory>
-    ensures { IfOk result (λ text. text.items ≡ concat (line_pieces number)) }
-{
-    let mut digits = Buffer::new();
-    let number = digits.format(number).as_bytes();
-    text_of(alloc, &[b"rejected Line ", number, b"\n"])
 }

@@ -17,7 +17,7 @@ use call_answer::Study;
 use file_tables::timing::print_timings;
 use judge_settle::settle::Answer;
 use model_line::{Line, Memory};
-use model_timing::{NamedTiming, Timing};
+use model_timing::NamedTiming;
 use std::alloc::Global;
 
 /// The timings that fail obligations of a script, as a file of timings: one for each terminal where
@@ -73,17 +73,8 @@ fn push_failing(
 {
     if let Answer::Fails(timing) = &row.settled.answer {
         let name = line.terminals[row.terminal as usize].name;
-        let timing = copy_of(alloc, timing)?;
+        let timing = timing.copy(alloc)?;
         timings.push(NamedTiming { name, timing })?;
     }
     Ok(())
-}
-
-// The same timing once more.
-fn copy_of(alloc: Global, timing: &Timing) -> Result<Timing, Memory>
-    ensures { IfOk result (λ copy. copy ≡ timing.now) }
-{
-    let values = Vec::from_slice(alloc, timing.values())?;
-    let steps = Vec::from_slice(alloc, timing.steps())?;
-    Ok(Timing::with_steps(values, steps))
 }

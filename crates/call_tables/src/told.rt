@@ -40,7 +40,8 @@ pub fn table_of(alloc: Global, study: &Study, rows: &[Row]) -> Result<Said, Memo
     })
 }
 
-fn status_of(rows: &[Row]) -> Done
+/// The status of these rows: 1 where one fails, else 2 where one is open, else 0.
+pub fn status_of(rows: &[Row]) -> Done
     ensures { result ≡ status_by (list_any row_fails rows.now) (list_any row_is_open rows.now) }
 {
     if some_fails(rows) {
@@ -73,7 +74,8 @@ fn is_failing(row: &Row) -> bool
     }
 }
 
-fn is_open(row: &Row) -> bool
+/// Whether an obligation is open.
+pub fn is_open(row: &Row) -> bool
     ensures { result ≡ row_is_open row.now }
 {
     match row.settled.answer {

@@ -6,8 +6,7 @@ use Rattle.std.specs.List.{count_by, filter_map, list_any}
 use Rattle.csv.specs.Writing.{row_text, default_writer}
 use Rattle.model_line.specs.{declared.line.Line.Line, declared.script.Script.Script}
 use Rattle.model_line.specs.Parameters.{terminal_count}
-use Rattle.model_line.specs.NamesByNumber.{terminal_name}
-use Rattle.judge_report.specs.ReportText.{kind_word}
+use Rattle.model_line.specs.NamesByNumber.{kind_text, terminal_name}
 use Rattle.file_study.specs.declared.sweeps.group.Group.{Group}
 use Rattle.call_answer.specs.{Answers.Answers, Answers.status_by, declared.done.Done.Done}
 use Rattle.call_verdicts.specs.{Findings.AreFindings, Verdicts.is_failing, Verdicts.is_open}
@@ -47,7 +46,7 @@ faults_header =
 -- not held, by the numbers of places and by the values of what is swept.
 unfoldable pub fault_record : Line → Group → ℕ → List Verdict → List (List ℕ)
 fault_record line group k vs =
-    group.name ∷ terminal_name line k ∷ get_or (map (λ v. kind_word v.kind) vs) 0 []
+    group.name ∷ terminal_name line k ∷ get_or (map (λ v. kind_text v.kind) vs) 0 []
     ∷ decimal (length vs) ∷ decimal (count_by is_held vs)
     ∷ decimal (count_by (λ v. fails_so v.standing) vs)
     ∷ decimal (count_by (λ v. is_left v.standing) vs)

@@ -1,8 +1,9 @@
 -- What is found of all obligations.
-use Rattle.std.specs.Prelude.{◌≡◌, ◌<◌, ◌+◌, ◌*◌, ℕ, List, Option, Some, length, slice_get}
+use Rattle.std.specs.Prelude.{◌≡◌, ◌<◌, ◌+◌, ◌*◌, ℕ, List, Some, length, slice_get}
 use Rattle.model_line.specs.{declared.line.Line.Line, declared.script.Script.Script}
 use Rattle.model_line.specs.Parameters.{terminal_count}
-use Rattle.model_settle.specs.{Choices.EveryChoiceMeets, Schemes.IsOneRailedBy}
+use Rattle.model_logic.specs.Obligations.{EveryChoiceMeets}
+use Rattle.model_settle.specs.Schemes.{IsOneRailedBy}
 use Rattle.model_timing.specs.Timing.{TimingValues}
 use Rattle.judge_verdict.specs.verdict.OneEach.{OneEach}
 use Rattle.judge_report.specs.Firsts.{IsFirstMust}

@@ -6,8 +6,7 @@ use Rattle.csv.specs.Writing.{row_text, default_writer}
 use Rattle.model_line.specs.{declared.line.Line.Line, declared.script.Script.Script}
 use Rattle.model_line.specs.declared.script.Kind.{Kind}
 use Rattle.model_line.specs.declared.script.Kind.TheVariants.{Internal, External}
-use Rattle.model_line.specs.NamesByNumber.{script_name, terminal_name}
-use Rattle.judge_report.specs.ReportText.{kind_word}
+use Rattle.model_line.specs.NamesByNumber.{kind_text, script_name, terminal_name}
 use Rattle.file_study.specs.declared.sweeps.group.Group.{Group}
 use Rattle.judge_settle.specs.settle.Words.{by_word}
 use Rattle.base_text.specs.lines.Milliseconds.{ticks_text}
@@ -63,7 +62,7 @@ unfoldable pub finding_record : Line → List Script → List Group → Finding 
 finding_record line scripts groups f =
     fault_name (place_in groups f.script) ∷ number_text (place_in groups f.script)
     ∷ script_name scripts f.script ∷ terminal_name line f.terminal
-    ∷ get_or (map (λ s. kind_word s.kind) scripts) f.script [] ∷ answer_word f.standing
+    ∷ get_or (map (λ s. kind_text s.kind) scripts) f.script [] ∷ answer_word f.standing
     ∷ by_word f.by ∷ swept_text line.tick_us (place_in groups f.script)
     ∷ trip_text line.tick_us f.first_must
     ∷ get_or (map (λ s. margin_text line.tick_us s.kind s.deadline f.first_must) scripts) f.script []

@@ -1,13 +1,13 @@
 //! The fields of a record of the table of faults that are of its worst place.
 
 ghost use Rattle.std.specs.Prelude.{◌≡◌, [], IfOk, get_or, map};
-ghost use Rattle.judge_report.specs.ReportText.{kind_word as word_of_kind};
+ghost use Rattle.model_line.specs.NamesByNumber.{kind_text};
 ghost use Rattle.call_verdicts.specs.Records.{margin_text as margin_text_of};
 ghost use Rattle.call_verdicts.specs.Records.{trip_text as trip_text_of};
 
-use crate::fields::{TripText, kind_word, told_of_trip};
+use crate::fields::{TripText, told_of_trip};
 use crate::verdict::Verdict;
-use model_line::Memory;
+use model_line::{Memory, kind_word};
 use std::alloc::Global;
 
 /// What is told of the trip at a place; nothing where there is no such place.
@@ -34,7 +34,7 @@ pub fn told_at(
 
 /// The kind of the fault of these, as a word; nothing where there are none.
 pub fn kind_of(verdicts: &[Verdict]) -> &'static [u8]
-    ensures { result.now ≡ get_or (map (λ v. word_of_kind v.kind) verdicts.now) 0 [] }
+    ensures { result.now ≡ get_or (map (λ v. kind_text v.kind) verdicts.now) 0 [] }
 {
     match verdicts.first() {
         Some(one) => kind_word(one.kind),

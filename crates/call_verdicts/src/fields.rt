@@ -2,7 +2,6 @@
 
 ghost use Rattle.std.specs.Prelude.{◌≡◌, ◌++◌, ◌∷◌, [], IfOk, IfSome, None, OnOk, Some, decimal};
 ghost use Rattle.model_line.specs.declared.script.Kind.TheVariants.{Internal};
-ghost use Rattle.judge_report.specs.ReportText.{kind_word as word_of_kind};
 ghost use Rattle.base_text.specs.lines.Milliseconds.{ticks_text};
 ghost use Rattle.call_verdicts.specs.Records.{answer_word as word_of_answer};
 ghost use Rattle.call_verdicts.specs.Records.{margin_text as margin_text_of, times_text};
@@ -124,16 +123,6 @@ pub fn number_words<'a>(digits: &'a mut Buffer, number: Option<usize>) -> &'a [u
     match number {
         Some(number) => digits.format(number).as_bytes(),
         None => b"",
-    }
-}
-
-/// `internal` or `external`.
-pub fn kind_word(kind: Kind) -> &'static [u8]
-    ensures { result.now ≡ word_of_kind kind }
-{
-    match kind {
-        Kind::Internal => b"internal",
-        Kind::External => b"external",
     }
 }
 

@@ -7,14 +7,14 @@ ghost use Rattle.call_verdicts.specs.Findings.{AreFindings};
 ghost use Rattle.call_verdicts.specs.Records.{finding_record, header_record, verdicts_text};
 
 use crate::cases::Cases;
-use crate::fields::{answer_word, kind_word, number_words, told_of_trip};
+use crate::fields::{answer_word, number_words, told_of_trip};
 use crate::finding::Finding;
 use crate::told::{fault_name, number_in, swept_text};
 use base_records::push_record;
 use file_study::sweeps::place_of_script;
 use itoa::Buffer;
 use judge_settle::settle::by_word;
-use model_line::Memory;
+use model_line::{Memory, kind_word};
 use std::alloc::Global;
 
 /// The table: a header, and a record for each finding.

@@ -5,11 +5,11 @@ use clap::{Arg, ArgAction, Command};
 use std::alloc::{AllocError, Global};
 
 // The version of the program.
-const VERSION: &str = "0.26.0";
+const VERSION: &str = "0.27.0";
 
 /// The program and its version, and what proved it, by the sum of its logic, which `rt version`
 /// says too: what a page says.
-pub const PROGRAM: &[u8] = b"study 0.26.0";
+pub const PROGRAM: &[u8] = b"study 0.27.0";
 
 pub const KIT: &[u8] = b"Rattle, logic dac8208d650f15bf";
 

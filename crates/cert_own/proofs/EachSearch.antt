@@ -1,9 +1,9 @@
 -- Each search has an outcome.
-use Rattle.std.proofs.Common.{◌≡◌, ◌+◌, ◌-◌, ◌/◌, ◌<◌, ◌≤◌, ◌⊎◌, inl, inr, ℕ, zero, suc}
+use Rattle.std.proofs.Common.{◌≡◌, ◌+◌, ◌/◌, ◌<◌, ◌≤◌, ◌⊎◌, inl, inr, ℕ, zero, suc}
 use Rattle.std.proofs.Common.{List, None, Some, length, refl, sym, ◌∙◌, ap, subst, arith}
 use Rattle.std.proofs.lemmas.Bool.{cases_eq, cases_lt}
 use Rattle.std.specs.Prelude.{Option}
-use Rattle.model_line.specs.Parameters.{declared_ends, param_count, terminal_count}
+use Rattle.model_line.specs.Parameters.{declared_ends, param_count, terminal_count, declared_middle}
 use Rattle.model_line.specs.{declared.line.Line.Line, declared.script.Script.Script}
 use Rattle.model_line.specs.{WithBounds.IsWithBounds, declared.line.Terminal.Terminal}
 use Rattle.judge_verdict.specs.declared.verdict.verdict.Verdict.{Verdict}
@@ -12,7 +12,7 @@ use Rattle.judge_split.specs.Search.{Found, Tree, Fails, IsLower, IsUpper, IsVer
 use Rattle.judge_split.specs.Search.{IsSearch, yes, no, deepest, narrow, first_fails, second_fails}
 use Rattle.judge_split.specs.Search.{split}
 use Rattle.judge_split.specs.Trees.{Yes, Undecided, Split}
-use Rattle.judge_split.specs.Widths.{width, middle, IsChoiceOf, IsNarrow, IsWidest, IsWidestOf}
+use Rattle.judge_split.specs.Widths.{width, IsChoiceOf, IsNarrow, IsWidest, IsWidestOf}
 use Rattle.judge_split.specs.WidthLaws.{split_free, split_no_delay}
 use Rattle.cert_own.specs.Known.{BoxesKnown}
 use Rattle.cert_own.proofs.{MadeLines.with_bounds, EachVerdict.each_verdict}
@@ -110,7 +110,7 @@ module _ (known : BoxesKnown) (script : Script) (k : ℕ) where
       second_fails n line param first second lower timing at is_lower below is_upper after,
     )
     of_halves (Tree lower, below) (Tree upper, after) = (
-      Tree (Split param (middle line param) lower upper),
+      Tree (Split param (declared_middle line param) lower upper),
       split n line param first second lower upper at is_lower below is_upper after,
     )
 
@@ -137,9 +137,9 @@ module _ (known : BoxesKnown) (script : Script) (k : ℕ) where
         let number = split_no_delay line param wide.free in
         let (first, is_lower) =
         with_bounds known.lines.delays line param (declared_ends line param).least
-        (middle line param) wide.exists number mid.0 (omega (arith, mid.1, within)) in
+        (declared_middle line param) wide.exists number mid.0 (omega (arith, mid.1, within)) in
         let (second, is_upper) =
-        with_bounds known.lines.delays line param (middle line param + 1)
+        with_bounds known.lines.delays line param (declared_middle line param + 1)
         (declared_ends line param).greatest wide.exists number mid.1 within in
         of_halves n line param (record { undecided = is; widest = wide }) first is_lower second
         is_upper (half param _ _ first is_lower) (half param _ _ second is_upper)

@@ -2,7 +2,7 @@
 use Rattle.std.proofs.Common.{◌≡◌, ◌+◌, ◌⊎◌, inl, inr, ⊎_elim, ℕ, zero, suc, refl, sym, ◌∙◌, ap}
 use Rattle.std.proofs.Common.{subst, arith}
 use Rattle.model_line.specs.{declared.line.Line.Line, declared.script.Script.Script}
-use Rattle.model_line.specs.{SameLine.SameLine, Parameters.declared_ends, WithBounds.IsWithBounds}
+use Rattle.model_line.specs.{SameLine.SameLine, Parameters.declared_ends, Parameters.declared_middle, WithBounds.IsWithBounds}
 use Rattle.model_timing.specs.Timing.{TimingValues}
 use Rattle.judge_verdict.specs.declared.verdict.verdict.Verdict.{Verdict}
 use Rattle.judge_verdict.specs.declared.verdict.verdict.Verdict.TheVariants as verdict
@@ -10,7 +10,7 @@ use Rattle.judge_split.specs.Search.{Found, Tree, Fails, IsVerdictOf, IsSplitAt,
 use Rattle.judge_split.specs.Search.{IsSearch, yes, no, deepest, narrow, first_fails, second_fails}
 use Rattle.judge_split.specs.Search.{split}
 use Rattle.judge_split.specs.{Trees.SplitTree, Trees.Yes, Trees.Undecided, Trees.Split}
-use Rattle.judge_split.specs.{Widths.middle, Widths.IsNarrow}
+use Rattle.judge_split.specs.Widths.{IsNarrow}
 use Rattle.cert_own.specs.Known.{LinesKnown}
 use Rattle.cert_own.proofs.SameLines.{own_line, said_once, middle_same, widest_once}
 use Rattle.cert_own.proofs.SameLines.{narrow_or_widest, widest_or_narrow, half_same}
@@ -40,14 +40,14 @@ record InHalves (script : Script) (k m : ℕ) (line : Line) (found : Found) : Ty
   searched : IsSearch script k m first below
   above : Found
   after : IsAbove script k m line param below above
-  is : found ≡ both param (middle line param) below above
+  is : found ≡ both param (declared_middle line param) below above
 
 -- where the lower half has a tree
 above_tree : (script : Script) (k m : ℕ) (line : Line) (param : ℕ) (at : IsSplitAt line script k param)
     (first : Line) (is_lower : IsLower line param first) (lower : SplitTree)
     (searched : IsSearch script k m first (Tree lower)) (second : Line)
     (is_upper : IsUpper line param second) (above : Found) (after : IsSearch script k m second above)
-    → InHalves script k m line (both param (middle line param) (Tree lower) above)
+    → InHalves script k m line (both param (declared_middle line param) (Tree lower) above)
 above_tree script k m line param at first is_lower lower searched second is_upper above after =
     record {
       param = param;
@@ -114,15 +114,15 @@ module _ (known : LinesKnown) (script : Script) (k : ℕ) (old new : Line)
     param_same : a.param ≡ b.param
     param_same = widest_once known old new same a.param b.param a.at.widest b.at.widest
 
-    middles : middle old a.param ≡ middle new b.param
+    middles : declared_middle old a.param ≡ declared_middle new b.param
     middles =
-        sym (middle_same known old new same a.param) ∙ ap (middle new) param_same
+        sym (middle_same known old new same a.param) ∙ ap (declared_middle new) param_same
 
     lowers : SameLine a.first b.first
     lowers =
         half_same known old new same a.param (declared_ends old a.param).least
-        (middle old a.param) a.first b.first a.is_lower
-        (subst (λ (x : ℕ). IsWithBounds new a.param x (middle old a.param) b.first)
+        (declared_middle old a.param) a.first b.first a.is_lower
+        (subst (λ (x : ℕ). IsWithBounds new a.param x (declared_middle old a.param) b.first)
         (same_least known old new same a.param)
         (subst (λ (x : ℕ). IsWithBounds new a.param (declared_ends new a.param).least x b.first)
         (middle_same known old new same a.param)
@@ -134,9 +134,9 @@ module _ (known : LinesKnown) (script : Script) (k : ℕ) (old new : Line)
     uppers : (first second : Line) → IsUpper old a.param first → IsUpper new b.param second
         → SameLine first second
     uppers first second p q =
-        half_same known old new same a.param (middle old a.param + 1)
+        half_same known old new same a.param (declared_middle old a.param + 1)
         (declared_ends old a.param).greatest first second p
-        (subst (λ (x : ℕ). IsWithBounds new a.param (middle old a.param + 1) x second)
+        (subst (λ (x : ℕ). IsWithBounds new a.param (declared_middle old a.param + 1) x second)
         (same_greatest known old new same a.param)
         (subst (λ (x : ℕ).
         IsWithBounds new a.param (x + 1) (declared_ends new a.param).greatest second)
@@ -146,18 +146,18 @@ module _ (known : LinesKnown) (script : Script) (k : ℕ) (old new : Line)
     -- with the same found below, the same comes of both halves
     both_same : (x : Found) (above over : Found) → IsAbove script k m old a.param x above
         → IsAbove script k m new b.param x over
-        → both a.param (middle old a.param) x above ≡ both b.param (middle new b.param) x over
+        → both a.param (declared_middle old a.param) x above ≡ both b.param (declared_middle new b.param) x over
     both_same (Fails timing) above over p q = refl
     both_same (Tree lower) above over p q =
-        ap (λ (y : Found). both a.param (middle old a.param) (Tree lower) y)
+        ap (λ (y : Found). both a.param (declared_middle old a.param) (Tree lower) y)
         (once p.0 q.0 (uppers p.0 q.0 p.1.0 q.1.0) above over p.1.1 q.1.1)
-        ∙ ap (λ (x : ℕ). both x (middle old a.param) (Tree lower) over) param_same
+        ∙ ap (λ (x : ℕ). both x (declared_middle old a.param) (Tree lower) over) param_same
         ∙ ap (λ (x : ℕ). both b.param x (Tree lower) over) middles
 
     halves_once : found ≡ other
     halves_once =
         a.is
-        ∙ ap (λ (x : Found). both a.param (middle old a.param) x a.above) below_same
+        ∙ ap (λ (x : Found). both a.param (declared_middle old a.param) x a.above) below_same
         ∙ both_same b.below a.above b.above
         (subst (λ (x : Found). IsAbove script k m old a.param x a.above) below_same a.after) b.after
         ∙ sym b.is

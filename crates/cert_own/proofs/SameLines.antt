@@ -6,7 +6,7 @@ use Rattle.std.proofs.lemmas.Bool.{cases_lt}
 use Rattle.std.specs.Prelude.{◌&&◌, length, take, nat_le, nat_lt, slice_set, if◌then◌else◌}
 use Rattle.std.specs.List.{count_by, range_with_len}
 use Rattle.model_history.specs.Rails.{Ends, Rails}
-use Rattle.model_line.specs.Parameters.{delay_param, is_delay, declared_ends}
+use Rattle.model_line.specs.Parameters.{delay_param, is_delay, declared_ends, declared_middle}
 use Rattle.model_line.specs.Intervals.{leasts, greatests}
 use Rattle.model_line.specs.WithBounds.{IsWithBounds}
 use Rattle.model_line.specs.{declared.script.Script.Script, declared.line.Line.Line}
@@ -22,7 +22,7 @@ use Rattle.judge_verdict.specs.declared.verdict.verdict.Verdict.{Verdict}
 use Rattle.judge_verdict.specs.declared.verdict.verdict.Verdict.TheVariants.{Yes, No, Undecided}
 use Rattle.judge_verdict.specs.verdict.Verdicts.{FailsAt, PassesAt, IsVerdict}
 use Rattle.judge_verdict.specs.verdict.VerdictLaws.{verdict_once}
-use Rattle.judge_split.specs.Widths.{width, middle, IsWidest, IsNarrow}
+use Rattle.judge_split.specs.Widths.{width, IsWidest, IsNarrow}
 use Rattle.judge_split.specs.Search.{IsVerdictOf}
 use Rattle.cert_own.specs.Known.{LinesKnown}
 
@@ -190,7 +190,7 @@ module _ (known : LinesKnown) (old new : Line) (same : SameLine old new) where
       ap (λ (told : Bool). made told (declared_ends new)) (known.counts.told old new p rest)
       ∙ ap (made (is_delay old p)) ends_same
 
-  pub middle_same : (p : ℕ) → middle new p ≡ middle old p
+  pub middle_same : (p : ℕ) → declared_middle new p ≡ declared_middle old p
   middle_same p = ap (λ (ends : ℕ → Ends). ((ends p).least + (ends p).greatest) / 2) ends_same
 
   pub widest_once : (p q : ℕ) → IsWidest old p → IsWidest new q → p ≡ q

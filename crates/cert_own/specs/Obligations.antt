@@ -2,19 +2,13 @@
 use Rattle.std.specs.Prelude.{◌≡◌, ◌<◌, ℕ, List, Some, length, slice_get}
 use Rattle.model_line.specs.Parameters.{param_count, terminal_count}
 use Rattle.model_line.specs.{declared.line.Line.Line, declared.script.Script.Script}
-use Rattle.model_logic.specs.Choice.{Choice, IsInside, declared_box, steady_choice}
+use Rattle.model_logic.specs.Choice.{IsInside, declared_box, steady_choice}
 use Rattle.model_logic.specs.Histories.{History, IsLineHistory, Meets, PairHistory, IsPairHistory}
+use Rattle.model_logic.specs.Obligations.{EveryChoiceMeets}
 use Rattle.model_logic.specs.Rule.{Unknown, rule_of}
 use Rattle.model_timing.specs.Candidates.{candidate, candidate_count}
 use Rattle.cert_claims.specs.text.Grammar.{Verdict, yes, no, undecided}
 use Rattle.judge_verdict.specs.verdict.Verdicts.{PassesAt}
-
--- every history of every choice of delays inside the declared intervals meets the obligation of
--- terminal k: it trips by the deadline on an internal fault, and never on an external one
-abbrev pub IsMetByAll : Line → Script → ℕ → Type 0
-IsMetByAll line script k =
-    (choice : Choice) (h : History) → IsInside line choice → IsLineHistory line script choice h
-    → Meets line script k h
 
 -- these numbers, one for each parameter, are a choice inside the declared intervals, whose history
 -- does not meet it
@@ -35,13 +29,13 @@ pub record IsUnknown (line : Line) (script : Script) (k : ℕ) : Type 0 where
 
 -- what is true where `certify` prints a verdict
 abbrev pub HoldsAsCertified : Verdict → Line → Script → ℕ → Type 0
-HoldsAsCertified yes line script k = IsMetByAll line script k
+HoldsAsCertified yes line script k = EveryChoiceMeets line script k
 HoldsAsCertified (no values) line script k = IsFailedBy line script k values
 HoldsAsCertified undecided line script k = IsUnknown line script k
 
 -- what is true where a certificate that is accepted has it: an `undecided` promises nothing
 abbrev pub HoldsAsAccepted : Verdict → Line → Script → ℕ → Type 0
-HoldsAsAccepted yes line script k = IsMetByAll line script k
+HoldsAsAccepted yes line script k = EveryChoiceMeets line script k
 HoldsAsAccepted (no values) line script k = IsFailedBy line script k values
 HoldsAsAccepted undecided line script k = Unit {0}
 
@@ -51,7 +45,7 @@ HoldsAsAccepted undecided line script k = Unit {0}
 abbrev pub AllMet : Line → List Script → Type 0
 AllMet line scripts =
     (i k : ℕ) (script : Script) → slice_get scripts i ≡ Some script → k < terminal_count line
-    → IsMetByAll line script k
+    → EveryChoiceMeets line script k
 
 -- some obligation is such
 pub record HoldsSomewhere (line : Line) (scripts : List Script)

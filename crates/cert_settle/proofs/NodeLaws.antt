@@ -11,7 +11,8 @@ use Rattle.judge_split.specs.Parts.{IsPart}
 use Rattle.judge_cases.specs.declared.node.CaseNode.{CaseNode}
 use Rattle.judge_cases.specs.declared.node.CaseNode.TheVariants as node
 use Rattle.cert_settle.specs.Known.{Known}
-use Rattle.cert_settle.specs.Grammar.{MayStand, node_text, split_line, case_line, Root}
+use Rattle.cert_settle.specs.Grammar.{MayStand, node_text, case_line, Root}
+use Rattle.cert_split.specs.text.Grammar.{split_line}
 use Rattle.cert_settle.specs.Grammar.{name_of_terminal}
 
 -- a split is the same here and there

@@ -17,7 +17,8 @@ use Rattle.cert_settle.specs.Known.{Known}
 use Rattle.judge_cases.specs.Trees.{Branches}
 use Rattle.judge_cases.specs.Nodes.{preorder}
 use Rattle.cert_settle.specs.{declared.claim.TreeClaim.TreeClaim, Reading.result_in}
-use Rattle.cert_settle.specs.Grammar.{SettleResult, tree_text}
+use Rattle.cert_settle.specs.Grammar.{SettleResult}
+use Rattle.cert_split.specs.text.Grammar.{tree_text}
 use Rattle.judge_cases.specs.Trees.{AreTree}
 use Rattle.cert_settle.specs.Text.{IsNodeOfLine, IsKnownStep, result_text, trees_text}
 

@@ -9,7 +9,8 @@ use Rattle.cert_split.specs.text.Text.{nodes_text as split_nodes_text}
 use Rattle.cert_split.specs.text.Text.{result_text as split_result_text}
 use Rattle.cert_split.specs.text.Text.{trees_text as split_trees_text}
 use Rattle.cert_settle.specs.Text.{nodes_text, result_text, trees_text}
-use Rattle.cert_settle.specs.Grammar.{node_text, tree_text}
+use Rattle.cert_settle.specs.Grammar.{node_text}
+use Rattle.cert_split.specs.text.Grammar.{tree_text}
 use Rattle.cert_settle.specs.OfSplits.{as_case_node, as_settled}
 
 node_same : (line : Line) (n : Node) → node_text line (as_case_node n) ≡ split_node_text line n

@@ -31,7 +31,8 @@ use Rattle.cert_settle.specs.Grammar.{Root, whole_over, expected}
 use Rattle.cert_settle.specs.Grammar.{Place, fixed, result_over, roots, after_step, Stands}
 use Rattle.cert_settle.specs.Grammar.{opens, Said, after_node, MayStand}
 use Rattle.cert_settle.specs.Grammar.{says_nothing, says_step, says_no, says_node, node_text}
-use Rattle.cert_settle.specs.Grammar.{head_text, tree_text, tree_places, part_places}
+use Rattle.cert_settle.specs.Grammar.{head_text, tree_places, part_places}
+use Rattle.cert_split.specs.text.Grammar.{tree_text}
 use Rattle.cert_settle.specs.Grammar.{result_said, step_text}
 use Rattle.cert_settle.specs.Grammar.{tree_said, part_said, IsSettleText}
 use Rattle.cert_settle.specs.{Known.Known, Text.nodes_text, Text.result_text, Text.trees_text}

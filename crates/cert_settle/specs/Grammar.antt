@@ -15,6 +15,7 @@ use Rattle.base_text.specs.{lines.Named.named, lines.Grammar.Grammar, lines.Gram
 use Rattle.base_text.specs.lines.Grammar.{IsText, LeavesText}
 use Rattle.cert_claims.specs.text.Grammar.{AreNumbers, no_words, script_text, end_text}
 use Rattle.cert_claims.specs.text.Grammar.{terminal_names}
+use Rattle.cert_split.specs.text.Grammar.{tree_text, split_line}
 use Rattle.judge_cases.specs.declared.node.CaseNode.{CaseNode}
 use Rattle.judge_cases.specs.declared.node.CaseNode.TheVariants as node
 use Rattle.judge_cases.specs.Trees.{AreTree, deepest, most_branches}
@@ -62,10 +63,6 @@ pub data Place : Type 0 where
 abbrev pub head_text : List ℕ
 head_text = codes "study-trees 1"
 
--- `tree NAME`
-abbrev pub tree_text : List ℕ → List ℕ
-tree_text name = codes "tree " ++ name
-
 -- a terminal's lines: its own, and those of its result
 abbrev pub tree_places : Line → List ℕ → List Place
 tree_places line name = fixed (tree_text name) ∷ (result_over (declared_box line) ∷ [])
@@ -84,10 +81,6 @@ pub data Said : Type 0 where
   says_step : Step ℕ → Said
   says_no : List ℕ → Said
   says_node : CaseNode → Said
-
--- `split PARAMETER MID`
-abbrev pub split_line : List ℕ → ℕ → List ℕ
-split_line name mid = named (codes "split") name (decimal mid)
 
 -- `case TERMINAL TICK`
 abbrev pub case_line : List ℕ → ℕ → List ℕ

@@ -8,7 +8,8 @@ use Rattle.cert_claims.specs.text.Text.{fed}
 use Rattle.cert_claims.specs.text.Grammar.{no_words, script_text, end_text, terminal_names}
 use Rattle.judge_cases.specs.declared.node.CaseNode.{CaseNode}
 use Rattle.judge_cases.specs.declared.node.CaseNode.TheVariants as node
-use Rattle.cert_settle.specs.Grammar.{SettleResult, tree, fails, head_text, tree_text}
+use Rattle.cert_settle.specs.Grammar.{SettleResult, tree, fails, head_text}
+use Rattle.cert_split.specs.text.Grammar.{tree_text}
 use Rattle.cert_settle.specs.Grammar.{node_text, step_text}
 
 -- a split names a parameter of the line, a pair of cases a terminal, and a step a parameter

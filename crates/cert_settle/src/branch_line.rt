@@ -10,7 +10,8 @@ ghost use Rattle.model_settle.specs.CaseTrees.{HasCases};
 ghost use Rattle.model_logic.specs.Boxes.{CanSplit};
 ghost use Rattle.judge_split.specs.Parts.{IsPart};
 ghost use Rattle.judge_cases.specs.declared.node.CaseNode.{CaseNode};
-ghost use Rattle.cert_settle.specs.Grammar.{MayStand, node_text, split_line, case_line};
+ghost use Rattle.cert_settle.specs.Grammar.{MayStand, node_text, case_line};
+ghost use Rattle.cert_split.specs.text.Grammar.{split_line};
 ghost use Rattle.cert_settle.specs.Grammar.{name_of_terminal};
 
 use crate::known::laws_below;

@@ -10,8 +10,7 @@ ghost use Rattle.cert_settle.specs.Reading.{last_of};
 
 use crate::branch_line::param_name_at;
 use crate::known::laws_below;
-use crate::number::number_in;
-use base_text::lines::{after, find_byte};
+use base_text::lines::{after, find_byte, number_in};
 use model_line::{Line, Name};
 use model_timing::{Step, is_in};
 use run_signal::Tick;

@@ -1,5 +1,3 @@
-pub mod Each
-pub mod EachLaws
 pub mod Roles
 pub mod Parts
 pub mod Lookup

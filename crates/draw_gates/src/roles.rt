@@ -10,7 +10,6 @@ mod own;
 mod role;
 mod roles;
 mod stands;
-mod times;
 
 pub use laws::a_role_stands_for_its_tree;
 pub use lookup::{find_gate, role_of_gate};

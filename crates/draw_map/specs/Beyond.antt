@@ -1,8 +1,8 @@
 -- What is lost first beyond the border of what is held, from the declared point on along each axis.
-use Rattle.std.specs.Prelude.{◌+◌, ◌-◌, ◌*◌, ◌/◌, ◌%◌, ◌++◌, ◌&&◌, ◌==◌, ℕ, zero, suc, Bool, true, false}
+use Rattle.std.specs.Prelude.{◌+◌, ◌-◌, ◌*◌, ◌/◌, ◌%◌, ◌++◌, ◌&&◌, ◌==◌, ℕ, zero, suc, Bool, not}
 use Rattle.std.specs.Prelude.{List, [], ◌∷◌, Option, None, Some, codes, decimal, get_or, length, map}
 use Rattle.std.specs.Prelude.{nat_le, if◌then◌else◌}
-use Rattle.std.specs.List.{list_all}
+use Rattle.std.specs.{List.list_all, Option.option_or, Bool.then_some}
 use Rattle.model_line.specs.{declared.line.Line.Line, declared.script.Script.Script}
 use Rattle.model_line.specs.Parameters.{declared_ends}
 use Rattle.judge_verdict.specs.declared.verdict.rule.Rule.{Rule}
@@ -50,16 +50,11 @@ rules_at axes cells column row =
 abbrev pub is_held_at : Axes → List Cell → ℕ → ℕ → Bool
 is_held_at axes cells column row = list_all is_held (rules_at axes cells column row)
 
--- what was found before, or else n where it does not pass
-abbrev pub first_or : Option ℕ → Bool → ℕ → Option ℕ
-first_or None true n = None
-first_or None false n = Some n
-first_or (Some k) passes n = Some k
-
 -- the first number from `from` on, of so many, that does not pass the test
 abbrev pub first_from : (ℕ → Bool) → ℕ → ℕ → Option ℕ
 first_from test from zero = None
-first_from test from (suc n) = first_or (first_from test from n) (test (from + n)) (from + n)
+first_from test from (suc n) =
+    option_or (first_from test from n) (then_some (not (test (from + n))) (from + n))
 
 -- the last number below n that does not pass the test
 abbrev pub last_below : (ℕ → Bool) → ℕ → Option ℕ

@@ -3,7 +3,7 @@
 ghost use Rattle.std.specs.Prelude.{◌≡◌, ◌≤◌, ◌<◌, ◌+◌, ◌-◌, ◌^◌, IfSome, Some, length};
 ghost use Rattle.std.specs.Prelude.{if◌then◌else◌};
 ghost use Rattle.judge_margins.specs.map.Axes.{column_count, row_count};
-ghost use Rattle.draw_map.specs.Beyond.{first_from, first_or as first_or_of, is_held_at as held_at};
+ghost use Rattle.draw_map.specs.Beyond.{first_from, is_held_at as held_at};
 ghost use Rattle.draw_map.specs.Beyond.{last_below, rules_at as rules_of};
 ghost use Rattle.draw_map.specs.Maps.{IsMap};
 
@@ -46,7 +46,7 @@ pub fn first_right(map: &Map, from: u32, row: u32) -> Option<u32>
 {
     let mut found = None;
     for n in 0..map.axes.columns(map.line) - from {
-        found = first_or(found, is_held_at(map, from + n, row), from + n);
+        found = found.or((!is_held_at(map, from + n, row)).then_some(from + n));
     }
     found
 }
@@ -78,7 +78,7 @@ pub fn first_above(map: &Map, column: u32, from: u32) -> Option<u32>
 {
     let mut found = None;
     for n in 0..map.axes.rows(map.line) - from {
-        found = first_or(found, is_held_at(map, column, from + n), from + n);
+        found = found.or((!is_held_at(map, column, from + n)).then_some(from + n));
     }
     found
 }
@@ -97,17 +97,6 @@ pub fn last_beneath(map: &Map, column: u32, row: u32) -> Option<u32>
         found = last_or(found, is_held_at(map, column, r), r);
     }
     found
-}
-
-// What was found before, or else n where it does not pass.
-fn first_or(found: Option<u32>, passes: bool, n: u32) -> Option<u32>
-    ensures { result ≡ first_or_of found passes n }
-{
-    match (found, passes) {
-        (Some(k), _) => Some(k),
-        (None, true) => None,
-        (None, false) => Some(n),
-    }
 }
 
 // n where it does not pass, or else what was found before.

@@ -12,14 +12,15 @@ use Rattle.draw_page.specs.Elements.{anchor_said, cell_html, columns_html, head_
 use Rattle.draw_page.specs.Elements.{number_cell_html, plain_html, section_html, table_html}
 use Rattle.draw_page.specs.Elements.{words_in_html}
 use Rattle.draw_page.specs.{Badges.badge_html, Figures.figure_html}
-use Rattle.draw_page.specs.Words.{by_said, deadline_said, kind_said, margin_said, trip_said}
+use Rattle.model_line.specs.NamesByNumber.{kind_text}
+use Rattle.draw_page.specs.Words.{by_said, deadline_said, margin_said, trip_said}
 use Rattle.draw_page.specs.Sweeps.{scripts_html, strips_html}
 
 -- ---- the kind, how many scripts, which one is drawn, and what is swept
 
 unfoldable pub subject_said : Fault → List ℕ
 subject_said fault =
-    codes "An " ++ kind_said fault.kind ++ codes " fault. Scripts: "
+    codes "An " ++ kind_text fault.kind ++ codes " fault. Scripts: "
     ++ decimal (length fault.cases.items) ++ codes ". The drawing shows every choice of delays in "
     ++ fault.shown.items ++ codes "."
 

@@ -9,7 +9,8 @@ use Rattle.draw_page.specs.declared.anchor.Anchor.TheVariants as anchor
 use Rattle.draw_page.specs.declared.page.{Page.Page, Fault.Fault, Verdict.Verdict}
 use Rattle.draw_page.specs.Elements.{numbered, plain_html, cell_html, number_cell_html, column_html}
 use Rattle.draw_page.specs.Elements.{head_cell_html, link_html, section_html, table_html}
-use Rattle.draw_page.specs.Words.{kind_said, margin_said, trip_said}
+use Rattle.model_line.specs.NamesByNumber.{kind_text}
+use Rattle.draw_page.specs.Words.{margin_said, trip_said}
 use Rattle.draw_page.specs.Badges.{badge_html}
 
 -- ---- the head: the terminals, and below each its three columns
@@ -52,7 +53,7 @@ unfoldable pub fault_row_html : ℕ → ℕ → Fault → List ℕ
 fault_row_html tick_us n fault =
     plain_html tag.Row
     (head_cell_html (codes "row") (link_html (anchor.Fault n) fault.name.items)
-    ++ cell_html (codes "kind") (codes "kind") (words_text (kind_said fault.kind))
+    ++ cell_html (codes "kind") (codes "kind") (words_text (kind_text fault.kind))
     ++ flat_map (verdict_cells_html tick_us) fault.verdicts.items)
 
 unfoldable pub matrix_html : Page → List ℕ

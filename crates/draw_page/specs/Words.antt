@@ -2,8 +2,6 @@
 use Rattle.std.specs.Prelude.{◌-◌, ◌==◌, ◌++◌, ℕ, List, [], ◌∷◌, Option, None, Some}
 use Rattle.std.specs.Prelude.{codes, decimal, nat_le, if◌then◌else◌}
 use Rattle.base_text.specs.lines.Milliseconds as milliseconds
-use Rattle.model_line.specs.declared.script.Kind.{Kind}
-use Rattle.model_line.specs.declared.script.Kind.TheVariants.{Internal, External}
 use Rattle.draw_page.specs.declared.page.Means.{Means}
 use Rattle.draw_page.specs.declared.page.Means.TheVariants as means
 
@@ -52,10 +50,6 @@ deadline_said tick_us None = codes "never"
 deadline_said tick_us (Some deadline) = time_said tick_us deadline
 
 -- ---- answers
-
-abbrev pub kind_said : Kind → List ℕ
-kind_said Internal = codes "internal"
-kind_said External = codes "external"
 
 abbrev pub by_said : Means → List ℕ
 by_said means.Rules = codes "interval rules"

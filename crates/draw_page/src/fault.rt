@@ -17,9 +17,10 @@ use crate::page::{Case, Fault, Page, Verdict};
 use crate::parts::{around, joined, text_of};
 use crate::scripts::scripts;
 use crate::strip::strips;
-use crate::words::{by_words, deadline_words, kind_words, margin_words, trip_words, words_of};
+use crate::words::{by_words, deadline_words, margin_words, trip_words, words_of};
 use base_markup::html::{Html, Tag};
 use itoa::Buffer;
+use model_line::kind_word;
 use std::alloc::{AllocError, Global};
 
 /// The section of the faults, with a section for each.
@@ -67,12 +68,12 @@ fn about(alloc: Global, fault: &Fault) -> Result<Html, AllocError>
 }
 
 #[tactic(auto, unfolding(crate::specs::Faults::subject_said))]
-fn subject_words(alloc: Global, fault: &Fault) -> Result<Vec<u8>, AllocError>
+fn subject_words<'a>(alloc: Global, fault: &'a Fault) -> Result<Vec<u8>, AllocError>
     ensures { IfOk result (λ text. text.items ≡ subject_said fault.now) }
 {
     let mut digits = Buffer::new();
     let count = digits.format(fault.cases.len()).as_bytes();
-    let kind = kind_words(fault.kind);
+    let kind: &'a [u8] = kind_word(fault.kind);
     words_of(
         alloc,
         &[

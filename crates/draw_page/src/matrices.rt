@@ -12,8 +12,9 @@ use crate::badges::badge;
 use crate::elements::{cell, column, link, number_in, row_head, section, table};
 use crate::page::{Fault, Page, Verdict};
 use crate::parts::{around, element, joined};
-use crate::words::{kind_words, margin_words, trip_words};
+use crate::words::{margin_words, trip_words};
 use base_markup::html::{Attribute, Html, Key, Tag};
+use model_line::kind_word;
 use std::alloc::{AllocError, Global};
 
 /// The section with the matrix: a row for each fault, three cells for each terminal.
@@ -113,7 +114,7 @@ fn fault_row(alloc: Global, tick_us: u32, place: usize, fault: &Fault) -> Result
 {
     let to = Anchor::Fault(place);
     let name = row_head(alloc, link(alloc, to, fault.name.as_slice()));
-    let kind = Html::words(alloc, kind_words(fault.kind));
+    let kind = Html::words(alloc, kind_word(fault.kind));
     let named = joined(name, cell(alloc, b"kind", b"kind", kind));
     let verdicts = verdict_cells(alloc, tick_us, fault.verdicts.as_slice());
     around(alloc, Tag::Row, joined(named, verdicts))

@@ -1,13 +1,12 @@
 //! Times and answers in words.
 
 ghost use Rattle.std.specs.Prelude.{◌≡◌, ◌++◌, [], IfOk, OnOk, map};
-ghost use Rattle.draw_page.specs.Words.{by_said, deadline_said, interval_said, kind_said};
+ghost use Rattle.draw_page.specs.Words.{by_said, deadline_said, interval_said};
 ghost use Rattle.draw_page.specs.Words.{margin_of, margin_said, number_said, ticks_text, time_said};
 ghost use Rattle.draw_page.specs.Words.{trip_said, with_pieces};
 
 use crate::page::Means;
 use itoa::Buffer;
-use model_line::Kind;
 use std::alloc::{AllocError, Global};
 
 /// These pieces, one behind the other.
@@ -140,16 +139,6 @@ pub fn deadline_words(
     match deadline {
         Some(deadline) => time_words(alloc, tick_us, deadline),
         None => Vec::from_slice(alloc, b"never"),
-    }
-}
-
-/// `internal` or `external`.
-pub fn kind_words<'a>(kind: Kind) -> &'a [u8]
-    ensures { result.now ≡ kind_said kind }
-{
-    match kind {
-        Kind::Internal => b"internal",
-        Kind::External => b"external",
     }
 }
 

@@ -19,6 +19,7 @@ pub use delay_steps::marks_are_steps_of_delays;
 pub use diagram::{Diagram, history_diagram, play_diagram};
 pub use drawn::{has_marks, is_off};
 pub use every_choice::every_choice_waves;
+pub use marks::inception;
 pub use rows::Row;
 pub use shown::Shown;
 pub use stretch::Stretch;

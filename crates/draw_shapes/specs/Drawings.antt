@@ -1,5 +1,6 @@
 -- The drawing of a grid: what a reader sees of it.
 use Rattle.std.specs.Prelude.{◌+◌, ◌++◌, ℕ, List, [], ◌∷◌, map, max, length}
+use Rattle.model_history.specs.Each.{each_below}
 use Rattle.draw_shapes.specs.declared.class.Class.TheVariants as class
 use Rattle.draw_shapes.specs.{Seen.SeenFigure, Seen.SeenShape, Seen.SeenDrawing}
 use Rattle.draw_shapes.specs.Seen as seen
@@ -7,7 +8,7 @@ use Rattle.draw_shapes.specs.declared.{grid.Grid.Grid, scale.Scale.Scale}
 use Rattle.draw_shapes.specs.declared.legend.TheConstants.{ENTRIES}
 use Rattle.draw_shapes.specs.Scale.{bottom_of, scale_of}
 use Rattle.draw_shapes.specs.Cells.{bars_at, cells_drawn}
-use Rattle.draw_shapes.specs.Numbers.{columns_said, each_below, rows_said}
+use Rattle.draw_shapes.specs.Numbers.{columns_said, rows_said}
 use Rattle.draw_shapes.specs.Legend.{beyond_said, entries_from, mark}
 
 -- below the cells stand numbers, beside them the legend

@@ -1,6 +1,7 @@
 -- The numbers of a ruler: round times in milliseconds.
-use Rattle.std.specs.Prelude.{◌+◌, ◌-◌, ◌*◌, ◌/◌, ◌%◌, ◌++◌, ◌==◌, ℕ, zero, suc, Bool, List, [], ◌∷◌}
+use Rattle.std.specs.Prelude.{◌+◌, ◌-◌, ◌*◌, ◌/◌, ◌%◌, ◌++◌, ◌==◌, ℕ, Bool, List, [], ◌∷◌}
 use Rattle.std.specs.Prelude.{codes, decimal, nat_le, Option, None, Some, if◌then◌else◌}
+use Rattle.model_history.specs.Each.{each_below}
 use Rattle.draw_shapes.specs.declared.class.Class.TheVariants as class
 use Rattle.draw_shapes.specs.{Seen.SeenFigure}
 use Rattle.draw_shapes.specs.Seen as seen
@@ -29,11 +30,6 @@ round_of ruler long apart =
     (100 ∷ (200 ∷ (500 ∷ (1000 ∷ (2000 ∷ (5000 ∷ (10000
     ∷ (20000 ∷ (50000 ∷ (100000 ∷ (200000 ∷ (500000 ∷ (1000000 ∷ (2000000 ∷ (5000000
     ∷ (10000000 ∷ (20000000 ∷ (50000000 ∷ (100000000 ∷ [])))))))))))))))))))
-
--- the lists of all numbers below n, one after another
-abbrev pub each_below : {A : Type 0} → ℕ → (ℕ → List A) → List A
-each_below zero list = []
-each_below (suc n) list = each_below n list ++ list n
 
 -- a time below the columns, and one at the left of the rows: a stroke and its milliseconds
 abbrev pub time_below : Scale → ℕ → ℕ → List SeenFigure

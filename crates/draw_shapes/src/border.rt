@@ -1,9 +1,9 @@
 //! The border of what is held.
 
 ghost use Rattle.std.specs.Prelude.{◌≡◌, ◌≤◌, ◌<◌, ◌*◌, ◌/◌, ◌%◌, ◌++◌, OnOk, length};
+ghost use Rattle.model_history.specs.Each.{each_below};
 ghost use Rattle.draw_shapes.specs.Seen.{figures_seen};
 ghost use Rattle.draw_shapes.specs.Scale.{IsScale};
-ghost use Rattle.draw_shapes.specs.Numbers.{each_below};
 ghost use Rattle.draw_shapes.specs.Cells.{bars_at, held_at as held_in, is_held as look_is_held};
 ghost use Rattle.draw_shapes.specs.Cells.{parts as parts_of, right_bar, upper_bar};
 

@@ -2,9 +2,10 @@
 
 ghost use Rattle.std.specs.Prelude.{◌≡◌, ◌≤◌, ◌<◌, ◌+◌, ◌*◌, ◌/◌, ◌%◌, ◌^◌, ◌++◌, ◌∷◌, [], OnOk, IfOk};
 ghost use Rattle.std.specs.Prelude.{codes, decimal};
+ghost use Rattle.model_history.specs.Each.{each_below};
 ghost use Rattle.draw_shapes.specs.Seen.{figures_seen, text};
 ghost use Rattle.draw_shapes.specs.Scale.{IsRuler, IsScale, IsSecondRuler, last_of};
-ghost use Rattle.draw_shapes.specs.Numbers.{column_time, column_times, columns_said, each_below};
+ghost use Rattle.draw_shapes.specs.Numbers.{column_time, column_times, columns_said};
 ghost use Rattle.draw_shapes.specs.Numbers.{first_with_room as first_round, has_room as room_for};
 ghost use Rattle.draw_shapes.specs.Numbers.{milliseconds_said, round_of, row_time, row_times};
 ghost use Rattle.draw_shapes.specs.Numbers.{rows_said, time_below, time_beside};

@@ -2,7 +2,7 @@
 use Rattle.std.specs.Prelude.{◌&&◌, ◌==◌, ◌+◌, ◌-◌, ℕ, List, [], ◌∷◌, Option, Some, None}
 use Rattle.std.specs.Prelude.{length, take, drop, fold, nat_le, nat_lt, min, replicate}
 use Rattle.std.specs.Prelude.{if◌then◌else◌, option_and_then}
-use Rattle.std.specs.List.{list_all}
+use Rattle.std.specs.{List.list_all, Option.option_or}
 use Rattle.base_text.specs.store.Number.{is_digit, with_digit}
 use Rattle.file_comtrade.specs.Text.{cut_at}
 
@@ -59,12 +59,8 @@ unfoldable pub plain_of : ℕ → List ℕ → Option ℕ
 plain_of places bytes = scaled_at places bytes (cut_at 46 bytes)
 
 -- the part before an `e` or an `E`, and the exponent behind it
-abbrev pub or_else : {X : Type 0} → Option X → Option X → Option X
-or_else None other = other
-or_else (Some x) other = Some x
-
 unfoldable pub exponent_cut : List ℕ → Option (List ℕ × List ℕ)
-exponent_cut bytes = or_else (cut_at 101 bytes) (cut_at 69 bytes)
+exponent_cut bytes = option_or (cut_at 101 bytes) (cut_at 69 bytes)
 
 abbrev pub fewer : ℕ → Option ℕ → Option ℕ
 fewer places None = None

@@ -1,14 +1,14 @@
 -- One sample of the data, as it is written: binary, or in a line of ASCII.
-use Rattle.std.specs.Prelude.{◌==◌, ◌+◌, ◌*◌, ◌/◌, ◌%◌, ℕ, Bool, true, false}
+use Rattle.std.specs.Prelude.{◌==◌, ◌+◌, ◌*◌, ◌/◌, ◌%◌, ℕ, Bool}
 use Rattle.std.specs.Prelude.{nat_le, List, [], ◌∷◌, ◌++◌, length, take, drop, map, get_or}
-use Rattle.std.specs.Prelude.{codes, Option, Some, None, option_map, Result, Ok}
+use Rattle.std.specs.Prelude.{Option, Some, None, option_map, Result, Ok}
 use Rattle.std.specs.Prelude.{if◌then◌else◌}
 use Rattle.std.specs.List.{slice_get}
 use Rattle.std.specs.Int.{bit_at}
 use Rattle.std.specs.Option.{ok_or}
-use Rattle.std.specs.Str.{bytes_eq}
 use Rattle.byteorder.specs.Endian.{little_number}
 use Rattle.base_memory.specs.Gives.{◌>>=◌, passes_or}
+use Rattle.base_records.specs.Fields.{level_named}
 use Rattle.file_comtrade.specs.Options as option
 use Rattle.file_comtrade.specs.{Number.natural_of, Number.whole_of, Steps.steps, Text.fields_of}
 use Rattle.file_comtrade.specs.declared.config.Form.{Form}
@@ -70,12 +70,6 @@ raw_in_bytes s chosen row = record {
 }
 
 -- ---- ASCII
-
-abbrev pub level_named : List ℕ → Option Bool
-level_named text =
-    if bytes_eq text (codes "0") then Some false
-    else if bytes_eq text (codes "1") then Some true
-    else None
 
 -- the level of a channel, in the fields of a line
 abbrev pub level_field : Shape → List (List ℕ) → ℕ → Option Bool

@@ -2,7 +2,7 @@
 
 ghost use Rattle.std.specs.Prelude.{◌≡◌, ◌<◌, [], length};
 ghost use Rattle.base_memory.specs.Gives.{Gives};
-ghost use Rattle.file_comtrade.specs.RawSample.{level_named, level_field, level_after, stamp_of};
+ghost use Rattle.file_comtrade.specs.RawSample.{level_field, level_after, stamp_of};
 ghost use Rattle.file_comtrade.specs.RawSample.{numbers_in, raw_in_line};
 ghost use Rattle.file_comtrade.specs.{Steps.steps, Views.texts, Views.raw_of};
 
@@ -12,20 +12,8 @@ use crate::raw_sample::RawSample;
 use crate::shape::Shape;
 use crate::text::fields;
 use base_memory::Stopped;
-use base_records::is;
+use base_records::level_named;
 use std::alloc::Global;
-
-fn level_named(text: &[u8]) -> Option<bool>
-    ensures { result ≡ level_named text.now }
-{
-    if is(text, b"0") {
-        Some(false)
-    } else if is(text, b"1") {
-        Some(true)
-    } else {
-        None
-    }
-}
 
 // The level of a channel, in the fields of a line.
 fn level_field(shape: Shape, fields: &[&[u8]], channel: u32) -> Option<bool>

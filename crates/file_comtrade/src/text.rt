@@ -4,6 +4,7 @@ ghost use Rattle.std.specs.Prelude.{◌≡◌, ◌==◌, IfOk, MatchOption, map}
 ghost use Rattle.std.specs.List.{position_or_len, before_first};
 ghost use Rattle.file_comtrade.specs.Text.{trimmed, lines_of, fields_of, cut_at};
 
+use base_text::lines::find_byte;
 use std::alloc::{AllocError, Global};
 
 /// The bytes between the blanks around them.
@@ -40,18 +41,6 @@ pub fn cut(bytes: &[u8], at: u8) -> Option<(&[u8], &[u8])>
     } else {
         None
     }
-}
-
-// Where the byte stands first; the length of the text where it stands nowhere.
-fn find_byte(text: &[u8], byte: u8) -> usize
-    ensures { result ≡ position_or_len (λ other. other == byte) text.now }
-{
-    for (i, other) in text.iter().enumerate() {
-        if *other == byte {
-            return i;
-        }
-    }
-    text.len()
 }
 
 /// What stands before the first such byte, or everything.

@@ -1,16 +1,14 @@
 -- The canonical table has no date that could not be written.
-use Rattle.std.proofs.Common.{◌≡◌, ◌+◌, ℕ, true, List, [], ◌∷◌, map, Less, Equal, Greater, refl}
-use Rattle.std.proofs.lemmas.Bool.{and_parts}
-use Rattle.std.specs.Ordering.{nat_cmp, match_ordering}
-use Rattle.std.specs.Cmp.Lexicographic.{slice_cmp}
-use Rattle.toml.specs.{Data.Data, Data.Members, Data.no_members, Data.member, Data.has_valid_dates}
+use Rattle.std.proofs.Common.{◌≡◌, ◌+◌, ℕ, true, List, [], ◌∷◌, map, refl}
+use Rattle.toml.specs.{Data.Data, Data.Members, Data.no_members, Data.has_valid_dates}
 use Rattle.toml.specs.{Data.items_have_valid_dates, Data.members_have_valid_dates, View.items_of}
 use Rattle.model_line.specs.{declared.line.Line.Line, declared.line.Terminal.Terminal}
 use Rattle.model_line.specs.{declared.line.Channel.Channel, declared.line.Owner.Owner}
 use Rattle.model_line.specs.declared.line.Setting.{Setting}
-use Rattle.file_line.specs.Canonical.{put_member, put_all, table_of, setting_pair, times_data}
+use Rattle.file_line.specs.Canonical.{put_all, table_of, setting_pair, times_data}
 use Rattle.file_line.specs.Canonical.{terminal_members, channel_members}
 use Rattle.file_line.specs.Canonical.{tables_from, head_pairs, table_pairs, canonical_in}
+use Rattle.file_line.specs.PutLaws.{put_dated}
 use Rattle.file_line.proofs.PairLaws.{Each, all_put, terminal_put, channel_put}
 
 abbrev pub IsDated : Data → Type 0
@@ -18,19 +16,6 @@ IsDated d = has_valid_dates d ≡ true
 
 abbrev pub AreDated : Members → Type 0
 AreDated ms = members_have_valid_dates ms ≡ true
-
-put_dated :
-    (k : List ℕ) (d : Data) (ms : Members) → has_valid_dates d ≡ true
-    → members_have_valid_dates ms ≡ true → members_have_valid_dates (put_member k d ms) ≡ true
-put_dated k d no_members a b = rw a
-put_dated k d (member l e ms) a b =
-    let (here, rest) = and_parts (has_valid_dates e) (members_have_valid_dates ms) b in
-    let more : members_have_valid_dates (put_member k d ms) ≡ true = put_dated k d ms a rest in
-    elim (slice_cmp nat_cmp k l)
-    as (λ o. members_have_valid_dates
-    (match_ordering o (member k d (member l e ms)) (member l d ms)
-    (member l e (put_member k d ms))) ≡ true)
-    [ Less ↦ rw (a, here, rest) | Equal ↦ rw (a, rest) | Greater ↦ rw (here, more) ]
 
 all_dated :
     (pairs : List (List ℕ × Data)) (ms : Members) → Each IsDated pairs → AreDated ms

@@ -1,15 +1,14 @@
 -- How deep the canonical table nests.
-use Rattle.std.proofs.Common.{◌+◌, ◌≤◌, ℕ, List, [], ◌∷◌, map, Less, Equal, Greater, arith}
-use Rattle.std.specs.Ordering.{nat_cmp, match_ordering}
-use Rattle.std.specs.Cmp.Lexicographic.{slice_cmp}
-use Rattle.toml.specs.Data.{Data, Members, no_members, member, depth, items_depth, members_depth}
+use Rattle.std.proofs.Common.{◌+◌, ◌≤◌, ℕ, List, [], ◌∷◌, map, arith}
+use Rattle.toml.specs.Data.{Data, Members, no_members, depth, items_depth, members_depth}
 use Rattle.toml.specs.View.{items_of}
 use Rattle.model_line.specs.{declared.line.Line.Line, declared.line.Terminal.Terminal}
 use Rattle.model_line.specs.{declared.line.Channel.Channel, declared.line.Owner.Owner}
 use Rattle.model_line.specs.declared.line.Setting.{Setting}
-use Rattle.file_line.specs.Canonical.{put_member, put_all, table_of, setting_pair, times_data}
+use Rattle.file_line.specs.Canonical.{put_all, table_of, setting_pair, times_data}
 use Rattle.file_line.specs.Canonical.{terminal_members, channel_members}
 use Rattle.file_line.specs.Canonical.{tables_from, head_pairs, table_pairs, canonical_in}
+use Rattle.file_line.specs.PutLaws.{put_depth}
 use Rattle.file_line.proofs.PairLaws.{Each, all_put, terminal_put, channel_put}
 
 -- a value, or the members of a table, nest at most so deep
@@ -18,18 +17,6 @@ IsShallow n d = depth d ≤ n
 
 abbrev pub AreShallow : ℕ → Members → Type 0
 AreShallow n ms = members_depth ms ≤ n
-
-put_depth :
-    (n : ℕ) (k : List ℕ) (d : Data) (ms : Members) → depth d ≤ n → members_depth ms ≤ n
-    → members_depth (put_member k d ms) ≤ n
-put_depth n k d no_members a b = omega arith
-put_depth n k d (member l e ms) a b =
-    let more : members_depth (put_member k d ms) ≤ n = put_depth n k d ms a (omega arith) in
-    elim (slice_cmp nat_cmp k l)
-    as (λ o. members_depth
-    (match_ordering o (member k d (member l e ms)) (member l d ms)
-    (member l e (put_member k d ms))) ≤ n)
-    [ Less ↦ omega arith | Equal ↦ omega arith | Greater ↦ omega arith ]
 
 all_depth :
     (n : ℕ) (pairs : List (List ℕ × Data)) (ms : Members) → Each (IsShallow n) pairs

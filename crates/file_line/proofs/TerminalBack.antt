@@ -34,7 +34,7 @@ use Rattle.file_line.proofs.TerminalHolds.{members, Holds, holds}
 use Rattle.file_line.proofs.ParamPlaces.{intervals, ArePlaced, placed_parts, in_place, placed_from}
 use Rattle.file_line.proofs.ParamPlaces.{settings_within}
 use Rattle.file_line.proofs.TerminalLaws.{own_settings_count}
-use Rattle.file_line.specs.PlainTextLaws.{passes}
+use Rattle.model_line.specs.PlainTextLaws.{passes}
 use Rattle.file_line.proofs.ItemSteps.{items_back}
 
 abbrev pub before : Line → ℕ → ℕ

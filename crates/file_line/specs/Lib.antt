@@ -10,6 +10,5 @@ pub mod LineFiles
 pub mod Canonical
 pub mod LeastUnknown
 pub mod Owners
-pub mod PlainTextLaws
 pub mod DocumentLaws
 pub mod PutLaws

@@ -1,10 +1,16 @@
--- A table's map beside its members, when a value is put under a key.
+-- A table when a value is put under a key: its map beside its members, how deep it nests, and that it
+-- has no date that could not be written.
 use Rattle.std.proofs.Common.{◌≡◌, ◌+◌, ◌<◌, ℕ, List, [], ◌∷◌, length, drop, get_or, map, String}
 use Rattle.std.proofs.Common.{Global, Ordering, Less, Equal, Greater, string_bytes, refl, ◌∙◌, Bor}
+use Rattle.std.proofs.Common.{◌≤◌, true, arith}
+use Rattle.std.proofs.lemmas.Bool.{and_parts}
 use Rattle.std.proofs.lemmas.List.{drop_more}
 use Rattle.std.specs.String.{string_cmp}
-use Rattle.std.specs.Ordering.{match_ordering}
+use Rattle.std.specs.Ordering.{match_ordering, nat_cmp}
+use Rattle.std.specs.Cmp.Lexicographic.{slice_cmp}
 use Rattle.std.specs.BTreeMap.{insert_entry}
+use Rattle.toml.specs.Data.{Data, no_members, member, depth, members_depth, has_valid_dates}
+use Rattle.toml.specs.Data.{members_have_valid_dates}
 use Rattle.toml.specs.{Data.Members, View.view, View.members_view, declared.value.Value.Value}
 use Rattle.toml.proofs.Views.{Entry}
 use Rattle.model_line.specs.{declared.line.Line.Line, declared.line.Owner.Owner}
@@ -47,3 +53,28 @@ pub groups_more :
     ≡ put_groups unit line o (map (λ group. group.now) (drop (i + 1) xs))
     (put_times unit line o (get_or xs i d).now ms)
 groups_more unit line o xs i ms d h = rw (drop_more xs i d h)
+
+-- ---- what stays so
+
+pub put_depth : (n : ℕ) (k : List ℕ) (d : Data) (ms : Members) → depth d ≤ n → members_depth ms ≤ n
+    → members_depth (put_member k d ms) ≤ n
+put_depth n k d no_members a b = omega arith
+put_depth n k d (member l e ms) a b =
+    let more : members_depth (put_member k d ms) ≤ n = put_depth n k d ms a (omega arith) in
+    elim (slice_cmp nat_cmp k l)
+    as (λ o. members_depth
+    (match_ordering o (member k d (member l e ms)) (member l d ms)
+    (member l e (put_member k d ms))) ≤ n)
+    [ Less ↦ omega arith | Equal ↦ omega arith | Greater ↦ omega arith ]
+
+pub put_dated : (k : List ℕ) (d : Data) (ms : Members) → has_valid_dates d ≡ true
+    → members_have_valid_dates ms ≡ true → members_have_valid_dates (put_member k d ms) ≡ true
+put_dated k d no_members a b = rw a
+put_dated k d (member l e ms) a b =
+    let (here, rest) = and_parts (has_valid_dates e) (members_have_valid_dates ms) b in
+    let more : members_have_valid_dates (put_member k d ms) ≡ true = put_dated k d ms a rest in
+    elim (slice_cmp nat_cmp k l)
+    as (λ o. members_have_valid_dates
+    (match_ordering o (member k d (member l e ms)) (member l d ms)
+    (member l e (put_member k d ms))) ≡ true)
+    [ Less ↦ rw (a, here, rest) | Equal ↦ rw (a, rest) | Greater ↦ rw (here, more) ]

@@ -20,17 +20,6 @@ use model_line::{
 use std::alloc::Global;
 use toml::{Table, Value};
 
-// A plain name as a text.
-fn text_of(name: &Name) -> &str
-    requires { is_plain_name name.now ≡ true }
-    ensures { result.now ≡ name.now }
-{
-    match std::str::from_utf8(name.bytes()) {
-        Ok(text) => text,
-        Err(_) => unreachable!(),
-    }
-}
-
 fn put_text(alloc: Global, table: &mut Table, key: &str, text: &str) -> Result<(), Memory>
     ensures { OnOk result
         (table_view table.new ≡ put_member key.now (string text.now) (table_view table.old)) }
@@ -67,7 +56,7 @@ fn terminal_table(
         owner: Owner::Terminal(k),
     };
     let mut table = Table::new(alloc);
-    put_text(alloc, &mut table, "name", text_of(&terminal.name))?;
+    put_text(alloc, &mut table, "name", terminal.name.plain_text())?;
     times.put_groups(&groups_of_terminal(line.scheme, &terminal), &mut table)?;
     Ok(Value::Table(table))
 }
@@ -77,7 +66,7 @@ fn name_of(line: &Line, k: u32) -> &str
     requires { k < length line.now.terminals.items }
     ensures { result.now ≡ name_at line.now.terminals.items k }
 {
-    text_of(&line.terminals[k as usize].name)
+    line.terminals[k as usize].name.plain_text()
 }
 
 // Puts the values of a channel between these terminals.

@@ -22,3 +22,4 @@ pub use laws::the_first_unknown_key_is_the_least;
 pub use path::Path;
 pub use print::{print_line, print_line_us};
 pub use read::read_line;
+pub use table::put;

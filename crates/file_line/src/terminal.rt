@@ -5,7 +5,6 @@ ghost use Rattle.std.specs.Str.{bytes_eq};
 ghost use Rattle.std.specs.List.{list_any};
 ghost use Rattle.toml.specs.View.{view, table_view, items_view};
 ghost use Rattle.base_memory.specs.Gives.{Becomes};
-ghost use Rattle.model_line.specs.Terminals.{has_flags};
 ghost use Rattle.file_line.specs.TerminalTables.{terminal_keys, name_in, name_at, element_times};
 ghost use Rattle.file_line.specs.TerminalTables.{elements_times, permissive_times, scheme_times};
 ghost use Rattle.file_line.specs.TerminalTables.{terminal_named, terminal_at, terminals_at};
@@ -19,7 +18,8 @@ use crate::times::{TableTimes, group_key};
 use base_memory::Stopped;
 use model_line::{
     Bounds, Name, REVERSE_SETTINGS, Scheme, Setting, Terminal, UNDERVOLTAGE_SETTINGS,
-    ZONE1_SETTINGS, ZONE2_SETTINGS, guard_settings, is_plain, scheme_settings, weak_settings,
+    ZONE1_SETTINGS, ZONE2_SETTINGS, guard_settings, is_plain, may_have_flags, scheme_settings,
+    weak_settings,
 };
 use toml::{Table, Value};
 
@@ -119,12 +119,6 @@ fn by_scheme(
     } else {
         times.required(scheme_settings(scheme), intervals)
     }
-}
-
-fn may_have_flags(scheme: Scheme) -> bool
-    ensures { result ≡ has_flags scheme }
-{
-    matches!(scheme, Scheme::Pott | Scheme::Dcub)
 }
 
 fn named(scheme: Scheme, table: &Table, name: Name) -> Terminal

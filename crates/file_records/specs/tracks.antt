@@ -1,4 +1,3 @@
-pub mod Below
 pub mod Channels
 pub mod Tracks
 pub mod Levels

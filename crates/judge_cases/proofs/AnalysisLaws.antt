@@ -7,7 +7,7 @@ use Rattle.std.proofs.lemmas.Bool.Decides.{nat_tests}
 use Rattle.std.specs.Prelude.{Option, Decides, Contains, All, slice_get}
 use Rattle.std.proofs.lemmas.Option.{slice_get_past}
 use Rattle.std.proofs.lemmas.List.{get_or_past}
-use Rattle.model_history.specs.Rails.{Ends, Rails, single}
+use Rattle.model_history.specs.Rails.{Rails, single}
 use Rattle.model_line.specs.{declared.line.Line.Line, declared.script.Script.Script}
 use Rattle.model_line.specs.Parameters.{param_count}
 use Rattle.model_logic.specs.{Boxes.box_of, Tree.Tree}
@@ -25,7 +25,8 @@ use Rattle.run_ticks.specs.cases.UnderWaves.{UnderWavesOf, own_wave}
 use Rattle.judge_verdict.specs.declared.boxes.terns.Terns64.{Terns64}
 use Rattle.judge_verdict.specs.{boxes.Spans.SpanLists, boxes.Spans.span_ends, boxes.Terns.terns_rails}
 use Rattle.judge_cases.specs.declared.view.View.{View}
-use Rattle.judge_cases.specs.Views.{AreViews, AreCases, interval_of, view_box}
+use Rattle.model_logic.specs.Boxes.{interval_of}
+use Rattle.judge_cases.specs.Views.{AreViews, AreCases, view_box}
 use Rattle.judge_cases.specs.Spans.{AreViewSpans, view_in}
 use Rattle.judge_cases.specs.{Puts.views_level, Puts.assumed_of, Excluded.OneExcluded}
 use Rattle.judge_cases.specs.Analyses.{IsHistoryOf}
@@ -37,14 +38,11 @@ view_exists count lane some = grind (arith, nat_tests)
 pub view_here : (count lane : ℕ) → lane < count → view_in count lane ≡ lane
 view_here count lane inside = grind (arith, nat_tests)
 
-abbrev pub lane_ends : SpanLists → ℕ → Ends
-lane_ends span lane = span_ends span lane
-
 module _ (line : Line) (views : List View) (are : AreViews line views) (spans : List SpanLists)
     (spanned : AreViewSpans line views spans) where
   module _ (lane : ℕ) (view : View) (inside : lane < 64)
       (at : slice_get views (view_in (length views) lane) ≡ Some view) where
-    own : (i : ℕ) → own_ends lane_ends lane spans i ≡ interval_of view.ends.items i
+    own : (i : ℕ) → own_ends span_ends lane spans i ≡ interval_of view.ends.items i
     own i =
         let count : length view.ends.items ≡ param_count line =
         (are.each (view_in (length views) lane) view at).count in
@@ -52,17 +50,17 @@ module _ (line : Line) (views : List View) (are : AreViews line views) (spans : 
         (λ lt.
         let there : i < length spans = omega (arith, spanned.count, lt) in
         let (span, here) = exists_at spans i there in
-        ap (ends_in lane_ends lane) here ∙ spanned.each i span here lane view inside at)
-        (λ le. ap (ends_in lane_ends lane) (slice_get_past spans i (omega (arith, spanned.count, le)))
+        ap (ends_in span_ends lane) here ∙ spanned.each i span here lane view inside at)
+        (λ le. ap (ends_in span_ends lane) (slice_get_past spans i (omega (arith, spanned.count, le)))
         ∙ sym (get_or_past view.ends.items i (single 0) (omega (arith, count, le))))
         (cases_lt i (param_count line))
 
     -- the box of a lane is that of its view
-    pub box_is : span_box lane_ends line spans lane ≡ view_box line view
+    pub box_is : span_box span_ends line spans lane ≡ view_box line view
     box_is = ap (box_of line) (fun_ext own)
 
   pub views_delayed : 1 ≤ length views → (lane : ℕ) → lane < 64
-      → LeastFromOne line (span_box lane_ends line spans lane)
+      → LeastFromOne line (span_box span_ends line spans lane)
   views_delayed some lane inside =
       let (view, at) = exists_at views (view_in (length views) lane)
       (view_exists (length views) lane some) in
@@ -80,24 +78,24 @@ module _ (line : Line) (views : List View) (are : AreViews line views) (spans : 
 
     -- the keys of the view's history are those that the run asks for
     pub keys_are : AreKeysUnder line (views_level line views lane)
-        (pair_world_of line script (span_box lane_ends line spans lane)) w.key
+        (pair_world_of line script (span_box span_ends line spans lane)) w.key
     keys_are =
         subst (λ (l : Tree → ℕ → Option Bool). AreKeysUnder line l
-        (pair_world_of line script (span_box lane_ends line spans lane)) w.key) (sym level_is)
+        (pair_world_of line script (span_box span_ends line spans lane)) w.key) (sym level_is)
         (subst (λ (b : Box). AreKeysUnder line level (pair_world_of line script b) w.key)
         (sym (box_is lane view inside at)) history.keys)
 
     -- so its pairs are those of the view
     pub pairs_are : (waves : UnderWavesOf Terns64)
         → ArePairsUnder terns_rails lane (views_level line views lane)
-        (pair_world_of line script (span_box lane_ends line spans lane)) w.key line net waves
+        (pair_world_of line script (span_box span_ends line spans lane)) w.key line net waves
         → ArePairsUnder terns_rails lane level (pair_world_of line script (view_box line view)) w.key
         line net waves
     pairs_are waves pairs =
         subst (λ (b : Box). ArePairsUnder terns_rails lane level (pair_world_of line script b) w.key
         line net waves) (box_is lane view inside at)
         (subst (λ (l : Tree → ℕ → Option Bool). ArePairsUnder terns_rails lane l
-        (pair_world_of line script (span_box lane_ends line spans lane)) w.key line net waves)
+        (pair_world_of line script (span_box span_ends line spans lane)) w.key line net waves)
         level_is pairs)
 
 -- what is so of all is so of one that is contained

@@ -15,7 +15,8 @@ use Rattle.model_logic.specs.BoxLaws.{ends_with-here, ends_with-elsewhere}
 use Rattle.model_settle.specs.Assumed.{Assumption}
 use Rattle.model_settle.specs.CaseTrees.{HasCases, with_case}
 use Rattle.judge_cases.specs.declared.view.View.{View}
-use Rattle.judge_cases.specs.Views.{IsView, Views, AreCases, interval_of}
+use Rattle.model_logic.specs.Boxes.{interval_of}
+use Rattle.judge_cases.specs.Views.{IsView, Views, AreCases}
 use Rattle.model_history.specs.ListLaws.{at_set}
 
 read : (es : List Ends) (i : ℕ) → i < length es → slice_get es i ≡ Some (interval_of es i)

@@ -3,7 +3,8 @@ use Rattle.std.specs.Prelude.{◌≡◌, ◌<◌, ◌-◌, ℕ, List, Some, leng
 use Rattle.std.specs.Prelude.{if◌then◌else◌}
 use Rattle.model_line.specs.{declared.line.Line.Line, Parameters.param_count}
 use Rattle.judge_verdict.specs.boxes.Spans.{SpanLists, span_ends}
-use Rattle.judge_cases.specs.{Views.interval_of, declared.view.View.View}
+use Rattle.model_logic.specs.Boxes.{interval_of}
+use Rattle.judge_cases.specs.declared.view.View.{View}
 
 -- the number of the view in a lane; the lanes past the last view repeat it
 abbrev pub view_in : ℕ → ℕ → ℕ

@@ -1,16 +1,11 @@
--- Views: boxes, each with what is assumed.
-use Rattle.std.specs.Prelude.{◌≡◌, ℕ, List, Some, All, length, slice_get, get_or}
-use Rattle.model_history.specs.Rails.{Ends, single}
+-- Views: boxes, each as an interval for each parameter, with what is assumed.
+use Rattle.std.specs.Prelude.{◌≡◌, ℕ, List, Some, All, length, slice_get}
 use Rattle.model_line.specs.{declared.line.Line.Line, Parameters.param_count}
-use Rattle.model_logic.specs.{Boxes.box_of, Boxes.IsSameBox}
+use Rattle.model_logic.specs.Boxes.{box_of, interval_of, IsSameBox}
 use Rattle.model_logic.specs.Choice.{Box, LeastFromOne}
 use Rattle.model_settle.specs.Assumed.{Assumption}
 use Rattle.model_settle.specs.CaseTrees.{HasCases}
 use Rattle.judge_cases.specs.declared.view.View.{View}
-
--- the interval of each parameter; past the last 0
-abbrev pub interval_of : List Ends → ℕ → Ends
-interval_of ends i = get_or ends i (single 0)
 
 -- the box of a view: each delay has its interval at every tick
 abbrev pub view_box : Line → View → Box

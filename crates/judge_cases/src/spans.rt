@@ -3,7 +3,8 @@
 ghost use Rattle.std.specs.Prelude.{◌≡◌, ◌≤◌, ◌<◌, Some, length, slice_get, IfOk};
 ghost use Rattle.model_line.specs.Parameters.{param_count};
 ghost use Rattle.run_signal.specs.Spans.{AreInOrder};
-ghost use Rattle.judge_cases.specs.{declared.view.View.View, Views.AreViews, Views.interval_of};
+ghost use Rattle.model_logic.specs.Boxes.{interval_of};
+ghost use Rattle.judge_cases.specs.{declared.view.View.View, Views.AreViews};
 ghost use Rattle.judge_cases.specs.Spans.{IsViewSpan, AreViewSpans, view_in};
 
 use crate::view::View;

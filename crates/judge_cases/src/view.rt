@@ -12,12 +12,14 @@ ghost use Rattle.model_settle.specs.CaseTrees.{HasCases};
 ghost use Rattle.model_logic.specs.Boxes.{CanSplit, lower_half, upper_half};
 ghost use Rattle.model_settle.specs.CaseTrees.{with_case};
 ghost use Rattle.run_signal.specs.Spans.{AreInOrder};
-ghost use Rattle.judge_cases.specs.Views.{IsView, Views, view_box, interval_of};
+ghost use Rattle.model_logic.specs.Boxes.{interval_of};
+ghost use Rattle.judge_cases.specs.Views.{IsView, Views, view_box};
 
 use crate::assumed::Assumed;
-use model_line::laws::{declared_intervals_are_in_order, delays_are_parameters};
+use model_line::laws::delays_are_parameters;
 use model_line::{Line, Memory};
 use model_logic::is_terminal_weak;
+use model_timing::declared_interval;
 use run_signal::Within;
 use std::alloc::Global;
 
@@ -50,17 +52,6 @@ fn declared_list(alloc: Global, line: &Line) -> Result<Vec<Within>, Memory>
         ends.push(own)?;
     }
     Ok(ends)
-}
-
-// The declared interval of a parameter.
-fn declared_interval(line: &Line, param: u32) -> Within
-    requires { param < param_count line.now }
-    ensures { result ≡ declared_ends line.now param }
-{
-    declared_intervals_are_in_order();
-    let least = line.least(param);
-    let greatest = line.greatest(param);
-    Within::new(least, greatest)
 }
 
 /// Whether the box of a view can be split there.

@@ -6,7 +6,6 @@ mod ask;
 mod bracket;
 mod end;
 mod group;
-mod held;
 mod known;
 mod laws;
 mod lists;

@@ -2,6 +2,7 @@
 use Rattle.std.proofs.Common.{◌≡◌, ◌<◌, ◌≤◌, ◌++◌, ℕ, Bool, List, Option, refl}
 use Rattle.std.proofs.Common.{sym, ◌∙◌, ap, arith}
 use Rattle.std.specs.Prelude.{codes}
+use Rattle.model_history.specs.EachLaws.{each_below-same}
 use Rattle.model_history.specs.{Elements.some_below, Rails.Rails, Rails.must_of, Rails.may_of}
 use Rattle.model_history.specs.BelowLaws.{some_below-same}
 use Rattle.model_line.specs.declared.script.Kind.TheVariants.{Internal, External}
@@ -9,7 +10,6 @@ use Rattle.model_line.specs.{declared.line.Line.Line, declared.script.Kind.Kind}
 use Rattle.model_line.specs.{declared.script.Script.Script, Parameters.terminal_count}
 use Rattle.model_logic.specs.Histories.{PairHistory, IsSamePairHistory}
 use Rattle.model_logic.specs.Rule.{Rule, rule_by}
-use Rattle.run_changes.specs.rows.RowLaws.{each_below-same}
 use Rattle.judge_verdict.specs.verdict.Rules.{counted_ticks}
 use Rattle.judge_verdict.specs.verdict.RuleLaws.{rule_by_rails}
 use Rattle.judge_report.specs.ReportText.{fields_text, rule_word, row_text, script_rows}

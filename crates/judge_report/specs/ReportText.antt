@@ -2,25 +2,20 @@
 use Rattle.std.specs.Prelude.{◌≡◌, ◌++◌, ℕ, ℤ, List, Option, None, Some, map, codes, decimal}
 use Rattle.std.specs.Fmt.{signed_decimal}
 use Rattle.std.specs.List.{concat}
+use Rattle.model_history.specs.Each.{each_below}
 use Rattle.model_history.specs.Rails.{Rails}
-use Rattle.model_line.specs.declared.script.Kind.TheVariants.{Internal, External}
 use Rattle.model_line.specs.{declared.script.Script.Script, declared.line.Line.Line}
-use Rattle.model_line.specs.{declared.script.Kind.Kind, Parameters.terminal_count}
+use Rattle.model_line.specs.Parameters.{terminal_count}
 use Rattle.model_logic.specs.Rule.{Rule, Held, Broken, Unknown, rule_of}
 use Rattle.model_logic.specs.Histories.{PairHistory, IsPairHistory}
 use Rattle.model_logic.specs.Choice.{declared_box}
-use Rattle.model_line.specs.NamesByNumber.{terminal_name}
-use Rattle.run_changes.specs.rows.PlayRows.{each_below}
+use Rattle.model_line.specs.NamesByNumber.{kind_text, terminal_name}
 use Rattle.run_waves.specs.waves.FirstTick.{first_on}
 use Rattle.judge_report.specs.Deadlines.{deadline_of, margin_of, margin_us_of}
 
 abbrev pub report_header : List ℕ
 report_header =
     codes "script,kind,terminal,first_may,first_must,deadline,margin,margin_us,rule\n"
-
-abbrev pub kind_word : Kind → List ℕ
-kind_word Internal = codes "internal"
-kind_word External = codes "external"
 
 abbrev pub rule_word : Rule → List ℕ
 rule_word Held = codes "held"
@@ -44,7 +39,7 @@ field bytes = bytes ++ codes ","
 -- the first eight fields of a row whose trip may first come, and must have come, at these ticks
 abbrev pub fields_text : Line → Script → ℕ → Option ℕ → Option ℕ → List ℕ
 fields_text line script k may must =
-    field script.name ++ field (kind_word script.kind) ++ field (terminal_name line k)
+    field script.name ++ field (kind_text script.kind) ++ field (terminal_name line k)
     ++ field (tick_text may) ++ field (tick_text must)
     ++ field (tick_text (deadline_of script.kind script.deadline))
     ++ field (margin_text (margin_of script.kind script.deadline must))

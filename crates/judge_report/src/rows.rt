@@ -3,23 +3,13 @@
 ghost use Rattle.std.specs.Prelude.{◌≡◌, ◌++◌, ◌<◌, ◌≤◌, OnOk, IfSome};
 ghost use Rattle.model_line.specs.Parameters.{terminal_count};
 ghost use Rattle.judge_verdict.specs.{verdict.PairWavesOf.pair_history, verdict.Rules.rule_named};
-ghost use Rattle.judge_report.specs.ReportText.{kind_word as word_of_kind};
 ghost use Rattle.judge_report.specs.ReportText.{rule_word as word_of_rule, field, tick_text};
 ghost use Rattle.judge_report.specs.ReportText.{margin_text, fields_text, row_text};
 
 use crate::margins::{deadline, margin, margin_us};
 use itoa::Buffer;
 use judge_verdict::verdict::{PairWaves, Rule, judge};
-use model_line::{Kind, Line, Memory, Script};
-
-fn kind_word(kind: Kind) -> &'static [u8]
-    ensures { result.now ≡ word_of_kind kind }
-{
-    match kind {
-        Kind::Internal => b"internal",
-        Kind::External => b"external",
-    }
-}
+use model_line::{Line, Memory, Script, kind_word};
 
 /// `held`, `broken` or `unknown`.
 pub fn rule_word(rule: Rule) -> &'static [u8]

@@ -4,5 +4,4 @@ pub mod Leaves
 pub mod Sides
 pub mod Scenes
 pub mod Answers
-pub mod Trips
 pub mod Words

@@ -22,11 +22,12 @@ mod step;
 mod steps;
 mod timing;
 
-pub use changed::{nominal, number_of};
+pub use changed::number_of;
 pub use cutting::cut;
 pub use decided::{Decided, decide};
 pub use delays::delay_at;
 pub use obligation::Obligation;
+pub(crate) use play::fails;
 pub use rail::{End, Rail, deciding};
 pub use scheme::{end_of, is_one_railed, key_rail};
 pub use timing::worst_timing;

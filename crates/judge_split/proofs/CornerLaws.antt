@@ -14,7 +14,8 @@ use Rattle.model_line.specs.SameLineLaws.{on_from}
 use Rattle.model_logic.specs.Boxes.{ends_with}
 use Rattle.model_logic.specs.BoxLaws.{ends_with-here, ends_with-elsewhere}
 use Rattle.judge_split.specs.Known.{Known}
-use Rattle.judge_split.specs.Quiet.{IsCorner, AreCorners, is_wide, number_of, corner_number}
+use Rattle.model_history.specs.Recorded.{at as is_wide}
+use Rattle.judge_split.specs.Quiet.{IsCorner, AreCorners, number_of, corner_number}
 use Rattle.judge_split.proofs.ListLaws.{at_two}
 use Rattle.judge_split.proofs.PartLaws.{ends_changed}
 

@@ -3,6 +3,7 @@ use Rattle.std.proofs.Common.{◌≡◌, ◌+◌, ◌-◌, ◌*◌, ◌++◌, �
 use Rattle.std.proofs.Common.{suc, refl, sym, ◌∙◌, ap, subst, arith}
 use Rattle.std.specs.Prelude.{slice_get}
 use Rattle.model_line.specs.{declared.line.Line.Line, declared.script.Script.Script}
+use Rattle.model_line.specs.Parameters.{declared_middle}
 use Rattle.judge_verdict.specs.declared.verdict.verdict.Verdict.TheVariants as verdict
 use Rattle.judge_verdict.specs.boxes.Held.{AreParts, TellHeld}
 use Rattle.judge_split.specs.declared.node.Node.{Node}
@@ -11,7 +12,7 @@ use Rattle.judge_split.specs.Search.{Tree, IsVerdictOf, IsSplitAt, IsLower, IsUp
 use Rattle.judge_split.specs.Search.{deepest, narrow, split}
 use Rattle.judge_split.specs.Trees.{Yes, Undecided, Split, preorder}
 use Rattle.judge_split.specs.Quiet.{AreSettled, IsNarrowed, HasHalves, AreNodesIfTold}
-use Rattle.judge_split.specs.{Widths.middle, Widths.IsNarrow, Widths.IsWidest, Found.AreNodes}
+use Rattle.judge_split.specs.{Widths.IsNarrow, Widths.IsWidest, Found.AreNodes}
 
 module _ (script : Script) (k n : ℕ) (line : Line) (nodes : List Node) where
   pub yes_nodes : nodes ≡ node.Yes ∷ [] → IsVerdictOf line script k verdict.Yes
@@ -36,22 +37,22 @@ module _ (script : Script) (k n : ℕ) (line : Line) (nodes : List Node) where
   }
 
   pub split_nodes : (param mid : ℕ) (one other : Line) (first second : List Node)
-      → nodes ≡ node.Split param mid ∷ (first ++ second) → mid ≡ middle line param
+      → nodes ≡ node.Split param mid ∷ (first ++ second) → mid ≡ declared_middle line param
       → (n ≡ 0 → ⊥) → IsSplitAt line script k param → IsLower line param one
       → IsUpper line param other → AreNodes one script k (n - 1) first
       → AreNodes other script k (n - 1) second → AreNodes line script k n nodes
   split_nodes param mid one other first second is is_mid some at is_lower is_upper below above =
       let deep : suc (n - 1) ≡ n = omega arith in
       record {
-        tree = Split param (middle line param) below.tree above.tree;
+        tree = Split param (declared_middle line param) below.tree above.tree;
         are = is
             ∙ ap (λ (m : ℕ). node.Split param m ∷ (first ++ second)) is_mid
-            ∙ ap (λ (xs : List Node). node.Split param (middle line param) ∷ (xs ++ second)) below.are
-            ∙ ap (λ (ys : List Node). node.Split param (middle line param)
+            ∙ ap (λ (xs : List Node). node.Split param (declared_middle line param) ∷ (xs ++ second)) below.are
+            ∙ ap (λ (ys : List Node). node.Split param (declared_middle line param)
             ∷ (preorder below.tree ++ ys)) above.are;
         found = subst
             (λ (m : ℕ). IsSearch script k m line
-            (Tree (Split param (middle line param) below.tree above.tree))) deep
+            (Tree (Split param (declared_middle line param) below.tree above.tree))) deep
             (split (n - 1) line param one other below.tree above.tree at is_lower below.found
             is_upper above.found);
       }
@@ -102,7 +103,7 @@ module _ (line : Line) (wide : List Bool) (parts : List Line) (held : List Bool)
 
     -- with the nodes of its halves, which are among the parts
     pub split_if_told : (param mid : ℕ) (first second : List Node)
-        → nodes ≡ node.Split param mid ∷ (first ++ second) → mid ≡ middle part param → (n ≡ 0 → ⊥)
+        → nodes ≡ node.Split param mid ∷ (first ++ second) → mid ≡ declared_middle part param → (n ≡ 0 → ⊥)
         → IsWidest part param → HasHalves parts i
         → AreNodesIfTold line wide parts held (2 * i + 2) (n - 1) first
         → AreNodesIfTold line wide parts held (2 * i + 3) (n - 1) second

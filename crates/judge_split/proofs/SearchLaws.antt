@@ -5,7 +5,7 @@ use Rattle.std.proofs.lemmas.Bool.{cases_lt, and_parts}
 use Rattle.std.specs.Prelude.{IsTrue}
 use Rattle.std.specs.List.{list_all}
 use Rattle.model_history.specs.Rails.{IsPartOf}
-use Rattle.model_line.specs.Parameters.{terminal_count, param_count, declared_ends, is_delay}
+use Rattle.model_line.specs.Parameters.{terminal_count, param_count, declared_ends, is_delay, declared_middle}
 use Rattle.model_line.specs.{declared.line.Line.Line, SetBounds.SameButParams}
 use Rattle.model_line.specs.declared.script.Script.{Script}
 use Rattle.model_logic.specs.Choice.{Choice, IsIn, IsInside, DelaysFromOne, declared_box}
@@ -18,7 +18,7 @@ use Rattle.judge_split.specs.Trees.{SplitTree, Yes, are_yes, is_decided}
 use Rattle.judge_split.specs.Search.{Found, Tree, Fails, IsVerdictOf, IsSplitAt, IsLower, IsUpper}
 use Rattle.judge_split.specs.Search.{IsSearch, yes, no, deepest, narrow, first_fails, second_fails}
 use Rattle.judge_split.specs.Search.{split}
-use Rattle.judge_split.specs.{Known.Known, Widths.middle, declared.node.Outcome.Outcome}
+use Rattle.judge_split.specs.{Known.Known, declared.node.Outcome.Outcome}
 use Rattle.judge_split.specs.declared.node.Outcome.TheVariants as outcome
 use Rattle.judge_split.specs.Found.{IsFound, IsAllYes}
 use Rattle.judge_split.proofs.WidthLaws.{middle_inside}
@@ -77,7 +77,7 @@ module _ (known : Known) (script : Script) (k : ℕ) where
     no_delay = split_no_delay line param at.widest.free
 
     lower_part : IsPartOf
-        (record { least = (declared_ends line param).least; greatest = middle line param })
+        (record { least = (declared_ends line param).least; greatest = declared_middle line param })
         (declared_ends line param)
     lower_part = record {
       least = omega arith;
@@ -86,7 +86,7 @@ module _ (known : Known) (script : Script) (k : ℕ) where
 
     upper_part : IsPartOf
         (record {
-          least = middle line param + 1;
+          least = declared_middle line param + 1;
           greatest = (declared_ends line param).greatest;
         })
         (declared_ends line param)
@@ -106,7 +106,7 @@ module _ (known : Known) (script : Script) (k : ℕ) where
         subst (λ (n : ℕ). MeetsBy script.kind script.deadline n (h.trip k))
         is_upper.rest.horizon
         (upper choice h
-        (known.changed.choices line second param (middle line param + 1)
+        (known.changed.choices line second param (declared_middle line param + 1)
         (declared_ends line param).greatest choice at.widest.exists no_delay is_upper
         inside (record { least = omega arith; greatest = own.greatest }))
         ((known.histories.choices line second script choice h is_upper.rest).1 is_h)))
@@ -114,11 +114,11 @@ module _ (known : Known) (script : Script) (k : ℕ) where
         subst (λ (n : ℕ). MeetsBy script.kind script.deadline n (h.trip k))
         is_lower.rest.horizon
         (lower choice h
-        (known.changed.choices line first param (declared_ends line param).least (middle line param)
+        (known.changed.choices line first param (declared_ends line param).least (declared_middle line param)
         choice at.widest.exists no_delay is_lower inside
         (record { least = own.least; greatest = low }))
         ((known.histories.choices line first script choice h is_lower.rest).1 is_h)))
-        (cases_lt (middle line param) (choice.number param))
+        (cases_lt (declared_middle line param) (choice.number param))
 
   still_early : (line other : Line) → SameButParams line other
       → script.deadline < line.horizon → script.deadline < other.horizon
@@ -142,13 +142,13 @@ module _ (known : Known) (script : Script) (k : ℕ) where
   says _ _ _ (deepest line said) early kn = λ all. absurd (cc)
   says _ _ _ (narrow n line said none) early kn = λ all. absurd (cc)
   says _ _ _ (first_fails n line param first timing at is_lower found) early kn =
-      part_refutes known line first param (declared_ends line param).least (middle line param)
+      part_refutes known line first param (declared_ends line param).least (declared_middle line param)
       at.widest.exists is_lower (lower_part line param at) script k timing
       (says n first (Fails timing) found (still_early line first is_lower.rest early)
       (still_there line first is_lower.rest kn))
   says _ _ _ (second_fails n line param first second lower timing at is_lower below is_upper found)
       early kn =
-      part_refutes known line second param (middle line param + 1) (declared_ends line param).greatest
+      part_refutes known line second param (declared_middle line param + 1) (declared_ends line param).greatest
       at.widest.exists is_upper (upper_part line param at) script k timing
       (says n second (Fails timing) found (still_early line second is_upper.rest early)
       (still_there line second is_upper.rest kn))

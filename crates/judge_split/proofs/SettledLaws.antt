@@ -14,7 +14,8 @@ use Rattle.model_timing.specs.{Choice.timing_choice, Inside.IsTimingInside}
 use Rattle.model_history.specs.ListLaws.{exists_at}
 use Rattle.judge_verdict.specs.boxes.Held.{IsHeldOf, TellHeld}
 use Rattle.judge_split.specs.{Known.Known, Quiet.IsCorner, Quiet.AreCorners, Quiet.IsNarrowed}
-use Rattle.judge_split.specs.{Quiet.AreSettled, Quiet.is_wide, Quiet.number_of, Quiet.corner_number}
+use Rattle.model_history.specs.Recorded.{at as is_wide}
+use Rattle.judge_split.specs.{Quiet.AreSettled, Quiet.number_of, Quiet.corner_number}
 use Rattle.judge_split.proofs.QuietLaws.{yes_or_no, candidate_corner}
 
 -- what is the same as a line but for the intervals is so of one another

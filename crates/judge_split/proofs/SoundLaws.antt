@@ -4,7 +4,7 @@ use Rattle.std.proofs.Common.{inl, inr, refl, arith}
 use Rattle.std.proofs.lemmas.Bool.{cases_eq, and_parts}
 use Rattle.std.specs.Prelude.{IsTrue, slice_get}
 use Rattle.model_history.specs.Rails.{Ends}
-use Rattle.model_line.specs.Parameters.{terminal_count, param_count, declared_ends}
+use Rattle.model_line.specs.Parameters.{terminal_count, param_count, declared_ends, declared_middle}
 use Rattle.model_line.specs.declared.script.Script.{Script}
 use Rattle.model_line.specs.{SetBounds.SameButParams, declared.line.Line.Line}
 use Rattle.model_line.specs.SameLineLaws.{exchanged}
@@ -20,7 +20,7 @@ use Rattle.judge_split.specs.Leaves.{IsSoundSplit}
 use Rattle.judge_split.specs.Search.{Found, Tree, Fails, IsVerdictOf, IsSplitAt, IsLower, IsUpper}
 use Rattle.judge_split.specs.Search.{IsSearch, yes, no, deepest, narrow, first_fails, second_fails}
 use Rattle.judge_split.specs.Search.{split}
-use Rattle.judge_split.specs.{Known.Known, Widths.middle, Widths.IsWidest}
+use Rattle.judge_split.specs.{Known.Known, Widths.IsWidest}
 use Rattle.judge_split.proofs.WidthLaws.{middle_inside}
 use Rattle.model_history.specs.ListLaws.{at_append}
 use Rattle.judge_split.proofs.LeafLaws.{held_leaves}
@@ -121,7 +121,7 @@ sound_kept known old new same script k (Split param mid first second) box sound 
 -- ---- the tree of a search
 
 -- the declared box can be split at the middle of the widest parameter
-pub split_at_middle : (line : Line) (param mid : ℕ) → IsWidest line param → mid ≡ middle line param
+pub split_at_middle : (line : Line) (param mid : ℕ) → IsWidest line param → mid ≡ declared_middle line param
     → CanSplit line (declared_box line) param mid
 unfolding declared_box
 split_at_middle line param mid widest is =
@@ -141,19 +141,19 @@ module _ (known : Known) (script : Script) (k : ℕ) where
   lower_box : (line : Line) (param : ℕ) (first : Line) → IsSplitAt line script k param
       → IsLower line param first
       → IsSameBox line (declared_box first)
-      (lower_half (declared_box line) param (middle line param))
+      (lower_half (declared_box line) param (declared_middle line param))
   unfolding declared_box
   lower_box line param first at is =
-      known.changed.number line first param (declared_ends line param).least (middle line param)
+      known.changed.number line first param (declared_ends line param).least (declared_middle line param)
       at.widest.exists (split_no_delay line param at.widest.free) is
 
   upper_box : (line : Line) (param : ℕ) (second : Line) → IsSplitAt line script k param
       → IsUpper line param second
       → IsSameBox line (declared_box second)
-      (upper_half (declared_box line) param (middle line param))
+      (upper_half (declared_box line) param (declared_middle line param))
   unfolding declared_box
   upper_box line param second at is =
-      known.changed.number line second param (middle line param + 1)
+      known.changed.number line second param (declared_middle line param + 1)
       (declared_ends line param).greatest at.widest.exists
       (split_no_delay line param at.widest.free) is
 
@@ -171,15 +171,15 @@ module _ (known : Known) (script : Script) (k : ℕ) where
   sound _ _ _ (second_fails n line param first second lower timing at is_lower below is_upper found)
       = tt
   sound _ _ _ (split n line param first second lower upper at is_lower below is_upper above) = (
-    split_at_middle line param (middle line param) at.widest refl,
+    split_at_middle line param (declared_middle line param) at.widest refl,
     (
       sound_same known line script k lower (declared_box first)
-          (lower_half (declared_box line) param (middle line param))
+          (lower_half (declared_box line) param (declared_middle line param))
           (lower_box line param first at is_lower)
           (sound_kept known first line (exchanged line first is_lower.rest) script k lower
           (declared_box first) (sound n first (Tree lower) below)),
       sound_same known line script k upper (declared_box second)
-          (upper_half (declared_box line) param (middle line param))
+          (upper_half (declared_box line) param (declared_middle line param))
           (upper_box line param second at is_upper)
           (sound_kept known second line (exchanged line second is_upper.rest) script k upper
           (declared_box second) (sound n second (Tree upper) above)),

@@ -1,6 +1,7 @@
 -- Boxes that hold each candidate of each part.
 use Rattle.std.specs.Prelude.{◌≡◌, ◌<◌, ◌+◌, ◌*◌, ◌==◌, ℕ, Bool, false, List, Some, slice_get}
-use Rattle.std.specs.Prelude.{slice_index_or, if◌then◌else◌}
+use Rattle.std.specs.Prelude.{if◌then◌else◌}
+use Rattle.model_history.specs.Recorded.{at as is_wide}
 use Rattle.model_history.specs.Rails.{Ends, single, IsPartOf}
 use Rattle.model_line.specs.Parameters.{param_count, declared_ends}
 use Rattle.model_line.specs.SetBounds.{SameButParams}
@@ -20,10 +21,6 @@ pub record HasHalves (parts : List Line) (i : ℕ) : Type 0 where
 abbrev pub HalvesIfAny : Line → Line → Line → Type 0
 HalvesIfAny part first second = (param : ℕ) → IsWidest part param
     → IsLower part param first × IsUpper part param second
-
--- whether a parameter is wide
-abbrev pub is_wide : List Bool → ℕ → Bool
-is_wide wide param = slice_index_or wide param false
 
 -- a number of an interval: the least in a low corner, the greatest in a high one, and for one
 -- parameter the other way

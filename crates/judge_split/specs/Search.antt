@@ -1,7 +1,8 @@
 -- The search for the parts of the declared box in which an obligation is decided.
 use Rattle.std.specs.Prelude.{◌+◌, ℕ, zero, suc}
 use Rattle.model_line.specs.{declared.line.Line.Line, declared.script.Script.Script}
-use Rattle.model_line.specs.{Parameters.declared_ends, WithBounds.IsWithBounds}
+use Rattle.model_line.specs.Parameters.{declared_ends, declared_middle}
+use Rattle.model_line.specs.WithBounds.{IsWithBounds}
 use Rattle.model_logic.specs.Histories.{PairHistory, IsPairHistory}
 use Rattle.model_logic.specs.Choice.{declared_box}
 use Rattle.model_timing.specs.Timing.{TimingValues}
@@ -9,7 +10,7 @@ use Rattle.judge_verdict.specs.declared.verdict.verdict.Verdict.{Verdict}
 use Rattle.judge_verdict.specs.declared.verdict.verdict.Verdict.TheVariants as verdict
 use Rattle.judge_verdict.specs.verdict.Verdicts.{IsVerdict}
 use Rattle.judge_split.specs.Trees.{SplitTree, Yes, Undecided, Split}
-use Rattle.judge_split.specs.Widths.{middle, IsWidest, IsNarrow}
+use Rattle.judge_split.specs.Widths.{IsWidest, IsNarrow}
 
 -- a tree, or a timing that fails
 pub data Found : Type 0 where
@@ -30,11 +31,11 @@ pub record IsSplitAt (line : Line) (script : Script) (k param : ℕ) : Type 0 wh
 -- the line with the lower half of a parameter's interval, and that with the upper half
 abbrev pub IsLower : Line → ℕ → Line → Type 0
 IsLower line param first =
-    IsWithBounds line param (declared_ends line param).least (middle line param) first
+    IsWithBounds line param (declared_ends line param).least (declared_middle line param) first
 
 abbrev pub IsUpper : Line → ℕ → Line → Type 0
 IsUpper line param second =
-    IsWithBounds line param (middle line param + 1) (declared_ends line param).greatest second
+    IsWithBounds line param (declared_middle line param + 1) (declared_ends line param).greatest second
 
 -- what is found over the declared box of a line with at most n splits above one another. A verdict
 -- that is decided stands. Without splits, or where no parameter can be split, the box is left
@@ -62,4 +63,4 @@ pub data IsSearch (script : Script) (k : ℕ) : ℕ → Line → Found → Type 
       → IsSplitAt line script k param
       → IsLower line param first → IsSearch script k n first (Tree lower)
       → IsUpper line param second → IsSearch script k n second (Tree upper)
-      → IsSearch script k (suc n) line (Tree (Split param (middle line param) lower upper))
+      → IsSearch script k (suc n) line (Tree (Split param (declared_middle line param) lower upper))

@@ -4,7 +4,6 @@ ghost use Rattle.std.specs.Prelude.{IfOk};
 ghost use Rattle.judge_split.specs.{Search.IsLower, Search.IsUpper, Widths.IsWidest};
 
 use crate::part::{lower_part, upper_part};
-use crate::widest::middle;
 use model_line::{Line, Memory};
 use std::alloc::Global;
 
@@ -14,7 +13,7 @@ pub fn halves(alloc: Global, line: &Line, param: u32) -> Result<(Line, Line), Me
     ensures { IfOk result (λ halves. IsLower line.now param halves.0 ×
         IsUpper line.now param halves.1) }
 {
-    let mid = middle(line, param);
+    let mid = line.middle(param);
     let first = lower_part(alloc, line, param, mid)?;
     let second = upper_part(alloc, line, param, mid)?;
     Ok((first, second))

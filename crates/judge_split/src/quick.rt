@@ -7,7 +7,8 @@ ghost use Rattle.model_line.specs.Parameters.{terminal_count, param_count, decla
 ghost use Rattle.model_line.specs.{Fits.Fits, SetBounds.SameButParams};
 ghost use Rattle.judge_verdict.specs.declared.verdict.verdict.Verdict.{Verdict};
 ghost use Rattle.judge_verdict.specs.boxes.Held.{AreParts};
-ghost use Rattle.judge_split.specs.Quiet.{AreNodesIfTold, HasHalves, IsNarrowed, is_wide};
+ghost use Rattle.model_history.specs.Recorded.{at as is_wide};
+ghost use Rattle.judge_split.specs.Quiet.{AreNodesIfTold, HasHalves, IsNarrowed};
 ghost use Rattle.judge_split.specs.{Found.AreNodes, Search.IsVerdictOf, Widths.IsWidest};
 
 use crate::corners::{corners, wide_in};
@@ -15,7 +16,7 @@ use crate::known::laws_below;
 use crate::leaf::{leaf, split};
 use crate::node::Node;
 use crate::parts::parts_of;
-use crate::widest::{middle, widest};
+use crate::widest::widest;
 use judge_verdict::boxes::held_each;
 use model_line::{Line, Memory, Script};
 use net_gates::Compiled;
@@ -54,7 +55,7 @@ pub fn quick(
     let Some(second) = nodes_at(alloc, compiled.line, &wide, &parts, &held, 1, depth - 1)? else {
         return Ok(None);
     };
-    let mid = middle(compiled.line, param);
+    let mid = compiled.line.middle(param);
     Ok(Some(split(alloc, param, mid, &first, &second)?))
 }
 
@@ -108,7 +109,7 @@ fn nodes_at(
     let Some(second) = nodes_at(alloc, line, wide, parts, held, 2 * i + 3, depth - 1)? else {
         return Ok(None);
     };
-    let mid = middle(part, param);
+    let mid = part.middle(param);
     Ok(Some(split(alloc, param, mid, &first, &second)?))
 }
 

@@ -14,7 +14,7 @@ use crate::leaf::{leaf, split};
 use crate::node::{Node, Outcome};
 use crate::quick::quick;
 use crate::verdict::verdict_at;
-use crate::widest::{middle, widest};
+use crate::widest::widest;
 use judge_verdict::verdict::Verdict;
 use model_line::laws::scripts_fit_whatever_the_intervals;
 use model_line::{Memory, Script};
@@ -99,7 +99,7 @@ fn search_part(
         Outcome::Tree(nodes) => nodes,
         Outcome::Fails(timing) => return Ok(Outcome::Fails(timing)),
     };
-    let mid = middle(compiled.line, param);
+    let mid = compiled.line.middle(param);
     let nodes = split(alloc, param, mid, &lower_nodes, &upper_nodes)?;
     Ok(Outcome::Tree(nodes))
 }

@@ -2,7 +2,7 @@
 
 ghost use Rattle.std.specs.Prelude.{◌≡◌, ◌≤◌, ◌<◌, ◌+◌, ◌-◌};
 ghost use Rattle.model_line.specs.Parameters.{param_count};
-ghost use Rattle.judge_split.specs.Widths.{width as width_of_param, middle as middle_of};
+ghost use Rattle.judge_split.specs.Widths.{width as width_of_param};
 ghost use Rattle.judge_split.specs.Widths.{IsChoiceOf};
 
 use model_line::Line;
@@ -47,12 +47,4 @@ fn width(line: &Line, param: u32) -> u32
     } else {
         line.greatest(param) - line.least(param)
     }
-}
-
-/// The middle of a parameter's interval, rounded down.
-pub fn middle(line: &Line, param: u32) -> u32
-    requires { param < param_count line.now }
-    ensures { result ≡ middle_of line.now param }
-{
-    (line.least(param) + line.greatest(param)) / 2
 }

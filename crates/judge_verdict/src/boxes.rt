@@ -7,6 +7,6 @@ mod spans;
 mod terns;
 mod timed;
 
-pub use held::held_each;
+pub use held::{held_each, held_lanes, tripped};
 pub use spans::Spans64;
 pub use terns::Terns64;

@@ -5,7 +5,7 @@ use Rattle.std.specs.Prelude.{false}
 use Rattle.model_history.specs.Rails.{Rails, Ends, Covers, both, must_of, may_of, rails_timed}
 use Rattle.model_history.specs.Rails.{rails_sealed, rails_at, SameRails}
 use Rattle.model_history.specs.FirstTickLaws.{length-first_ticks, get_or-first_ticks}
-use Rattle.model_history.specs.{Elements.timed, Elements.sealed, Recorded.at, Recorded.first_ticks}
+use Rattle.model_history.specs.{Elements.timed, Elements.sealed, Recorded.first_ticks}
 use Rattle.model_history.proofs.ElementLaws.{timed-same, timed-below, sealed-same, sealed-below}
 
 -- reading the first n ticks gives the history back

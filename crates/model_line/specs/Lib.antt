@@ -9,6 +9,7 @@ pub mod NumberLaws
 pub mod ParamNames
 pub mod Parameters
 pub mod PlainNames
+pub mod PlainTextLaws
 pub mod PositionLaws
 pub mod SameCountLaws
 pub mod SameLine

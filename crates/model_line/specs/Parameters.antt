@@ -1,5 +1,5 @@
 -- A line's parameters by number: where a setting stands, what is declared for it.
-use Rattle.std.specs.Prelude.{◌<◌, ◌==◌, ℕ, Bool, Option, length, map, get_or, unwrap_or}
+use Rattle.std.specs.Prelude.{◌<◌, ◌==◌, ◌+◌, ◌/◌, ℕ, Bool, Option, length, map, get_or, unwrap_or}
 use Rattle.model_history.specs.{Elements.some_below, Rails.Ends}
 use Rattle.model_line.specs.Settings.{line_settings, setting_number}
 use Rattle.model_line.specs.{declared.line.Line.Line, declared.line.Owner.Owner}
@@ -40,3 +40,7 @@ declared_ends line i = record {
   least = get_or (map (λ p. p.least) line.params.items) i 0;
   greatest = get_or (map (λ p. p.greatest) line.params.items) i 0;
 }
+
+-- its middle; of two middle ones the earlier
+abbrev pub declared_middle : Line → ℕ → ℕ
+declared_middle line i = ((declared_ends line i).least + (declared_ends line i).greatest) / 2

@@ -4,7 +4,8 @@
 //! - The line: `line`, `name`, `terminals`, `channels`, `bounds`, `params`, made by `make`, `copy`.
 //! - Its settings, their numbers, names and intervals: `settings`, `setting_places`, `lookup`,
 //!   `param_names`, `interval`.
-//! - `names`: the name of a terminal, a parameter or a script by its number; the word of an element.
+//! - `names`: the name of a terminal, a parameter or a script by its number; the words of an element,
+//!   of a kind of fault, and of a scheme.
 //! - Scripts: `script`, and `script_fits` for a line.
 //! - `laws`: how parameters are numbered, and what does not rest on the declared intervals.
 #![tactic(auto)]
@@ -32,7 +33,9 @@ pub use bounds::Bounds;
 pub use line::{Channel, Line, Owner, Param, Scheme, Setting, Terminal};
 pub use make::makes_line;
 pub use name::{Name, is_plain};
-pub use names::{element_word, name_of_parameter, name_of_script, name_of_terminal};
+pub use names::{
+    element_word, kind_word, name_of_parameter, name_of_script, name_of_terminal, scheme_word,
+};
 pub use param_names::channel_name;
 pub use script::{Element, Kind, Place, Script, SeenSpan, What, loss, lost_in, seen, shown_in};
 pub use script_fits::fits;
@@ -41,3 +44,4 @@ pub use settings::{
     REVERSE_SETTINGS, UNDERVOLTAGE_SETTINGS, ZONE1_SETTINGS, ZONE2_SETTINGS, groups_of_channel,
     groups_of_terminal, guard_settings, receiver_settings, scheme_settings, weak_settings,
 };
+pub use terminals::may_have_flags;

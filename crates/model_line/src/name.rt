@@ -1,6 +1,6 @@
 //! Names of 1 to 64 bytes.
 
-ghost use Rattle.std.specs.Prelude.{◌≡◌, ◌≤◌, ◌<◌, ◌↔◌, length, IsSome, IfSome, IsTrue};
+ghost use Rattle.std.specs.Prelude.{◌≡◌, ◌≤◌, ◌<◌, ◌↔◌, length, IsSome, IfSome, IsTrue, true};
 ghost use Rattle.std.specs.List.{list_all};
 ghost use Rattle.model_line.specs.PlainNames.{is_plain_byte, is_plain_name};
 
@@ -64,6 +64,17 @@ impl Name {
         ensures within { (0 < length result.now) × (length result.now ≤ 64) }
     {
         &self.bytes[..self.len as usize]
+    }
+
+    /// A plain name as a text.
+    pub fn plain_text(&self) -> &str
+        requires { is_plain_name self.now ≡ true }
+        ensures { result.now ≡ self.now }
+    {
+        match std::str::from_utf8(self.bytes()) {
+            Ok(text) => text,
+            Err(_) => unreachable!(),
+        }
     }
 }
 

@@ -1,11 +1,12 @@
-//! The names of terminals, parameters and scripts by their numbers, and the word of an element.
+//! The names of terminals, parameters and scripts by their numbers, and the words of an element, of
+//! a kind of fault, and of a scheme.
 
 ghost use Rattle.std.specs.Prelude.{◌≡◌};
 ghost use Rattle.model_line.specs.NamesByNumber.{terminal_name, parameter_name, script_name};
-ghost use Rattle.model_line.specs.NamesByNumber.{element_text};
+ghost use Rattle.model_line.specs.NamesByNumber.{element_text, kind_text, scheme_initials};
 
-use crate::line::Line;
-use crate::script::{Element, Script};
+use crate::line::{Line, Scheme};
+use crate::script::{Element, Kind, Script};
 
 /// The name of the line's terminal of this number; empty if there is none.
 pub fn name_of_terminal(line: &Line, terminal: u32) -> &[u8]
@@ -47,5 +48,28 @@ pub fn element_word(element: Element) -> &'static [u8]
         Element::Rv => b"rv",
         Element::Uv => b"uv",
         Element::Cur => b"cur",
+    }
+}
+
+/// The word by which files and texts call a kind of fault.
+pub fn kind_word(kind: Kind) -> &'static [u8]
+    ensures { result.now ≡ kind_text kind }
+{
+    match kind {
+        Kind::Internal => b"internal",
+        Kind::External => b"external",
+    }
+}
+
+/// The letters by which a scheme is known, as `POTT`.
+pub fn scheme_word(scheme: Scheme) -> &'static [u8]
+    ensures { result.now ≡ scheme_initials scheme }
+{
+    match scheme {
+        Scheme::Pott => b"POTT",
+        Scheme::Putt => b"PUTT",
+        Scheme::Dcb => b"DCB",
+        Scheme::Dcub => b"DCUB",
+        Scheme::Dtt => b"DTT",
     }
 }

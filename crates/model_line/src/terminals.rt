@@ -63,7 +63,8 @@ fn no_flags(terminals: &[Terminal]) -> bool
     terminals.iter().all(|t| !(t.weak || t.guard))
 }
 
-fn may_have_flags(scheme: Scheme) -> bool
+/// Whether terminals of the scheme may be weak or guarded.
+pub fn may_have_flags(scheme: Scheme) -> bool
     ensures { result ≡ has_flags scheme }
 {
     matches!(scheme, Scheme::Pott | Scheme::Dcub)

@@ -7,6 +7,7 @@ pub mod HeldLaws
 pub mod HistoryLaws
 pub mod LogicNames
 pub mod NarrowerRules
+pub mod OwnNames
 pub mod OwnSettings
 pub mod PairLaws
 pub mod PlainLaws

@@ -1,6 +1,6 @@
 -- Boxes with another interval for one parameter.
-use Rattle.std.specs.Prelude.{◌≡◌, ◌≤◌, ◌<◌, ◌+◌, ◌==◌, ℕ, IsTrue, if◌then◌else◌}
-use Rattle.model_history.specs.Rails.{Ends}
+use Rattle.std.specs.Prelude.{◌≡◌, ◌≤◌, ◌<◌, ◌+◌, ◌==◌, ℕ, List, IsTrue, get_or, if◌then◌else◌}
+use Rattle.model_history.specs.Rails.{Ends, single}
 use Rattle.model_line.specs.Parameters.{param_count, channel_count, delay_param, declared_ends}
 use Rattle.model_line.specs.Parameters.{is_delay}
 use Rattle.model_line.specs.declared.line.Line.{Line}
@@ -9,6 +9,14 @@ use Rattle.model_logic.specs.Choice.{Box}
 -- the intervals with another one for this parameter
 abbrev pub ends_with : (ℕ → Ends) → ℕ → Ends → ℕ → Ends
 ends_with ends param new i = if i == param then new else ends i
+
+-- the interval of this number in a list of them; past the last 0
+abbrev pub interval_of : List Ends → ℕ → Ends
+interval_of ends i = get_or ends i (single 0)
+
+-- the box of these intervals
+abbrev pub box_by : (ℕ → Ends) → (ℕ → ℕ → Ends) → Box
+box_by ends delay = record { ends = ends; delay = delay }
 
 -- the box of these intervals of the line's parameters, each delay's the same at every tick
 abbrev pub box_of : Line → (ℕ → Ends) → Box

@@ -9,6 +9,7 @@ pub mod Laws
 pub mod Logic
 pub mod Mean
 pub mod Names
+pub mod Obligations
 pub mod PairMean
 pub mod Permissive
 pub mod Received

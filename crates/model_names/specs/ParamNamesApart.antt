@@ -1,6 +1,6 @@
 -- What the names of a line's parameters keep.
-use Rattle.std.specs.Prelude.{◌≡◌, ◌≢◌, ◌<◌, ◌==◌, ℕ, Bool, true, false, List, [], length, map}
-use Rattle.std.specs.Prelude.{get_or, not, Some, None}
+use Rattle.std.specs.Prelude.{◌≡◌, ◌≢◌, ◌<◌, ◌==◌, ℕ, Bool, true, false, List, length}
+use Rattle.std.specs.Prelude.{not, Some, None}
 use Rattle.std.specs.List.{list_all, position_from}
 use Rattle.std.specs.Str.{bytes_eq}
 use Rattle.model_line.specs.{declared.line.Line.Line, Parameters.param_count}

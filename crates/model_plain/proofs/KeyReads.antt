@@ -4,16 +4,13 @@ use Rattle.std.proofs.Common.{◌∙◌, arith}
 use Rattle.std.proofs.lemmas.List.{get_or-map, length-map, get_or_default}
 use Rattle.std.specs.Prelude.{Vec}
 use Rattle.model_history.specs.{Elements.delayed, Laws.OneDelayReadsOneTick}
-use Rattle.model_line.specs.Channels.{from_of, channel_number}
-use Rattle.model_line.specs.Parameters.{terminal_count, channel_count}
+use Rattle.model_line.specs.Channels.{from_of}
 use Rattle.model_line.specs.{declared.line.Line.Line, declared.line.Channel.Channel}
-use Rattle.model_line.specs.{ChannelLaws.channel_ends, declared.script.Script.Script}
+use Rattle.model_line.specs.{declared.script.Script.Script}
 use Rattle.model_plain.specs.Keys.{Reach, histories, key_at, CanAsk}
-use Rattle.std.proofs.Common.{◌≢◌, Option, Some, None, true, refl}
-use Rattle.std.specs.Prelude.{unwrap_or, is_some}
 use Rattle.model_logic.specs.Choice.{world_of, steady_choice}
 use Rattle.model_logic.specs.Mean.{Signals, mean}
-use Rattle.model_logic.specs.{Laws.ValuesRestOnEarlierKeys, Received.channel_to}
+use Rattle.model_logic.specs.{Laws.ValuesRestOnEarlierKeys}
 use Rattle.model_logic.specs.{Solution.AgreeBefore, Tree.Tree}
 
 pub from_of-is : (cs : List Channel) (c : ℕ) (h : Channel) → c < length cs → h ≡ get_or cs c h
@@ -70,14 +67,3 @@ value_past law line script values keys other x t ask same =
     law.value line script (steady_choice line values) (key_at keys) other x t
     (λ c r lt early. ask.timing.delays c lt)
     ask.tick ask.names (λ k r kn lt. sym (same k r kn lt))
-
--- the channel between two terminals exists
-pub has_channel : (line : Line) (k j : ℕ) → k < terminal_count line → j < terminal_count line
-    → j ≢ k → channel_to line k j < channel_count line
-unfolding channel_to
-has_channel line k j lt jt ne =
-    from (channel_number line.channels.items j k) refl (line.pairs_once.found j k jt lt ne) where
-      from : (o : Option ℕ) → channel_number line.channels.items j k ≡ o → is_some o ≡ true
-          → unwrap_or o 0 < channel_count line
-      from None e s = absurd (cc)
-      from (Some c) e s = (channel_ends line.channels.items j k c e).0

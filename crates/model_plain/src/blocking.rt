@@ -8,12 +8,11 @@ ghost use Rattle.model_logic.specs.Logic.{blocking_pilot as blocking_pilot_tree}
 
 use crate::build::{and, not, timer};
 use crate::formula::Formula;
-use crate::permissive::terminal_setting;
 use crate::received::any_received;
 use crate::seen_elements::seen_timed;
 use base_memory::Memory;
 use model_line::{Element, Line, Setting};
-use model_logic::Time;
+use model_logic::{Time, terminal_time};
 use std::alloc::Global;
 
 pub fn blocking_key(alloc: Global, line: &Line, k: u32) -> Result<Formula, Memory>
@@ -23,7 +22,7 @@ pub fn blocking_key(alloc: Global, line: &Line, k: u32) -> Result<Formula, Memor
     let zone2 = seen_timed(alloc, line, k, Element::Z2);
     let reverse = seen_timed(alloc, line, k, Element::Rv);
     let behind = and(alloc, reverse, not(alloc, zone2));
-    let carry = terminal_setting(line, k, Setting::BlockCarry);
+    let carry = terminal_time(line, k, Setting::BlockCarry);
     timer(alloc, behind, Time::Zero, carry)
 }
 
@@ -31,7 +30,7 @@ pub fn blocking_pilot(alloc: Global, line: &Line, k: u32) -> Result<Formula, Mem
     requires { k < terminal_count line.now }
     ensures { IfOk result (λ f. tree_of f ≡ blocking_pilot_tree line.now k) }
 {
-    let coordination = terminal_setting(line, k, Setting::BlockCoord);
+    let coordination = terminal_time(line, k, Setting::BlockCoord);
     let zone2 = seen_timed(alloc, line, k, Element::Z2);
     let ahead = timer(alloc, zone2, coordination, Time::Zero);
     let blocked = any_received(alloc, line, k);

@@ -4,7 +4,6 @@ ghost use Rattle.std.specs.Prelude.{◌≡◌, ◌<◌, IfOk};
 ghost use Rattle.model_plain.specs.Formulas.{tree_of};
 ghost use Rattle.model_line.specs.Parameters.{terminal_count};
 ghost use Rattle.model_logic.specs.Permissive.{permission as permission_tree};
-ghost use Rattle.model_logic.specs.Permissive.{terminal_setting as terminal_setting_time};
 ghost use Rattle.model_logic.specs.Permissive.{reversal_guard as reversal_guard_tree};
 ghost use Rattle.model_logic.specs.Permissive.{quiet as quiet_tree};
 ghost use Rattle.model_logic.specs.Permissive.{echo_wanted as echo_wanted_tree};
@@ -16,11 +15,11 @@ ghost use Rattle.model_logic.specs.Permissive.{permissive_pilot as permissive_pi
 use crate::build::{and, not, or, timer};
 use crate::formula::Formula;
 use crate::received::all_received;
-use crate::seen_elements::{seen_timed, time_of};
+use crate::seen_elements::seen_timed;
 use crate::unblocking::all_open;
 use base_memory::Memory;
-use model_line::{Element, Line, Owner, Scheme, Setting};
-use model_logic::{Time, is_terminal_guarded, is_terminal_weak};
+use model_line::{Element, Line, Scheme, Setting};
+use model_logic::{Time, is_terminal_guarded, is_terminal_weak, terminal_time};
 use std::alloc::Global;
 
 #[tactic(auto, unfolding(model_logic::specs::Permissive::permission))]
@@ -35,22 +34,14 @@ fn permission(alloc: Global, line: &Line, k: u32) -> Result<Formula, Memory>
     }
 }
 
-#[tactic(auto, unfolding(model_logic::specs::Permissive::terminal_setting))]
-pub fn terminal_setting(line: &Line, k: u32, setting: Setting) -> Time
-    requires { k < terminal_count line.now }
-    ensures { result ≡ terminal_setting_time line.now k setting }
-{
-    time_of(line, Owner::Terminal(k), setting)
-}
-
 #[tactic(auto, unfolding(model_logic::specs::Permissive::reversal_guard))]
 fn reversal_guard(alloc: Global, line: &Line, k: u32) -> Result<Formula, Memory>
     requires { k < terminal_count line.now }
     ensures { IfOk result (λ f. tree_of f ≡ reversal_guard_tree line.now k) }
 {
     if is_terminal_guarded(line, k) {
-        let pickup = terminal_setting(line, k, Setting::ReversalPickup);
-        let dropout = terminal_setting(line, k, Setting::ReversalDropout);
+        let pickup = terminal_time(line, k, Setting::ReversalPickup);
+        let dropout = terminal_time(line, k, Setting::ReversalDropout);
         let reverse = seen_timed(alloc, line, k, Element::Rv);
         timer(alloc, reverse, pickup, dropout)
     } else {
@@ -64,7 +55,7 @@ fn quiet(alloc: Global, line: &Line, k: u32) -> Result<Formula, Memory>
 {
     let zone2 = seen_timed(alloc, line, k, Element::Z2);
     let fault = or(alloc, zone2, seen_timed(alloc, line, k, Element::Rv));
-    let block = terminal_setting(line, k, Setting::EchoBlock);
+    let block = terminal_time(line, k, Setting::EchoBlock);
     not(alloc, timer(alloc, fault, Time::Zero, block))
 }
 
@@ -76,7 +67,7 @@ fn echo_wanted(alloc: Global, line: &Line, k: u32) -> Result<Formula, Memory>
 {
     if is_terminal_weak(line, k) {
         let permitted = and(alloc, permission(alloc, line, k), quiet(alloc, line, k));
-        let pickup = terminal_setting(line, k, Setting::EchoPickup);
+        let pickup = terminal_time(line, k, Setting::EchoPickup);
         timer(alloc, permitted, pickup, Time::Zero)
     } else {
         Ok(Formula::Const(false))
@@ -89,7 +80,7 @@ fn echo(alloc: Global, line: &Line, k: u32) -> Result<Formula, Memory>
     ensures { IfOk result (λ f. tree_of f ≡ echo_tree line.now k (permission_tree line.now k)) }
 {
     if is_terminal_weak(line, k) {
-        let pulse = terminal_setting(line, k, Setting::EchoPulse);
+        let pulse = terminal_time(line, k, Setting::EchoPulse);
         let over = timer(alloc, echo_wanted(alloc, line, k), pulse, Time::Zero);
         let wanted = echo_wanted(alloc, line, k);
         and(alloc, wanted, not(alloc, over))

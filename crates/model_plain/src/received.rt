@@ -3,7 +3,6 @@
 ghost use Rattle.std.specs.Prelude.{◌≡◌, ◌<◌, IfOk};
 ghost use Rattle.model_line.specs.Parameters.{terminal_count};
 ghost use Rattle.model_plain.specs.Formulas.{tree_of};
-ghost use Rattle.model_logic.specs.Received.{channel_to as channel_number_to};
 ghost use Rattle.model_logic.specs.Received.{received as received_tree};
 ghost use Rattle.model_logic.specs.Received.{any_received as any_received_tree};
 ghost use Rattle.model_logic.specs.Received.{all_received as all_received_tree};
@@ -13,16 +12,8 @@ use crate::formula::Formula;
 use crate::others::all_others;
 use base_memory::Memory;
 use model_line::Line;
-use model_logic::Join;
+use model_logic::{Join, channel_to};
 use std::alloc::Global;
-
-// The number of the channel to terminal `k` from terminal `j`; 0 if there is none.
-#[tactic(auto, unfolding(model_logic::specs::Received::channel_to))]
-pub fn channel_to(line: &Line, k: u32, j: u32) -> u32
-    ensures { result ≡ channel_number_to line.now k j }
-{
-    line.channel_of(j, k).unwrap_or(0)
-}
 
 pub fn received(alloc: Global, line: &Line, k: u32, j: u32) -> Result<Formula, Memory>
     ensures { IfOk result (λ f. tree_of f ≡ received_tree line.now k j) }

@@ -2,25 +2,15 @@
 
 ghost use Rattle.std.specs.Prelude.{◌≡◌, ◌<◌, IfOk};
 ghost use Rattle.model_plain.specs.Formulas.{tree_of};
-ghost use Rattle.model_line.specs.Parameters.{IsOwner, terminal_count};
-ghost use Rattle.model_logic.specs.Elements.{setting_of};
+ghost use Rattle.model_line.specs.Parameters.{terminal_count};
 ghost use Rattle.model_logic.specs.Elements.{seen_timed as seen_timed_tree};
 
 use crate::build::timer;
 use crate::formula::Formula;
 use base_memory::Memory;
-use model_line::{Element, Line, Owner, Place, Setting};
-use model_logic::{Time, pickup_and_dropout};
+use model_line::{Element, Line, Owner, Place};
+use model_logic::{pickup_and_dropout, time_of};
 use std::alloc::Global;
-
-// The parameter that an owner's setting is.
-#[tactic(auto, unfolding(model_logic::specs::Elements::setting_of))]
-pub fn time_of(line: &Line, owner: Owner, setting: Setting) -> Time
-    requires { IsOwner line.now owner }
-    ensures { result ≡ setting_of line.now owner setting }
-{
-    Time::Param(line.param_of(owner, setting).unwrap_or(0))
-}
 
 // What the terminal's relay sees of an element.
 #[tactic(auto, unfolding(model_logic::specs::Elements::seen_timed))]

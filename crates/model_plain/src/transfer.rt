@@ -8,12 +8,11 @@ ghost use Rattle.model_logic.specs.Logic.{transfer_pilot as transfer_pilot_tree}
 
 use crate::build::{and, timer};
 use crate::formula::Formula;
-use crate::permissive::terminal_setting;
 use crate::received::any_received;
 use crate::seen_elements::seen_timed;
 use base_memory::Memory;
 use model_line::{Element, Line, Setting};
-use model_logic::Time;
+use model_logic::{Time, terminal_time};
 use std::alloc::Global;
 
 pub fn underreach_pilot(alloc: Global, line: &Line, k: u32) -> Result<Formula, Memory>
@@ -29,6 +28,6 @@ pub fn transfer_pilot(alloc: Global, line: &Line, k: u32) -> Result<Formula, Mem
     ensures { IfOk result (λ f. tree_of f ≡ transfer_pilot_tree line.now k) }
 {
     let sent = any_received(alloc, line, k);
-    let security = terminal_setting(line, k, Setting::TransferSecurity);
+    let security = terminal_time(line, k, Setting::TransferSecurity);
     timer(alloc, sent, security, Time::Zero)
 }

@@ -1,7 +1,6 @@
 //! Channels that open for a while when they are lost, as formulas.
 
-ghost use Rattle.std.specs.Prelude.{◌≡◌, ◌≢◌, ◌<◌, IfOk};
-ghost use Rattle.model_logic.specs.Unblocking.{channel_setting as channel_setting_time};
+ghost use Rattle.std.specs.Prelude.{◌≡◌, ◌<◌, IfOk};
 ghost use Rattle.model_logic.specs.Unblocking.{guard_seen as guard_seen_tree, late as late_tree};
 ghost use Rattle.model_logic.specs.Unblocking.{unblocked as unblocked_tree};
 ghost use Rattle.model_logic.specs.Unblocking.{locked_out as locked_out_tree};
@@ -13,23 +12,11 @@ ghost use Rattle.model_line.specs.Parameters.{terminal_count};
 use crate::build::{and, not, or, seal, timer};
 use crate::formula::Formula;
 use crate::others::all_others;
-use crate::received::{channel_to, received};
-use crate::seen_elements::time_of;
+use crate::received::received;
 use base_memory::Memory;
-use model_line::{Line, Owner, Setting};
-use model_logic::{Join, Time};
+use model_line::{Line, Setting};
+use model_logic::{Join, Time, channel_time, channel_to};
 use std::alloc::Global;
-
-// A setting of the channel to terminal `k` from terminal `j`.
-#[tactic(auto, unfolding(model_logic::specs::Unblocking::channel_setting))]
-fn channel_setting(line: &Line, k: u32, j: u32, setting: Setting) -> Time
-    requires inside { k < terminal_count line.now }
-    requires other { j < terminal_count line.now }
-    requires apart { j ≢ k }
-    ensures { result ≡ channel_setting_time line.now k j setting }
-{
-    time_of(line, Owner::Channel(channel_to(line, k, j)), setting)
-}
 
 fn guard_seen(alloc: Global, line: &Line, k: u32, j: u32) -> Result<Formula, Memory>
     ensures { IfOk result (λ f. tree_of f ≡ guard_seen_tree line.now k j) }
@@ -41,46 +28,34 @@ fn guard_seen(alloc: Global, line: &Line, k: u32, j: u32) -> Result<Formula, Mem
 }
 
 fn late(alloc: Global, line: &Line, k: u32, j: u32) -> Result<Formula, Memory>
-    requires inside { k < terminal_count line.now }
-    requires other { j < terminal_count line.now }
-    requires apart { j ≢ k }
     ensures { IfOk result (λ f. tree_of f ≡ late_tree line.now k j) }
 {
     let lost = Formula::Loss(channel_to(line, k, j));
-    let window = channel_setting(line, k, j, Setting::UnblockWindow);
+    let window = channel_time(line, k, j, Setting::UnblockWindow);
     timer(alloc, Ok(lost), window, Time::Zero)
 }
 
 fn unblocked(alloc: Global, line: &Line, k: u32, j: u32) -> Result<Formula, Memory>
-    requires inside { k < terminal_count line.now }
-    requires other { j < terminal_count line.now }
-    requires apart { j ≢ k }
     ensures { IfOk result (λ f. tree_of f ≡ unblocked_tree line.now k j) }
 {
     let lost = Formula::Loss(channel_to(line, k, j));
-    let pickup = channel_setting(line, k, j, Setting::UnblockPickup);
+    let pickup = channel_time(line, k, j, Setting::UnblockPickup);
     let opened = timer(alloc, Ok(lost), pickup, Time::Zero);
     let closed = late(alloc, line, k, j);
     and(alloc, opened, not(alloc, closed))
 }
 
 fn locked_out(alloc: Global, line: &Line, k: u32, j: u32) -> Result<Formula, Memory>
-    requires inside { k < terminal_count line.now }
-    requires other { j < terminal_count line.now }
-    requires apart { j ≢ k }
     ensures { IfOk result (λ f. tree_of f ≡ locked_out_tree line.now k j) }
 {
     let guard = guard_seen(alloc, line, k, j);
-    let restore = channel_setting(line, k, j, Setting::UnblockRestore);
+    let restore = channel_time(line, k, j, Setting::UnblockRestore);
     let restored = timer(alloc, guard, restore, Time::Zero);
     let closed = late(alloc, line, k, j);
     seal(alloc, closed, not(alloc, restored))
 }
 
 fn open_from(alloc: Global, line: &Line, k: u32, j: u32) -> Result<Formula, Memory>
-    requires inside { k < terminal_count line.now }
-    requires other { j < terminal_count line.now }
-    requires apart { j ≢ k }
     ensures { IfOk result (λ f. tree_of f ≡ open_from_tree line.now k j) }
 {
     let sent = received(alloc, line, k, j);

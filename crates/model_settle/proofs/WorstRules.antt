@@ -15,7 +15,8 @@ use Rattle.model_logic.specs.{Laws.LineLaws, Logic.trip_tree}
 use Rattle.model_settle.specs.Sides.{Sides, value_on}
 use Rattle.model_settle.specs.Known.{IsReadIn, IsOneRailedIn}
 use Rattle.model_settle.specs.Worst.{worst_choice, IsOrdered, deciding}
-use Rattle.model_settle.specs.Choices.{SomeChoiceFails, EveryChoiceMeets}
+use Rattle.model_logic.specs.Obligations.{EveryChoiceMeets}
+use Rattle.model_settle.specs.Choices.{SomeChoiceFails}
 use Rattle.model_settle.proofs.WorstHistories.{choice_within, trip_is_rail}
 
 meets_held : (kind : Kind) (deadline horizon : ℕ) (trip : ℕ → Rails) (plain : ℕ → Bool)

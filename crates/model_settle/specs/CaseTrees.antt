@@ -1,8 +1,8 @@
 -- Trees of splits and cases, and what a sound one is.
-use Rattle.std.specs.Prelude.{◌≡◌, ◌≤◌, ◌<◌, ◌+◌, ◌&&◌, ◌⊎◌, ◌∷◌, ℕ, Bool, true, false, IsTrue}
+use Rattle.std.specs.Prelude.{◌≡◌, ◌<◌, ◌&&◌, ◌⊎◌, ◌∷◌, ℕ, Bool, true, false, IsTrue}
 use Rattle.std.specs.Prelude.{List}
 use Rattle.model_line.specs.{declared.line.Line.Line, declared.script.Script.Script}
-use Rattle.model_line.specs.Parameters.{terminal_count, param_count, is_delay}
+use Rattle.model_line.specs.Parameters.{terminal_count}
 use Rattle.model_logic.specs.Boxes.{CanSplit, lower_half, upper_half}
 use Rattle.model_logic.specs.{Choice.Box, Elements.is_weak}
 use Rattle.model_logic.specs.{Histories.PairHistory, Rule.Held, Rule.rule_of}

@@ -10,7 +10,8 @@ use Rattle.model_logic.specs.{Logic.trip_tree, Rule.IsHeld}
 use Rattle.model_settle.specs.Sides.{Rail, Sides, value_on}
 use Rattle.model_settle.specs.Known.{IsReadIn, IsOneRailedIn}
 use Rattle.model_settle.specs.Worst.{worst_delay, worst_choice, IsOrdered, deciding}
-use Rattle.model_settle.specs.Choices.{EveryChoiceMeets, SomeChoiceFails}
+use Rattle.model_logic.specs.Obligations.{EveryChoiceMeets}
+use Rattle.model_settle.specs.Choices.{SomeChoiceFails}
 
 -- the worst delay lies within the ends, and what arrives after it is the rail of what is received
 pub record WorstDelaysAreRails : Type 0 where

@@ -14,7 +14,8 @@ use Rattle.model_logic.specs.Histories.{History, IsLineHistory, Meets, PairHisto
 use Rattle.model_logic.specs.{Elements.is_weak, Logic.trip_tree, Rule.IsHeld}
 use Rattle.model_settle.specs.Sides.{Rail, turned, End, Least, pickup_end, dropout_end, Sides}
 use Rattle.model_settle.specs.Sides.{IsReadOn, IsOneRailed}
-use Rattle.model_settle.specs.{Choices.EveryChoiceMeets, Worst.worst_choice, Worst.deciding}
+use Rattle.model_logic.specs.Obligations.{EveryChoiceMeets}
+use Rattle.model_settle.specs.{Worst.worst_choice, Worst.deciding}
 
 -- no terminal is a weak infeed
 abbrev pub HasNoWeakEnd : Line → Type 0

@@ -1,4 +1,4 @@
-//! Whether a timing is inside the declared intervals.
+//! The declared intervals, and whether a timing is inside them.
 
 ghost use Rattle.std.specs.Prelude.{◌≡◌, ◌<◌, ◌↔◌, ℕ, length, get_or, IsTrue};
 ghost use Rattle.model_logic.specs.Choice.{IsIn};
@@ -8,8 +8,19 @@ ghost use Rattle.model_timing.specs.Inside.{IsStepInside, IsTimingInside};
 use crate::step::Step;
 use crate::timing::Timing;
 use model_line::Line;
-use model_line::laws::parameters_are_numbered;
-use run_signal::Tick;
+use model_line::laws::{declared_intervals_are_in_order, parameters_are_numbered};
+use run_signal::{Tick, Within};
+
+/// The declared interval of a parameter.
+pub fn declared_interval(line: &Line, param: u32) -> Within
+    requires { param < param_count line.now }
+    ensures { result ≡ declared_ends line.now param }
+{
+    declared_intervals_are_in_order();
+    let least = line.least(param);
+    let greatest = line.greatest(param);
+    Within::new(least, greatest)
+}
 
 /// Whether there is one number for each parameter, each lies in its interval, and each step is of
 /// a delay of the line, from a tick of 1 or later and within the run, with a number of its

@@ -14,7 +14,7 @@ mod timing;
 
 pub use blocks::{candidate_in, candidate_spans};
 pub use candidates::{candidate, candidate_count};
-pub use intervals::{inside, is_in};
+pub use intervals::{declared_interval, inside, is_in};
 pub use laws::{
     candidates_are_inside, each_choice_inside_is_a_timing, same_choices_have_the_same_histories,
     the_latest_step_counts, timings_inside_are_choices_inside,

@@ -1,13 +1,14 @@
 //! A timing.
 
 ghost use Rattle.std.specs.Prelude.{◌≡◌, ◌<◌, ◌≤◌, ◌&&◌, ◌==◌, [], length, slice_set, IsTrue};
-ghost use Rattle.std.specs.Prelude.{IsFalse, OnOk};
+ghost use Rattle.std.specs.Prelude.{IfOk, IsFalse, OnOk};
 ghost use Rattle.std.specs.List.{list_any};
 
 use crate::places::place_after;
 use crate::step::Step;
 use model_line::Memory;
 use run_signal::Tick;
+use std::alloc::Global;
 use std::marker::Model;
 
 /// One number of ticks for each parameter, in the order of the line's list, and the steps of the
@@ -60,6 +61,15 @@ impl Timing {
         ensures ascending { IsTrue (ascend self.now.steps) }
     {
         self.steps.as_slice()
+    }
+
+    /// The same timing once more.
+    pub fn copy(&self, alloc: Global) -> Result<Timing, Memory>
+        ensures { IfOk result (λ copy. copy ≡ self.now) }
+    {
+        let values = Vec::from_slice(alloc, self.values())?;
+        let steps = Vec::from_slice(alloc, self.steps())?;
+        Ok(Timing::with_steps(values, steps))
     }
 
     /// Sets a parameter's number.

@@ -13,9 +13,8 @@ use crate::elements::Local;
 use crate::from_others::any_received;
 use crate::joining::and_not;
 use crate::outputs::Out;
-use crate::times::terminal_time;
 use model_line::{Line, Memory, Scheme, Setting};
-use model_logic::Time;
+use model_logic::{Time, terminal_time};
 use net_gates::GateId;
 
 /// What a terminal of a DCB line sends and trips on.

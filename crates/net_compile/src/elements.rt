@@ -10,9 +10,8 @@ ghost use Rattle.net_compile.specs.Growing.{HasRoom, Extends};
 ghost use Rattle.net_compile.specs.LocalGates.{AreLocal};
 
 use crate::builder::NetBuilder;
-use crate::times::{terminal_time, time_of};
 use model_line::{Element, Line, Memory, Owner, Place, Setting};
-use model_logic::{is_terminal_guarded, pickup_and_dropout};
+use model_logic::{is_terminal_guarded, pickup_and_dropout, terminal_time, time_of};
 use net_gates::GateId;
 
 /// The gates of what a terminal sees for itself.

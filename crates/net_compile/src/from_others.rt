@@ -11,9 +11,8 @@ ghost use Rattle.net_compile.specs.Growing.{HasRoom, Extends};
 
 use crate::builder::NetBuilder;
 use crate::joining::{and_not, join_before, or_never};
-use crate::times::channel_to;
 use model_line::{Line, Memory};
-use model_logic::Join;
+use model_logic::{Join, channel_to};
 use net_gates::GateId;
 
 /// What a terminal receives from another: what arrives over the channel, unless that is lost.

@@ -5,7 +5,7 @@
 //! equal gates are one. Each call here adds gates to it. Whatever it answers, the gates that stood
 //! keep their numbers, and those that were added name only what the line has.
 //!
-//! - `elements`, `from_others` over `joining`, `times`: what a terminal sees and hears; `outputs`:
+//! - `elements`, `from_others` over `joining`: what a terminal sees and hears; `outputs`:
 //!   what a scheme makes of it.
 //! - `over_permission` over `weak_end`: the echo and the trip of a weak terminal, over a
 //!   permission.
@@ -23,7 +23,6 @@ mod over_permission;
 mod pott_putt;
 mod terminal_gates;
 mod text;
-mod times;
 mod transfer_trip;
 mod unblocking;
 mod weak_end;

@@ -7,9 +7,8 @@ use crate::builder::NetBuilder;
 use crate::elements::Local;
 use crate::from_others::any_received;
 use crate::outputs::Out;
-use crate::times::terminal_time;
 use model_line::{Line, Memory, Scheme, Setting};
-use model_logic::Time;
+use model_logic::{Time, terminal_time};
 
 /// What a terminal of a DTT line sends and trips on.
 #[tactic(auto, unfolding(model_logic::specs::Logic::transfer_pilot))]

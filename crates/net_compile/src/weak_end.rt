@@ -14,9 +14,8 @@ ghost use Rattle.net_compile.specs.Echoes.{AreEchoes, CanMakeOver};
 use crate::builder::NetBuilder;
 use crate::elements::Local;
 use crate::joining::and_not;
-use crate::times::terminal_time;
 use model_line::{Line, Memory, Setting};
-use model_logic::{Time, is_terminal_weak};
+use model_logic::{Time, is_terminal_weak, terminal_time};
 use net_gates::GateId;
 
 /// The gates of a weak terminal. At a terminal that is not weak none of them is ever on.

@@ -11,9 +11,8 @@ ghost use Rattle.net_compile.specs.Growing.{HasRoom, Extends};
 use crate::builder::NetBuilder;
 use crate::from_others::received;
 use crate::joining::and_not;
-use crate::times::{channel_time, channel_to};
 use model_line::{Line, Memory, Setting};
-use model_logic::Time;
+use model_logic::{Time, channel_time, channel_to};
 use net_gates::GateId;
 
 /// Whether a terminal takes another as permitting: it receives its signal or the window of the

@@ -5,7 +5,7 @@ use Rattle.std.proofs.Common.{subst, arith}
 use Rattle.std.proofs.lemmas.Bool.{cases_lt}
 use Rattle.std.proofs.lemmas.List.{map-append, length-map}
 use Rattle.std.specs.Prelude.{nat_lt}
-use Rattle.model_history.specs.Rails.{Rails, Ends, IsSound, both, must_of, may_of, rails_timed}
+use Rattle.model_history.specs.Rails.{Rails, Ends, IsSound, must_of, may_of, rails_timed}
 use Rattle.model_history.specs.Rails.{rails_at}
 use Rattle.model_history.specs.{Elements.timed, Recorded.at, Laws.HistoryLaws}
 use Rattle.model_history.specs.RailLaws.{must_at, may_at}

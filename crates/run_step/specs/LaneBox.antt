@@ -12,6 +12,10 @@ abbrev pub ends_in : {S : Type 0} → (S → ℕ → Ends) → ℕ → Option S 
 ends_in ends lane None = single 0
 ends_in ends lane (Some span) = ends span lane
 
+-- the ends of a span that is an interval itself, in every lane
+abbrev pub own_span : Ends → ℕ → Ends
+own_span span lane = span
+
 -- the ends of a parameter's own span
 abbrev pub own_ends : {S : Type 0} → (S → ℕ → Ends) → ℕ → List S → ℕ → Ends
 own_ends ends lane spans i = ends_in ends lane (slice_get spans i)

@@ -2,9 +2,7 @@
 use Rattle.std.proofs.Common.{◌≡◌, ℕ, ◌+◌, ◌≤◌, ◌<◌, List, min, arith, Ok, Err, IsErrOf}
 use Rattle.base_text.specs.store.Counts.{Grew, one_more}
 use Rattle.base_text.specs.store.Store.{SameCounts, NoneFell}
-use Rattle.base_text.specs.declared.store.store.FetchFault.{FetchFault}
 use Rattle.base_text.specs.declared.store.store.FetchFault.TheVariants as fault
-use Rattle.base_memory.specs.declared.stopped.Stopped.{Stopped}
 use Rattle.base_memory.specs.declared.stopped.Stopped.TheVariants as stopped
 
 -- bytes that go past a limit with those of this pull

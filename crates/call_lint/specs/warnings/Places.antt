@@ -1,5 +1,5 @@
 -- Lines and columns. A line ends with a line feed, and the first has number 1.
-use Rattle.std.specs.Prelude.{◌≡◌, ◌≢◌, ◌≤◌, ◌<◌, ◌+◌, ◌==◌, ◌⊎◌, ℕ, List, length, take, count_by, get_or}
+use Rattle.std.specs.Prelude.{◌≡◌, ◌≢◌, ◌≤◌, ◌<◌, ◌+◌, ◌==◌, ℕ, List, take, count_by, get_or}
 
 -- the number of the line in which a byte stands: one more than the line feeds before it
 abbrev pub line_number_of : List ℕ → ℕ → ℕ

@@ -1,7 +1,8 @@
 -- Slips in one record of scripts, and in a line of a TOML document.
-use Rattle.std.specs.Prelude.{◌≡◌, ◌&&◌, ◌==◌, ◌+◌, ◌<◌, ℕ, Bool, List, Option, Some, None, IsTrue}
-use Rattle.std.specs.Prelude.{if◌then◌else◌, get_or, length, nat_le, codes}
+use Rattle.std.specs.Prelude.{◌&&◌, ◌==◌, ◌+◌, ◌<◌, ℕ, Bool, List, Option, Some, None, IsTrue}
+use Rattle.std.specs.Prelude.{if◌then◌else◌, get_or, length, codes}
 use Rattle.std.specs.List.{list_all}
+use Rattle.base_text.specs.store.Number.{is_digit}
 use Rattle.call_lint.specs.declared.warnings.slip.Slip.{Slip}
 use Rattle.call_lint.specs.declared.warnings.slip.Slip.TheVariants as slip
 use Rattle.call_lint.specs.warnings.Mistakes.{begins_with, has_byte}
@@ -17,9 +18,6 @@ record_slip_of row =
     else if has_byte 32 row then Some slip.Blank
     else if has_byte 46 row then Some slip.Point
     else None
-
-abbrev pub is_digit : ℕ → Bool
-is_digit b = nat_le 48 b && nat_le b 57
 
 -- a comma between two digits, the first of them at k
 abbrev pub is_decimal_comma : List ℕ → ℕ → Bool

@@ -2,7 +2,8 @@
 
 ghost use Rattle.std.specs.Prelude.{◌≡◌, ◌+◌, ◌<◌, Decides, length};
 ghost use Rattle.call_lint.specs.warnings.Slips.{is_only_commas, record_slip_of, IsDocumentSlip};
-ghost use Rattle.call_lint.specs.warnings.Slips.{HasDecimalComma, is_decimal_comma, is_digit};
+ghost use Rattle.call_lint.specs.warnings.Slips.{HasDecimalComma, is_decimal_comma};
+ghost use Rattle.base_text.specs.store.Number.{is_digit};
 
 use crate::warnings::bytes::has_byte;
 

@@ -5,6 +5,7 @@ use Rattle.std.proofs.Common.{map, not, refl, sym, ◌∙◌, ap, arith}
 use Rattle.std.proofs.lemmas.List.Elements.{All-head, All-tail}
 use Rattle.std.specs.Prelude.{codes, is_some, Option, if◌then◌else◌}
 use Rattle.std.specs.List.{All, concat, count_by}
+use Rattle.model_history.specs.EachLaws.{each_below-same}
 use Rattle.model_history.specs.Rails.{Rails}
 use Rattle.model_history.specs.BelowLaws.{some_below-same}
 use Rattle.model_line.specs.declared.script.Kind.TheVariants.{Internal, External}
@@ -14,7 +15,6 @@ use Rattle.model_logic.specs.Histories.{IsPairHistory, IsSamePairHistory, PairHi
 use Rattle.model_logic.specs.Rule.{Held, Broken, Unknown, Rule, is_broken, is_held, rule_by}
 use Rattle.model_logic.specs.Rule.{rule_of}
 use Rattle.model_logic.specs.Choice.{declared_box}
-use Rattle.run_changes.specs.rows.RowLaws.{each_below-same}
 use Rattle.run_waves.specs.waves.FirstTick.{first_on}
 use Rattle.run_waves.specs.waves.FirstTickLaws.{first_on-same}
 use Rattle.judge_report.specs.ReportText.{AreHistories, fields_text, report_header}

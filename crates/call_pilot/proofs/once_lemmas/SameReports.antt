@@ -4,6 +4,7 @@ use Rattle.std.proofs.Math.Path.{fun_ext}
 use Rattle.std.proofs.lemmas.List.Elements.{All-head, All-tail}
 use Rattle.std.specs.Prelude.{codes}
 use Rattle.std.specs.List.{All, concat}
+use Rattle.model_history.specs.Each.{each_below}
 use Rattle.model_history.specs.Rails.{Rails}
 use Rattle.model_line.specs.{Laws.CountsRestOnNoInterval, Fits.Fits, Parameters.terminal_count}
 use Rattle.model_line.specs.{declared.line.Line.Line, declared.script.Script.Script}
@@ -14,7 +15,6 @@ use Rattle.model_logic.specs.IntervalLaws.{HistoriesRestOnNoInterval}
 use Rattle.model_logic.specs.Rule.{Rule, rule_of}
 use Rattle.file_line.specs.Lines.{line_values}
 use Rattle.file_tables.specs.script.Values.{values_of}
-use Rattle.run_changes.specs.rows.PlayRows.{each_below}
 use Rattle.run_waves.specs.waves.FirstTick.{first_on}
 use Rattle.judge_report.specs.ReportText.{AreHistories, IsReportText, fields_text, report_header}
 use Rattle.judge_report.specs.ReportText.{report_text_of, row_text, rule_word, script_rows}

@@ -5,7 +5,7 @@ use Rattle.std.proofs.Common.{sym, ◌∙◌, ap, subst}
 use Rattle.std.proofs.Math.Path.{fun_ext}
 use Rattle.model_history.specs.Rails.{Ends}
 use Rattle.model_line.specs.Laws.{CountsRestOnNoInterval}
-use Rattle.model_line.specs.Parameters.{declared_ends, is_delay, param_count}
+use Rattle.model_line.specs.Parameters.{declared_ends, is_delay, param_count, declared_middle}
 use Rattle.model_line.specs.{declared.line.Line.Line, declared.script.Script.Script}
 use Rattle.model_line.specs.{declared.line.Param.Param, SetBounds.SameButParams}
 use Rattle.model_line.specs.{SetBounds.WithBounds, WithBounds.IsWithBounds}
@@ -19,7 +19,7 @@ use Rattle.judge_split.specs.declared.node.Outcome.TheVariants as outcome
 use Rattle.judge_split.specs.Search.{Fails, Found, IsLower, IsSearch, IsSplitAt, IsUpper}
 use Rattle.judge_split.specs.Search.{IsVerdictOf, Tree, deepest, first_fails, narrow, no}
 use Rattle.judge_split.specs.Search.{second_fails, split, yes}
-use Rattle.judge_split.specs.Widths.{IsNarrow, IsWidest, middle, width}
+use Rattle.judge_split.specs.Widths.{IsNarrow, IsWidest, width}
 use Rattle.cert_split.specs.text.Grammar.{SplitResult}
 use Rattle.cert_own.specs.Searched.{AreSearched}
 use Rattle.call_pilot.specs.commands.Split.{split_answer}
@@ -63,7 +63,7 @@ module _ (counts : CountsRestOnNoInterval) (histories : HistoriesRestOnNoInterva
     narrow = λ i lt. width_same i ∙ is.narrow i (params_in i lt);
   }
 
-  middle_same : (p : ℕ) → middle b p ≡ middle a p
+  middle_same : (p : ℕ) → declared_middle b p ≡ declared_middle a p
   middle_same p =
       ap (λ (ends : ℕ → Ends). ((ends p).least + (ends p).greatest) / 2)
       (ends_same counts histories a b lines)
@@ -88,14 +88,14 @@ module _ (counts : CountsRestOnNoInterval) (histories : HistoriesRestOnNoInterva
       subst (λ (ends : ℕ → Ends).
       IsWithBounds b p (ends p).least (((ends p).least + (ends p).greatest) / 2) first)
       (sym (ends_same counts histories a b lines))
-      (bounds_on p (declared_ends a p).least (middle a p) first is)
+      (bounds_on p (declared_ends a p).least (declared_middle a p) first is)
 
   upper_on : (p : ℕ) (second : Line) → IsUpper a p second → IsUpper b p second
   upper_on p second is =
       subst (λ (ends : ℕ → Ends).
       IsWithBounds b p (((ends p).least + (ends p).greatest) / 2 + 1) (ends p).greatest second)
       (sym (ends_same counts histories a b lines))
-      (bounds_on p (middle a p + 1) (declared_ends a p).greatest second is)
+      (bounds_on p (declared_middle a p + 1) (declared_ends a p).greatest second is)
 
 -- ---- a search
 

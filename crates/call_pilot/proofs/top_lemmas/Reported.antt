@@ -5,13 +5,13 @@ use Rattle.std.proofs.Common.{None, Some, map, length, refl, sym, ◌∙◌, ap,
 use Rattle.std.proofs.lemmas.List.{append-nil}
 use Rattle.std.specs.Prelude.{IsFalse, IsTrue, slice_get}
 use Rattle.std.specs.List.{concat}
+use Rattle.model_history.specs.Each.{each_below}
 use Rattle.model_line.specs.{declared.line.Line.Line, declared.script.Script.Script, Fits.Fits}
 use Rattle.model_line.specs.Parameters.{terminal_count}
 use Rattle.model_logic.specs.Histories.{CoversHistory, History, IsLineHistory, IsPairHistory}
 use Rattle.model_logic.specs.Histories.{PairHistory}
 use Rattle.model_logic.specs.Choice.{Choice, IsInside, declared_box}
 use Rattle.model_logic.specs.Rule.{rule_of}
-use Rattle.run_changes.specs.rows.PlayRows.{each_below}
 use Rattle.run_waves.specs.waves.FirstTick.{first_on}
 use Rattle.judge_report.specs.ReportText.{IsReportText, report_header, row_text, script_rows}
 use Rattle.call_pilot.specs.{top.HeadlineLaws.HeadlineLaws, top.Truths.IsBefore, top.Truths.ReportIsTrue}

@@ -4,6 +4,7 @@ use Rattle.std.proofs.Common.{length, sym, ◌∙◌, ap, subst}
 use Rattle.std.proofs.lemmas.List.{length-map}
 use Rattle.std.specs.Prelude.{codes}
 use Rattle.std.specs.{List.position_from, Str.bytes_eq}
+use Rattle.model_history.specs.Each.{each_below}
 use Rattle.model_line.specs.{declared.line.Line.Line, declared.line.Param.Param}
 use Rattle.model_line.specs.{declared.script.Script.Script, Parameters.terminal_count}
 use Rattle.model_line.specs.{SetBounds.SameButParams, Laws.CountsRestOnNoInterval}
@@ -12,7 +13,6 @@ use Rattle.file_line.specs.{LineFiles.line_of, Lines.line_values}
 use Rattle.file_tables.specs.{script.Scripts.scripts_of, script.Values.AreOfOneFile, script.Values.ScriptValues}
 use Rattle.file_tables.specs.script.Values.{values_of}
 use Rattle.cert_claims.specs.text.Grammar.{Verdict}
-use Rattle.run_changes.specs.rows.PlayRows.{each_below}
 use Rattle.judge_report.specs.ReportText.{report_header, rule_word}
 use Rattle.judge_report.specs.Raised.{raised}
 use Rattle.cert_own.specs.Obligations.{AllMet, HoldsAsAccepted, HoldsAsCertified}

@@ -8,6 +8,7 @@ use Rattle.std.specs.Prelude.{◌&&◌, ◌+◌, IsTrue, codes, not, nat_le, nat
 use Rattle.std.specs.List.{after_first, before_first, position_from}
 use Rattle.std.specs.{Option.ok_or, Str.bytes_eq}
 use Rattle.std.proofs.lemmas.Map.Entries.{option_filter}
+use Rattle.model_history.specs.Each.{each_below}
 use Rattle.base_memory.specs.Gives.{◌>>=◌, passes_or}
 use Rattle.base_records.specs.{RecordFile.RecordFile, RecordFile.said_in, Records.records_of}
 use Rattle.model_history.specs.Rails.{Ends}
@@ -23,7 +24,7 @@ use Rattle.model_logic.specs.IntervalLaws.{HistoriesRestOnNoInterval}
 use Rattle.model_names.specs.NumbersByName.{param_named}
 use Rattle.file_line.specs.Lines.{line_values}
 use Rattle.file_tables.specs.script.Values.{ScriptValues, values_of}
-use Rattle.run_changes.specs.rows.PlayRows.{each_below, run_rows, signal_row}
+use Rattle.run_changes.specs.rows.PlayRows.{run_rows, signal_row}
 use Rattle.file_tables.specs.declared.timing.fault.TimingFault.{TimingFault}
 use Rattle.file_tables.specs.declared.timing.fault.TimingFault.TheVariants as fault
 use Rattle.file_tables.specs.declared.timing.named.Named.{Named}

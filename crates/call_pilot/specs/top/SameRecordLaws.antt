@@ -16,7 +16,8 @@ use Rattle.model_names.specs.NumbersByName.{script_named}
 use Rattle.file_tables.specs.script.Values.{values_of}
 use Rattle.judge_match.specs.declared.matching.fault.SeenFault.{SeenFault}
 use Rattle.judge_match.specs.declared.matching.fault.SeenFault.TheVariants as fault
-use Rattle.judge_match.specs.matching.Checks.{change_of, comes_later, is_head, level_before, level_of}
+use Rattle.base_records.specs.Fields.{level_named}
+use Rattle.judge_match.specs.matching.Checks.{change_of, comes_later, is_head, level_before}
 use Rattle.judge_match.specs.matching.Checks.{name_for, other_level, place_of, signal_of}
 use Rattle.judge_match.specs.{matching.Heads.HeadValues, matching.Heads.with_change, matching.Heads.with_head}
 use Rattle.judge_match.specs.{matching.Records.after_name, matching.Records.after_record, matching.Records.after_row}
@@ -53,7 +54,7 @@ module _ (a b : Line) (same : SameButParams a b) where
       (signal_of row.signal)) (fault.BadPlace n) >>= λ place.
       ok_or (option_filter (λ t. nat_lt t horizon) (number_of row.tick)) (fault.Ticks n) >>= λ t.
       passes_or (comes_later head.latest t place) (fault.Later n) >>= λ later.
-      ok_or (other_level (level_before head place) (level_of row.level)) (fault.Level n)
+      ok_or (other_level (level_before head place) (level_named row.level)) (fault.Level n)
       >>= λ level. Ok (with_change s head (change_of place t level)) in
       ap (λ (ts : List Terminal). made ts b.horizon) same.terminals
       ∙ ap (made a.terminals.items) same.horizon

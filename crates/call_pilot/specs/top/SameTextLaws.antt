@@ -8,12 +8,12 @@ use Rattle.model_line.specs.{declared.line.Line.Line, declared.script.Script.Scr
 use Rattle.model_line.specs.{declared.line.Param.Param, declared.line.Terminal.Terminal}
 use Rattle.model_line.specs.{declared.script.Kind.Kind, ParamNames.name_at}
 use Rattle.model_line.specs.{Parameters.declared_ends, SetBounds.SameButParams}
-use Rattle.model_line.specs.NamesByNumber.{parameter_name, terminal_name}
+use Rattle.model_line.specs.NamesByNumber.{kind_text, parameter_name, terminal_name}
 use Rattle.file_tables.specs.script.Values.{ScriptValues, values_of}
 use Rattle.cert_claims.specs.text.Grammar.{end_text, script_text, terminal_names}
 use Rattle.cert_claims.specs.text.Text.{fed}
 use Rattle.judge_report.specs.Deadlines.{deadline_of, margin_of, margin_us_of}
-use Rattle.judge_report.specs.ReportText.{field, fields_text, kind_word, margin_text, tick_text}
+use Rattle.judge_report.specs.ReportText.{field, fields_text, margin_text, tick_text}
 use Rattle.judge_report.specs.declared.upper_end.Lost.{Lost}
 use Rattle.judge_report.specs.declared.upper_end.UpperEnd.{UpperEnd}
 use Rattle.judge_report.specs.MarginText.{greatest_words, lost_words, margin_line}
@@ -54,7 +54,7 @@ module _ (a b : Line) (rest : SameButParams a b) (params : b.params.items ≡ a.
       → fields_text b r k may must ≡ fields_text a s k may must
   fields_same s r values k may must =
       let made : List ℕ → Kind → ℕ → List ℕ → ℕ → List ℕ = λ name kind deadline terminal tick_us.
-      field name ++ field (kind_word kind) ++ field terminal
+      field name ++ field (kind_text kind) ++ field terminal
       ++ field (tick_text may) ++ field (tick_text must)
       ++ field (tick_text (deadline_of kind deadline))
       ++ field (margin_text (margin_of kind deadline must))

@@ -17,7 +17,8 @@ use Rattle.model_logic.specs.Logic.{key_tree, trip_tree}
 use Rattle.model_logic.specs.IntervalLaws.{HistoriesRestOnNoInterval}
 use Rattle.file_line.specs.Lines.{LineValues, intervals_of, line_values}
 use Rattle.file_tables.specs.script.Values.{ScriptValues, values_of}
-use Rattle.cert_own.specs.Obligations.{IsFailedBy, IsMetByAll}
+use Rattle.cert_own.specs.Obligations.{IsFailedBy}
+use Rattle.model_logic.specs.Obligations.{EveryChoiceMeets}
 
 -- ---- lines of the same values
 
@@ -117,7 +118,7 @@ module _ (counts : CountsRestOnNoInterval) (histories : HistoriesRestOnNoInterva
         (subst (λ (x : Kind). MeetsBy x s.deadline a.horizon (h.trip k))
         (sym (ap (λ (v : ScriptValues). v.kind) values)) met))
 
-    pub met_by_all : (k : ℕ) → IsMetByAll a s k → IsMetByAll b r k
+    pub met_by_all : (k : ℕ) → EveryChoiceMeets a s k → EveryChoiceMeets b r k
     met_by_all k met = λ choice h inside is.
         meets_on k h (met choice h (inside_back choice inside) (history_back choice h is))
 

@@ -1,20 +1,21 @@
 -- What is so of every choice of delays where a command has answered a text.
 use Rattle.std.specs.Prelude.{◌≡◌, ◌<◌, ◌++◌, ℕ, List, Option, Some, IsFalse, IsTrue, MatchOption}
 use Rattle.std.specs.Prelude.{codes, length, slice_get}
+use Rattle.model_history.specs.Each.{each_below}
 use Rattle.model_line.specs.{declared.line.Line.Line, declared.script.Script.Script}
 use Rattle.model_line.specs.Parameters.{terminal_count}
 use Rattle.model_logic.specs.Choice.{Choice, IsInside, IsWithin}
 use Rattle.model_logic.specs.Histories.{History, IsLineHistory, Meets}
 use Rattle.model_logic.specs.Rule.{Broken, Held, Rule}
 use Rattle.model_names.specs.NumbersByName.{param_named}
-use Rattle.run_changes.specs.rows.PlayRows.{each_below}
 use Rattle.judge_report.specs.ReportText.{fields_text, report_header, rule_word}
 use Rattle.judge_report.specs.declared.upper_end.UpperEnd.{UpperEnd}
 use Rattle.judge_report.specs.{Margin.IsUpperEnd, MarginText.margin_line, Raised.raised}
 use Rattle.cert_claims.specs.check.Scripts.{EachBelow}
 use Rattle.cert_split.specs.{text.Grammar.SplitResult, text.Text.split_text}
 use Rattle.cert_split.specs.check.Results.{AreTold}
-use Rattle.cert_own.specs.Obligations.{AllMet, HoldsSomewhere, IsFailedBySome, IsMetByAll}
+use Rattle.cert_own.specs.Obligations.{AllMet, HoldsSomewhere, IsFailedBySome}
+use Rattle.model_logic.specs.Obligations.{EveryChoiceMeets}
 use Rattle.cert_own.specs.Obligations.{IsUnknown}
 use Rattle.call_files.specs.declared.stop.Status.{Status}
 use Rattle.call_files.specs.declared.stop.Status.TheVariants as status
@@ -50,7 +51,7 @@ pub record RowIsTrue (line : Line) (script : Script) (k : ℕ) (row : List ℕ) 
   pub must : (t : ℕ) → first_must ≡ Some t → (choice : Choice) (h : History)
       → IsInside line choice → IsLineHistory line script choice h → IsTrue (h.trip k t)
   -- `held`: every choice inside meets the obligation; `broken`: every choice inside fails it
-  pub held : rule ≡ Held → IsMetByAll line script k
+  pub held : rule ≡ Held → EveryChoiceMeets line script k
   pub broken : rule ≡ Broken → IsFailedByAll line script k
 
 -- the text is the header, and then for each script in order a true row for each terminal in order

@@ -42,7 +42,7 @@ fn rejected_text(alloc: Global, study: &Study, fault: CheckFault) -> Result<Vec<
         ≡ concat (rejected_pieces study.now.line study.now.scripts.items fault)) }
 {
     match fault {
-        CheckFault::Line(number) => rejected_line(alloc, number),
+        CheckFault::Line(number) => rejected_line(alloc, number as usize),
         CheckFault::NotCovered {
             script,
             terminal,

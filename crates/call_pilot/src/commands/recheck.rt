@@ -33,7 +33,7 @@ fn rejected_text(alloc: Global, study: &Study, fault: SplitFault) -> Result<Vec<
         ≡ concat (rejected_pieces study.now.line study.now.scripts.items fault)) }
 {
     match fault {
-        SplitFault::Line(number) => rejected_line(alloc, number),
+        SplitFault::Line(number) => rejected_line(alloc, number as usize),
         SplitFault::NotHeld {
             script,
             terminal,

@@ -5,7 +5,8 @@ ghost use Rattle.model_line.specs.{declared.line.Line.Line, declared.script.Scri
 ghost use Rattle.model_line.specs.Fits.{Fits};
 ghost use Rattle.file_line.specs.Lines.{line_values};
 ghost use Rattle.file_tables.specs.{script.Scripts.scripts_of, script.Values.values_of};
-ghost use Rattle.cert_own.specs.Obligations.{IsFailedBy, IsMetByAll, IsUnknown};
+ghost use Rattle.cert_own.specs.Obligations.{IsFailedBy, IsUnknown};
+ghost use Rattle.model_logic.specs.Obligations.{EveryChoiceMeets};
 ghost use Rattle.cert_claims.specs.check.Counts.{all_verdicts};
 ghost use Rattle.cert_split.specs.check.Counts.{all_verdicts as all_split_verdicts};
 ghost use Rattle.call_pilot.specs.{commands.Certify.certify_answer, commands.Check.check_answer};
@@ -89,7 +90,7 @@ pub fn what_split_writes_is_accepted()
 pub fn what_is_met_rests_on_the_values()
     ensures met { (line other : Line) (script copy : Script) (k : ℕ) →
         line_values other ≡ line_values line → values_of copy ≡ values_of script →
-        IsMetByAll line script k → IsMetByAll other copy k }
+        EveryChoiceMeets line script k → EveryChoiceMeets other copy k }
     ensures failed { (line other : Line) (script copy : Script) (k : ℕ) (numbers : List ℕ) →
         line_values other ≡ line_values line → values_of copy ≡ values_of script →
         IsFailedBy line script k numbers → IsFailedBy other copy k numbers }

@@ -1,11 +1,10 @@
 -- The first record of a script, one after another.
-use Rattle.std.proofs.Common.{◌≡◌, ◌<◌, ◌≤◌, ◌+◌, ◌∷◌, [], ℕ, zero, suc, Bool, true, false, List, length, map}
+use Rattle.std.proofs.Common.{◌≡◌, ◌<◌, ◌≤◌, ◌+◌, ◌∷◌, [], ℕ, zero, suc, true, false, List, length, map}
 use Rattle.std.proofs.Common.{refl, sym, ◌∙◌, ap, arith, get_or, drop}
-use Rattle.std.specs.Prelude.{◌==◌, Result, Ok, Err}
+use Rattle.std.specs.Prelude.{◌==◌, Ok, Err}
 use Rattle.judge_match.specs.declared.matching.seen.Seen.{Seen}
 use Rattle.judge_match.specs.matching.Waves.{SeenValues, seen_values}
 use Rattle.call_work.specs.explain.Picked.{record_of}
-use Rattle.call_work.specs.declared.explain.unpicked.Unpicked.{Unpicked}
 use Rattle.call_work.specs.declared.explain.unpicked.Unpicked.TheVariants.{Missing}
 
 at_drop : (xs : List Seen) (i : ℕ) (x : Seen) → i < length xs → x ≡ get_or xs i x

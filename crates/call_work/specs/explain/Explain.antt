@@ -1,5 +1,5 @@
 -- What is said of a record, and why nothing is.
-use Rattle.std.specs.Prelude.{◌≡◌, ◌<◌, ◌≤◌, ℕ, List, Option, Some, Result, Ok, Err, length, slice_get}
+use Rattle.std.specs.Prelude.{◌≡◌, ◌<◌, ◌≤◌, ℕ, List, Option, Some, Ok, Err, length, slice_get}
 use Rattle.model_line.specs.{declared.line.Line.Line, declared.script.Script.Script}
 use Rattle.judge_match.specs.matching.Waves.{SeenValues, records_said}
 use Rattle.judge_match.specs.matching.Recorded.{recorded}

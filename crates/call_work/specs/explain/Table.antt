@@ -1,5 +1,5 @@
 -- The texts of what is answered.
-use Rattle.std.specs.Prelude.{◌-◌, ◌++◌, ℕ, Bool, true, false, List, [], ◌∷◌, map, codes, decimal}
+use Rattle.std.specs.Prelude.{◌-◌, ◌++◌, ℕ, List, [], ◌∷◌, map, codes, decimal}
 use Rattle.std.specs.Prelude.{nat_le, if◌then◌else◌}
 use Rattle.std.specs.List.{flat_map}
 use Rattle.csv.specs.Writing.{row_text, default_writer}

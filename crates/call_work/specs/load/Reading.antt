@@ -18,7 +18,6 @@ use Rattle.call_work.specs.declared.map.denial.MapDenial.{MapDenial}
 use Rattle.call_files.specs.Said.{of_record, of_timings}
 use Rattle.call_files.specs.declared.stop.File.{File}
 use Rattle.call_files.specs.declared.refusal.Refusal.TheVariants as refusal
-use Rattle.call_files.specs.declared.stop.Stop.TheVariants as stop
 use Rattle.call_ask.specs.{declared.ask.Form.Form, declared.ask.Table.Table}
 use Rattle.call_work.specs.{declared.load.halt.Halt.Halt}
 use Rattle.call_ask.specs.declared.ask.Table.TheVariants as tables

@@ -1,14 +1,14 @@
 -- The axes that the words of a map ask for, or why there is no such map.
 use Rattle.std.specs.Prelude.{◌≡◌, ◌+◌, ◌-◌, ◌*◌, ◌/◌, ◌==◌, ℕ, List, [], ◌∷◌, Option, None, Some}
 use Rattle.std.specs.Prelude.{Result, Ok, Err, nat_lt, if◌then◌else◌}
-use Rattle.std.specs.List.{list_any}
+use Rattle.std.specs.{List.list_any, Option.option_or}
 use Rattle.base_memory.specs.Gives.{◌>>=◌}
 use Rattle.model_line.specs.declared.line.Line.{Line}
 use Rattle.model_line.specs.NamesByNumber.{parameter_name}
 use Rattle.judge_margins.specs.{declared.map.axis.Axis.Axis, declared.map.axis.Axes.Axes}
 use Rattle.judge_margins.specs.declared.map.fault.MapFault.{MapFault}
 use Rattle.judge_margins.specs.declared.map.fault.MapFault.TheVariants.{TooMany}
-use Rattle.judge_margins.specs.map.Faults.{first_fault, or_else}
+use Rattle.judge_margins.specs.map.Faults.{first_fault}
 use Rattle.file_study.specs.declared.times.{axis_fault.AxisFault.AxisFault, steps.Steps.Steps}
 use Rattle.file_study.specs.{times.Names.params_of, times.Parts.names_of, times.Steps.steps_of}
 use Rattle.call_work.specs.declared.map.{denial.MapDenial.MapDenial, denial.Side.Side}
@@ -80,7 +80,7 @@ count_fault both =
 
 abbrev pub fault_of : Line → Both → Option MapFault
 fault_of line both =
-    or_else (moved_fault line both.x) (or_else (second_fault line both.y) (count_fault both))
+    option_or (moved_fault line both.x) (option_or (second_fault line both.y) (count_fault both))
 
 abbrev pub no_fault : Both → Option MapFault → Result Both MapDenial
 no_fault both None = Ok both

@@ -10,7 +10,7 @@ use Rattle.std.specs.Prelude.{nat_le, ◌==◌}
 use Rattle.std.specs.List.{All, list_all, position_or_len}
 use Rattle.base_text.specs.store.Number.{is_digit, number_of}
 use Rattle.base_text.specs.store.DecimalLaws.{are_digits, number_of-decimal}
-use Rattle.run_waves.specs.waves.Text.{is_space}
+use Rattle.base_text.specs.lines.Lines.{is_space}
 use Rattle.base_text.specs.{lines.Lines.is_one_line, lines.LineLaws.both_true}
 use Rattle.base_text.specs.lines.NamedLaws.{whole_append, decimal_whole}
 use Rattle.base_text.specs.lines.SpacedNumbers.{spaced, numbers_text}

@@ -1,5 +1,5 @@
 -- What a result is, from what was found of it.
-use Rattle.std.proofs.Common.{◌≡◌, ◌<◌, ◌≤◌, ◌+◌, ◌^◌, ℕ, zero, suc, List, length, refl}
+use Rattle.std.proofs.Common.{◌≡◌, ◌<◌, ◌≤◌, ◌^◌, ℕ, zero, suc, List, length, refl}
 use Rattle.std.proofs.Common.{sym, ◌∙◌, ap, subst, arith, length-append, IsTrue}
 use Rattle.std.specs.List.{list_all}
 use Rattle.model_line.specs.{declared.line.Line.Line, declared.script.Script.Script}
@@ -15,16 +15,9 @@ use Rattle.cert_split.specs.declared.check.tree.NotHeld.{NotHeld}
 use Rattle.cert_split.specs.check.Results.{IsSupported, IsTold}
 use Rattle.cert_split.specs.check.FirstLeaf.{IsFirstNotHeld, IsTreeNotHeld}
 use Rattle.cert_split.specs.check.Walks.{IsNotHeldFrom}
+use Rattle.cert_split.proofs.text_lemmas.FewLines.{full, some_node}
 
 -- ---- few nodes
-
-abbrev full : ℕ → ℕ
-full zero = 1
-full (suc n) = full n + full n + 1
-
-some_node : (n : ℕ) → 1 ≤ full n
-some_node zero = omega arith
-some_node (suc n) = omega arith
 
 nodes_few : (t : SplitTree) (n : ℕ) → height t ≤ n → length (preorder t) ≤ full n
 nodes_few Yes n low = some_node n

@@ -15,7 +15,7 @@ use Rattle.cert_split.specs.text.Grammar.{MayStand, deepest, tree_places, part_p
 use Rattle.cert_claims.specs.text.NameLaws.{names_count}
 
 -- the nodes of a tree with so many splits above one another, at most
-abbrev full : ℕ → ℕ
+abbrev pub full : ℕ → ℕ
 full zero = 1
 full (suc n) = full n + full n + 1
 
@@ -33,7 +33,7 @@ most_append : (a b : List Place) → most (a ++ b) ≡ most a + most b
 most_append [] b = omega arith
 most_append (p ∷ a) b = omega (arith, most_append a b)
 
-some_node : (n : ℕ) → 1 ≤ full n
+pub some_node : (n : ℕ) → 1 ≤ full n
 some_node zero = omega arith
 some_node (suc n) = omega arith
 

@@ -1,6 +1,6 @@
 //! The line of a node, read.
 
-ghost use Rattle.std.specs.Prelude.{◌≡◌, ◌≢◌, ◌<◌, ◌^◌, ℕ, decimal, MatchOption};
+ghost use Rattle.std.specs.Prelude.{◌≡◌, ◌≢◌, ◌<◌, ◌^◌, ℕ, MatchOption};
 ghost use Rattle.model_logic.specs.Choice.{declared_box};
 ghost use Rattle.model_line.specs.Parameters.{param_count};
 ghost use Rattle.model_line.specs.NamesByNumber.{parameter_name};
@@ -8,25 +8,9 @@ ghost use Rattle.judge_split.specs.{declared.node.Node.Node};
 ghost use Rattle.model_logic.specs.Boxes.{CanSplit};
 ghost use Rattle.cert_split.specs.text.Grammar.{MayStand, node_text, split_line};
 
-use base_text::lines::{after_name, is};
-use base_text::store::number;
-use itoa::Buffer;
+use base_text::lines::{after_name, is, number_in};
 use judge_split::{Node, can_split, middles_are_below_the_greatest_interval};
 use model_line::{Line, Name};
-
-// The number that this is the text of.
-fn number_in(text: &[u8]) -> Option<u32>
-    ensures { MatchOption result
-        ((n : ℕ) → n < 2 ^ 32 → text.now ≢ decimal n) (λ n. text.now ≡ decimal n) }
-{
-    let n = number(text)?;
-    let mut digits = Buffer::new();
-    if is(digits.format(n).as_bytes(), text) {
-        Some(n)
-    } else {
-        None
-    }
-}
 
 // Where this is the line of a split of the parameter of this name: its middle.
 fn mid_in(bytes: &[u8], name: Name) -> Option<u32>

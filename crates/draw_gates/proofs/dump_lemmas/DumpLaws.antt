@@ -1,8 +1,9 @@
 -- A dump speaks of the net's gates and the line's ticks alone.
 use Rattle.std.proofs.Common.{◌≡◌, ℕ, suc, ◌-◌, ◌<◌, ◌≤◌, Bool, List, length, ◌∙◌, ap, arith}
+use Rattle.model_history.specs.Each.{each_below}
+use Rattle.model_history.specs.EachLaws.{each_below-same}
 use Rattle.model_line.specs.declared.line.Line.{Line}
 use Rattle.net_gates.specs.NetOf.{NetOf}
-use Rattle.run_changes.specs.{rows.PlayRows.each_below, rows.RowLaws.each_below-same}
 use Rattle.draw_gates.specs.dump.Dump.{GateLevels, value_text, change_text, timed_text, first_text}
 use Rattle.draw_gates.specs.dump.Dump.{next_text, tick_text, changes_text, dump_text}
 

@@ -3,6 +3,8 @@ use Rattle.std.proofs.Common.{◌<◌, ◌++◌, ◌∷◌, [], ℕ, Bool, true,
 use Rattle.std.proofs.lemmas.List.Elements.{All-nil, All-cons, All-append}
 use Rattle.std.specs.Prelude.{◌==◌, if◌then◌else◌}
 use Rattle.std.specs.List.{All}
+use Rattle.model_history.specs.Each.{each_below}
+use Rattle.model_history.specs.EachLaws.{All-each_below}
 use Rattle.model_line.specs.declared.script.Element.TheVariants.{Z1, Z2, Rv, Uv, Cur}
 use Rattle.model_line.specs.declared.line.Scheme.TheVariants.{Pott, Putt, Dcb, Dcub, Dtt}
 use Rattle.model_line.specs.Parameters.{terminal_count, channel_count}
@@ -12,7 +14,6 @@ use Rattle.draw_gates.specs.declared.roles.role.Role.{Role}
 use Rattle.draw_gates.specs.declared.roles.role.Role.TheVariants.{Seen, Timed, Lost, Raw, Received}
 use Rattle.draw_gates.specs.declared.roles.role.Role.TheVariants.{Window, Lockout, Guard, Coordination}
 use Rattle.draw_gates.specs.declared.roles.role.Role.TheVariants.{Echo, Permission, AnyReceived}
-use Rattle.draw_gates.specs.{roles.Each.each_of, roles.EachLaws.All-each_of}
 use Rattle.draw_gates.specs.roles.Roles.{IsRoleOf, at, seen_roles, channel_roles, window_roles, if_so}
 use Rattle.draw_gates.specs.roles.Roles.{scheme_roles, roles_at, receiver}
 
@@ -84,10 +85,10 @@ module _ (line : Line) where
   pub roles_are : (k : ℕ) → k < terminal_count line → All (IsRoleOf line) (roles_at line k)
   roles_are k lt =
       All-append (IsRoleOf line)
-      (seen_roles k ++ each_of (channel_count line) (channel_roles line k))
+      (seen_roles k ++ each_below (channel_count line) (channel_roles line k))
       (scheme_roles line.scheme line k)
       (All-append (IsRoleOf line) (seen_roles k)
-      (each_of (channel_count line) (channel_roles line k)) (seen_are k lt)
-      (All-each_of (IsRoleOf line) (channel_roles line k) (channel_count line)
+      (each_below (channel_count line) (channel_roles line k)) (seen_are k lt)
+      (All-each_below (IsRoleOf line) (channel_roles line k) (channel_count line)
       (λ c there. channel_are (receiver line c == k) c there)))
       (scheme_are line.scheme k lt)

@@ -1,9 +1,10 @@
 -- A value change dump (IEEE 1364): all values at time 0, and then each change at its time.
 use Rattle.std.specs.Prelude.{◌++◌, ◌*◌, ◌-◌, ℕ, suc, Bool, true, false, List, [], ◌∷◌, codes}
 use Rattle.std.specs.Prelude.{decimal, length}
+use Rattle.model_history.specs.Each.{each_below}
 use Rattle.model_line.specs.declared.line.Line.{Line}
 use Rattle.net_gates.specs.NetOf.{NetOf}
-use Rattle.run_changes.specs.rows.PlayRows.{level_word, each_below}
+use Rattle.run_changes.specs.rows.PlayRows.{level_word}
 use Rattle.draw_gates.specs.dump.Variables.{code_of, declarations}
 
 -- a value for each gate at each tick

@@ -5,13 +5,13 @@ use Rattle.std.specs.Prelude.{◌∷◌, Option, Some, None, codes, decimal, len
 use Rattle.std.specs.Prelude.{if◌then◌else◌}
 use Rattle.std.specs.Char.{is_ascii_alphabetic, is_ascii_alphanumeric}
 use Rattle.std.specs.List.{list_all}
+use Rattle.model_history.specs.Each.{each_below}
 use Rattle.model_line.specs.Channels.{from_of, to_of}
 use Rattle.model_line.specs.{declared.line.Line.Line, ParamNames.name_at, Parameters.terminal_count}
 use Rattle.model_line.specs.NamesByNumber.{element_text}
 use Rattle.net_gates.specs.declared.gate.Gate.{Gate}
 use Rattle.net_gates.specs.declared.gate.Gate.TheVariants as gate
 use Rattle.net_gates.specs.NetOf.{NetOf, key_of, trip_of}
-use Rattle.run_changes.specs.rows.PlayRows.{each_below}
 use Rattle.draw_gates.specs.declared.roles.role.Role.TheVariants.{Seen, Timed, Lost, Raw, Received}
 use Rattle.draw_gates.specs.declared.roles.role.Role.TheVariants.{Window, Lockout, Guard, Coordination}
 use Rattle.draw_gates.specs.declared.roles.role.Role.TheVariants.{Echo, Permission, AnyReceived}

@@ -2,6 +2,7 @@
 -- the scheme of a line has.
 use Rattle.std.specs.Prelude.{◌++◌, ◌==◌, ◌<◌, ℕ, Bool, true, false, List, [], ◌∷◌}
 use Rattle.std.specs.Prelude.{if◌then◌else◌}
+use Rattle.model_history.specs.Each.{each_below}
 use Rattle.model_line.specs.declared.script.Element.TheVariants.{Z1, Z2, Rv, Uv, Cur}
 use Rattle.model_line.specs.declared.line.Scheme.TheVariants.{Pott, Putt, Dcb, Dcub, Dtt}
 use Rattle.model_line.specs.declared.line.Setting.TheVariants.{BlockCoord}
@@ -19,7 +20,6 @@ use Rattle.draw_gates.specs.declared.roles.role.Role.{Role}
 use Rattle.draw_gates.specs.declared.roles.role.Role.TheVariants.{Seen, Timed, Lost, Raw, Received}
 use Rattle.draw_gates.specs.declared.roles.role.Role.TheVariants.{Window, Lockout, Guard, Coordination}
 use Rattle.draw_gates.specs.declared.roles.role.Role.TheVariants.{Echo, Permission, AnyReceived}
-use Rattle.draw_gates.specs.roles.Each.{each_of}
 
 -- zone 2 that has waited for a blocking signal, as the blocking scheme has it (COORD)
 unfoldable pub coordinated : Line → ℕ → Tree
@@ -118,5 +118,5 @@ scheme_roles Dtt line k = AnyReceived k ∷ []
 
 abbrev pub roles_at : Line → ℕ → List Role
 roles_at line k =
-    seen_roles k ++ each_of (channel_count line) (channel_roles line k)
+    seen_roles k ++ each_below (channel_count line) (channel_roles line k)
     ++ scheme_roles line.scheme line k

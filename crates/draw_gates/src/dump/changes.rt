@@ -1,7 +1,7 @@
 //! The changes of a value change dump.
 
 ghost use Rattle.std.specs.Prelude.{◌≡◌, ◌<◌, ◌≤◌, ◌+◌, ◌-◌, ◌++◌, OnOk};
-ghost use Rattle.run_changes.specs.rows.PlayRows.{each_below};
+ghost use Rattle.model_history.specs.Each.{each_below};
 ghost use Rattle.run_step.specs.Played.{is_on};
 ghost use Rattle.draw_gates.specs.dump.Dump.{time_text, value_text, change_text, first_text};
 ghost use Rattle.draw_gates.specs.dump.Dump.{next_text, timed_text, tick_text, changes_text};

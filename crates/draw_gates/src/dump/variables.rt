@@ -1,8 +1,8 @@
 //! The variables of a value change dump.
 
 ghost use Rattle.std.specs.Prelude.{◌≡◌, ◌<◌, ◌++◌, length, is_some, IfOk, OnOk};
+ghost use Rattle.model_history.specs.Each.{each_below};
 ghost use Rattle.model_line.specs.{ParamNames.name_at, Parameters.terminal_count};
-ghost use Rattle.run_changes.specs.rows.PlayRows.{each_below};
 ghost use Rattle.draw_gates.specs.{roles.Lookup.role_among, roles.Roles.roles_at as roles_of};
 ghost use Rattle.draw_gates.specs.dump.Variables.{code_of, variable_head, variable_text, scope_text};
 ghost use Rattle.draw_gates.specs.dump.Variables.{step_text, role_text, named_variable, variable_at};

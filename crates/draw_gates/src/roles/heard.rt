@@ -11,9 +11,8 @@ ghost use Rattle.model_logic.specs.SameTree.{same_tree};
 ghost use Rattle.net_gates.specs.Formulas.{formula_of};
 
 use crate::roles::gates::{both_of, denied, either_of, is_lost, is_raw, sealed_by, timed_by};
-use crate::roles::times::{channel_time, channel_to};
 use model_line::{Line, Setting};
-use model_logic::Time;
+use model_logic::{Time, channel_time, channel_to};
 use net_gates::{GateId, Net};
 
 // Whether a gate denies the loss of a channel.

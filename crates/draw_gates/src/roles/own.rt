@@ -14,9 +14,10 @@ ghost use Rattle.draw_gates.specs.roles.Roles.{coordinated};
 
 use crate::roles::gates::{both_of, denied, either_of, is_never, is_seen, timed_by};
 use crate::roles::joined::is_permission;
-use crate::roles::times::{terminal_time, time_of};
 use model_line::{Element, Line, Owner, Place, Setting};
-use model_logic::{Time, is_terminal_guarded, is_terminal_weak, pickup_and_dropout};
+use model_logic::{
+    Time, is_terminal_guarded, is_terminal_weak, pickup_and_dropout, terminal_time, time_of,
+};
 use net_gates::{GateId, Net};
 
 /// Whether a gate is what terminal k sees of an element, timed by its settings.

@@ -3,8 +3,8 @@
 ghost use Rattle.std.specs.Prelude.{◌≡◌, ◌++◌, ◌<◌, ◌∷◌, [], IfOk, OnOk};
 ghost use Rattle.model_logic.specs.Elements.{is_guarded, is_weak};
 ghost use Rattle.std.specs.List.{All};
+ghost use Rattle.model_history.specs.Each.{each_below};
 ghost use Rattle.model_line.specs.Parameters.{terminal_count, channel_count};
-ghost use Rattle.draw_gates.specs.roles.Each.{each_of};
 ghost use Rattle.draw_gates.specs.roles.Roles.{IsRoleOf, roles_at as roles_of};
 ghost use Rattle.draw_gates.specs.roles.Roles.{seen_roles, channel_roles, window_roles, scheme_roles};
 ghost use Rattle.draw_gates.specs.roles.Roles.{if_so};
@@ -59,7 +59,7 @@ fn at(k: u32, element: Element) -> Place
 
 fn push_channels(all: &mut Vec<Role>, line: &Line, k: u32) -> Result<(), Memory>
     ensures { OnOk result (all.new.items
-        ≡ all.old.items ++ each_of (channel_count line.now) (channel_roles line.now k)) }
+        ≡ all.old.items ++ each_below (channel_count line.now) (channel_roles line.now k)) }
 {
     for c in 0..line.channels.len() {
         push_channel(all, line, k, c as u32)?;

@@ -1,6 +1,6 @@
 -- The ticks of steps, one step after another.
 use Rattle.std.proofs.Common.{◌≡◌, ◌<◌, ◌∷◌, [], ℕ, zero, suc, Bool, true, false, List, arith}
-use Rattle.std.proofs.Common.{◌∙◌, inl, inr, refl, subst, sym, eq-eqb, length, slice_index_or}
+use Rattle.std.proofs.Common.{inl, inr, refl, subst, sym, eq-eqb}
 use Rattle.std.specs.Prelude.{◌==◌, ◌&&◌, ◌↔◌, nat_lt, if◌then◌else◌}
 use Rattle.std.proofs.lemmas.Bool.{eqb-true, lt-ltb, ltb-true}
 use Rattle.std.proofs.lemmas.List.Elements.{Contains-append_cases, Contains-append_left}

@@ -5,12 +5,13 @@ use Rattle.std.specs.List.{flat_map}
 use Rattle.net_gates.specs.declared.gate.Gate.{Gate}
 use Rattle.run_waves.specs.waves.FirstTick.{first_on}
 use Rattle.draw_gates.specs.{declared.roles.role.Role.Role, roles.Lookup.gate_of, roles.Lookup.has_role}
-use Rattle.draw_gates.specs.{roles.Each.each_of, roles.EachLaws.All-each_of}
 use Rattle.draw_gates.specs.roles.Roles.{explains, roles_at}
 use Rattle.draw_run.specs.diagram.Traces.{logic_row, logic_of, logic_at}
 use Rattle.std.proofs.lemmas.List.Elements.{All-nil, All-cons, All-append}
 use Rattle.std.specs.Prelude.{◌==◌, if◌then◌else◌}
 use Rattle.std.specs.List.{All}
+use Rattle.model_history.specs.Each.{each_below}
+use Rattle.model_history.specs.EachLaws.{All-each_below}
 use Rattle.model_line.specs.declared.script.Element.TheVariants.{Z1, Z2, Rv, Uv, Cur}
 use Rattle.model_line.specs.Parameters.{terminal_count, channel_count}
 use Rattle.model_line.specs.{declared.line.Line.Line, Channels.to_of}
@@ -63,18 +64,18 @@ module _ (line : Line) (gates : List Gate)
       → All (IsTraceOf line (length gates)) (traces_at line gates k)
   terminal_is k lt =
       All-append (IsTraceOf line (length gates))
-      (seen_at k ++ each_of (channel_count line) (loss_at line k) ++ logic_at line gates k)
+      (seen_at k ++ each_below (channel_count line) (loss_at line k) ++ logic_at line gates k)
       (Key k ∷ (Trip k ∷ []))
       (All-append (IsTraceOf line (length gates))
-      (seen_at k ++ each_of (channel_count line) (loss_at line k)) (logic_at line gates k)
+      (seen_at k ++ each_below (channel_count line) (loss_at line k)) (logic_at line gates k)
       (All-append (IsTraceOf line (length gates)) (seen_at k)
-      (each_of (channel_count line) (loss_at line k))
+      (each_below (channel_count line) (loss_at line k))
       (seen_is k lt)
-      (All-each_of (IsTraceOf line (length gates)) (loss_at line k) (channel_count line)
+      (All-each_below (IsTraceOf line (length gates)) (loss_at line k) (channel_count line)
       (λ c there. loss_is (to_of line.channels.items c == k) c there)))
       (roles_are (roles_at line k)))
       (one (Key k) (Trip k ∷ []) lt (one (Trip k) [] lt none))
 
   pub traces_are_of_line : All (IsTraceOf line (length gates)) (traces_of line gates)
   traces_are_of_line =
-      All-each_of (IsTraceOf line (length gates)) (traces_at line gates) (terminal_count line) terminal_is
+      All-each_below (IsTraceOf line (length gates)) (traces_at line gates) (terminal_count line) terminal_is

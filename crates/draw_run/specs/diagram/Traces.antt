@@ -2,6 +2,7 @@
 use Rattle.std.specs.Prelude.{◌++◌, ◌==◌, ◌<◌, ℕ, Bool, true, false, List, [], ◌∷◌}
 use Rattle.std.specs.Prelude.{Option, Some, None, if◌then◌else◌}
 use Rattle.std.specs.List.{flat_map}
+use Rattle.model_history.specs.Each.{each_below}
 use Rattle.model_history.specs.Rails.{Rails, both}
 use Rattle.model_line.specs.declared.script.Element.TheVariants.{Z1, Z2, Rv, Uv, Cur}
 use Rattle.model_line.specs.Parameters.{terminal_count, channel_count}
@@ -13,7 +14,6 @@ use Rattle.model_logic.specs.PairMean.{PairSignals}
 use Rattle.net_gates.specs.declared.gate.Gate.{Gate}
 use Rattle.run_step.specs.GatePairs.{GateSignals}
 use Rattle.draw_gates.specs.{declared.roles.role.Role.Role, roles.Lookup.gate_of}
-use Rattle.draw_gates.specs.roles.Each.{each_of}
 use Rattle.draw_gates.specs.roles.Roles.{explains, roles_at}
 use Rattle.draw_run.specs.declared.diagram.trace.Trace.{Trace}
 use Rattle.draw_run.specs.declared.diagram.trace.Trace.TheVariants.{Seen, Lost, Logic, Key, Trip}
@@ -45,11 +45,11 @@ logic_at line gates k = flat_map (logic_of line gates) (roles_at line k)
 
 abbrev pub traces_at : Line → List Gate → ℕ → List Trace
 traces_at line gates k =
-    seen_at k ++ each_of (channel_count line) (loss_at line k) ++ logic_at line gates k
+    seen_at k ++ each_below (channel_count line) (loss_at line k) ++ logic_at line gates k
     ++ (Key k ∷ (Trip k ∷ []))
 
 abbrev pub traces_of : Line → List Gate → List Trace
-traces_of line gates = each_of (terminal_count line) (traces_at line gates)
+traces_of line gates = each_below (terminal_count line) (traces_at line gates)
 
 -- the line, or a net of so many gates, has what the row is of
 abbrev pub IsTraceOf : Line → ℕ → Trace → Type 0

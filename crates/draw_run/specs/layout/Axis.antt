@@ -1,8 +1,8 @@
 -- The time axis: round ticks, each with a line through all rows and two numbers below.
 use Rattle.std.specs.Prelude.{◌++◌, ◌-◌, ◌%◌, ◌==◌, ◌&&◌, ℕ, List, [], ◌∷◌}
 use Rattle.std.specs.Prelude.{codes, decimal, nat_le, nat_lt, if◌then◌else◌}
+use Rattle.model_history.specs.Each.{each_below}
 use Rattle.model_line.specs.declared.line.Line.{Line}
-use Rattle.draw_gates.specs.roles.Each.{each_of}
 use Rattle.draw_run.specs.declared.layout.scale.Scale.{Scale}
 use Rattle.draw_shapes.specs.declared.class.Class.TheVariants as class
 use Rattle.draw_shapes.specs.Seen.{SeenFigure}
@@ -46,5 +46,5 @@ right_cut of scale bottom =
 
 abbrev pub axis : Line → Scale → ℕ → ℕ → List SeenFigure
 axis of scale top bottom =
-    units scale bottom ++ each_of (more scale.window.last 1) (round_tick of scale top bottom)
+    units scale bottom ++ each_below (more scale.window.last 1) (round_tick of scale top bottom)
     ++ left_cut scale bottom ++ right_cut of scale bottom

@@ -4,10 +4,9 @@ use Rattle.std.specs.Prelude.{if◌then◌else◌}
 use Rattle.model_line.specs.declared.script.Element.TheVariants.{Z1, Z2, Rv, Uv, Cur}
 use Rattle.model_line.specs.declared.script.Kind.TheVariants.{Internal, External}
 use Rattle.model_line.specs.declared.script.Script.{Script}
-use Rattle.model_line.specs.{declared.line.Line.Line, declared.line.Scheme.Scheme}
+use Rattle.model_line.specs.{declared.line.Line.Line}
 use Rattle.model_line.specs.{declared.script.Element.Element, declared.script.Kind.Kind}
-use Rattle.model_line.specs.declared.line.Scheme.TheVariants as scheme
-use Rattle.model_line.specs.NamesByNumber.{terminal_name}
+use Rattle.model_line.specs.NamesByNumber.{scheme_initials, terminal_name}
 use Rattle.draw_run.specs.declared.diagram.{diagram.Diagram.Diagram, rows.Row.Row, trace.Trace.Trace}
 use Rattle.draw_run.specs.declared.diagram.trace.Trace.TheVariants.{Seen, Lost, Logic, Key, Trip}
 use Rattle.draw_shapes.specs.declared.class.Class.TheVariants as class
@@ -21,13 +20,6 @@ use Rattle.draw_run.specs.{layout.Axis.axis, layout.Marks.marks, layout.Legend.l
 
 -- ---- the heading
 
-abbrev pub scheme_said : Scheme → List ℕ
-scheme_said scheme.Pott = codes "POTT"
-scheme_said scheme.Putt = codes "PUTT"
-scheme_said scheme.Dcb = codes "DCB"
-scheme_said scheme.Dcub = codes "DCUB"
-scheme_said scheme.Dtt = codes "DTT"
-
 abbrev pub kind_said : Kind → List ℕ
 kind_said Internal = codes ", internal fault "
 kind_said External = codes ", external fault "
@@ -39,7 +31,7 @@ subject_said subject.EveryChoice = codes ": every choice of delays"
 -- `POTT, internal fault F1: every choice of delays`
 abbrev pub heading : Line → Script → Subject → List ℕ
 heading of script what =
-    scheme_said of.scheme ++ kind_said script.kind ++ script.name ++ subject_said what
+    scheme_initials of.scheme ++ kind_said script.kind ++ script.name ++ subject_said what
 
 -- ---- the rows, each below the one before
 

@@ -2,7 +2,7 @@
 
 ghost use Rattle.std.specs.Prelude.{◌≡◌, ◌++◌, ◌<◌, OnOk, IfOk, length};
 ghost use Rattle.std.specs.List.{All, flat_map};
-ghost use Rattle.draw_gates.specs.roles.Each.{each_of};
+ghost use Rattle.model_history.specs.Each.{each_below};
 ghost use Rattle.draw_gates.specs.roles.Roles.{IsRoleOf};
 ghost use Rattle.draw_run.specs.diagram.Traces.{logic_at, logic_of, logic_row};
 ghost use Rattle.model_line.specs.Parameters.{terminal_count, channel_count};
@@ -79,7 +79,7 @@ fn push_seen(all: &mut Vec<Trace>, k: u32) -> Result<(), Memory>
 
 fn push_losses(all: &mut Vec<Trace>, line: &Line, k: u32) -> Result<(), Memory>
     ensures { OnOk result (all.new.items
-        ≡ all.old.items ++ each_of (channel_count line.now) (loss_at line.now k)) }
+        ≡ all.old.items ++ each_below (channel_count line.now) (loss_at line.now k)) }
 {
     for c in 0..line.channels.len() {
         push_loss(all, line, k, c as u32)?;

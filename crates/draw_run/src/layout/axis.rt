@@ -1,12 +1,12 @@
 //! The time axis.
 
 ghost use Rattle.std.specs.Prelude.{◌≡◌, ◌≤◌, ◌<◌, ◌+◌, ◌++◌, ◌∷◌, [], OnOk, decimal};
+ghost use Rattle.model_history.specs.Each.{each_below};
 ghost use Rattle.draw_run.specs.layout.Axis.{axis, units, round_tick, tick_drawn, cut};
 ghost use Rattle.draw_run.specs.layout.Axis.{left_cut, right_cut};
 ghost use Rattle.draw_run.specs.layout.Scale.{step_of, more};
 ghost use Rattle.draw_run.specs.layout.Words.{microseconds_of, milliseconds_said};
 ghost use Rattle.draw_shapes.specs.Seen.{figures_seen, text};
-ghost use Rattle.draw_gates.specs.roles.Each.{each_of};
 
 use crate::layout::scale::{RIGHT, Scale, label_step, x_of};
 use crate::layout::words::Words;
@@ -69,7 +69,7 @@ fn put_ticks(
 ) -> Result<(), Memory>
     ensures { OnOk result (figures_seen figures.new.items
         ≡ figures_seen figures.old.items
-        ++ each_of (more scale.window.last 1) (round_tick of.now scale top bottom)) }
+        ++ each_below (more scale.window.last 1) (round_tick of.now scale top bottom)) }
 {
     let step = label_step(scale, of.tick_us);
     for t in 0..scale.window.last.saturating_add(1) {

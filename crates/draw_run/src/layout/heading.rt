@@ -1,12 +1,12 @@
 //! The heading of a drawing.
 
 ghost use Rattle.std.specs.Prelude.{◌≡◌, ◌++◌, IfOk};
-ghost use Rattle.draw_run.specs.layout.Drawings.{heading, kind_said, scheme_said, subject_said};
+ghost use Rattle.draw_run.specs.layout.Drawings.{heading, kind_said, subject_said};
 ghost use Rattle.draw_run.specs.layout.Words.{said};
 
 use crate::layout::subject::Subject;
 use crate::layout::words::Words;
-use model_line::{Kind, Line, Memory, Scheme, Script};
+use model_line::{Kind, Line, Memory, Script, scheme_word};
 use std::alloc::Global;
 
 /// `POTT, internal fault F1: every choice of delays`.
@@ -19,7 +19,7 @@ pub fn heading_words(
     ensures { IfOk result (λ words. said words ≡ heading line.now script.now subject) }
 {
     let words = Words::new(alloc)
-        .word(scheme_name(line.scheme))?
+        .word(scheme_word(line.scheme))?
         .word(kind_name(script.kind))?
         .word(script.name.bytes())?;
     subject_words(words, subject)
@@ -32,18 +32,6 @@ fn subject_words(words: Words, subject: Subject) -> Result<Words, Memory>
     match subject {
         Subject::Play(timing) => words.word(b": timing ")?.word(timing.bytes()),
         Subject::EveryChoice => words.word(b": every choice of delays"),
-    }
-}
-
-fn scheme_name(scheme: Scheme) -> &'static [u8]
-    ensures { result.now ≡ scheme_said scheme }
-{
-    match scheme {
-        Scheme::Pott => b"POTT",
-        Scheme::Putt => b"PUTT",
-        Scheme::Dcb => b"DCB",
-        Scheme::Dcub => b"DCUB",
-        Scheme::Dtt => b"DTT",
     }
 }
 

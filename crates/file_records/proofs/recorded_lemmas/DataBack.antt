@@ -13,7 +13,8 @@ use Rattle.base_memory.specs.Gives.{◌>>=◌}
 use Rattle.run_changes.specs.rows.PlayRows.{level_word}
 use Rattle.file_comtrade.specs.Data.{SampleValues, follows, is_done, last_in, not_before, raw_at}
 use Rattle.file_comtrade.specs.Data.{sample_after, samples_in, shape_of}
-use Rattle.file_comtrade.specs.RawSample.{Said, level_after, level_named, numbers_in, raw_in_line}
+use Rattle.base_records.specs.Fields.{level_named}
+use Rattle.file_comtrade.specs.RawSample.{Said, level_after, numbers_in, raw_in_line}
 use Rattle.file_comtrade.specs.Steps.{steps}
 use Rattle.file_comtrade.specs.Text.{fields_of}
 use Rattle.file_comtrade.specs.Times.{below_2_64}

@@ -4,6 +4,7 @@ use Rattle.std.proofs.Common.{List, [], ◌∷◌, refl, arith, length, not, con
 use Rattle.std.proofs.lemmas.Bool.{and_parts}
 use Rattle.std.specs.List.{list_all}
 use Rattle.std.specs.Prelude.{nat_lt, nat_le}
+use Rattle.model_history.specs.Each.{each_below}
 use Rattle.model_line.specs.declared.line.Line.{Line}
 use Rattle.model_line.specs.declared.script.{What.What, Element.Element}
 use Rattle.model_line.specs.declared.script.Element.TheVariants.{Z1, Z2, Rv, Uv, Cur}
@@ -11,7 +12,7 @@ use Rattle.model_line.specs.declared.script.What.TheVariants as what
 use Rattle.model_line.specs.{Fits.exists_in, Fits.span_fits, Parameters.terminal_count}
 use Rattle.run_changes.specs.rows.PlayRows.{value_before}
 use Rattle.file_records.specs.declared.map.source.Signal.TheVariants.{Shown}
-use Rattle.file_records.specs.{tracks.Below.below, tracks.Levels.is_on, tracks.Tracks.TrackValues}
+use Rattle.file_records.specs.{tracks.Levels.is_on, tracks.Tracks.TrackValues}
 use Rattle.file_records.specs.recorded.Spans.{begins_at, element_at, first_off, span_from, spans_of}
 use Rattle.file_records.specs.recorded.Spans.{spans_told, terminal_spans}
 
@@ -26,10 +27,10 @@ all_both p (x ∷ xs) ys here there =
     both_hold false b c ab f = absurd (cc)
 
 all_below : {X : Type 0} (p : X → Bool) (n : ℕ) (f : ℕ → List X)
-    → ((k : ℕ) → k < n → list_all p (f k) ≡ true) → list_all p (below n f) ≡ true
+    → ((k : ℕ) → k < n → list_all p (f k) ≡ true) → list_all p (each_below n f) ≡ true
 all_below p zero f each = refl
 all_below p (suc n) f each =
-    all_both p (below n f) (f n) (all_below p n f (λ k less. each k (omega arith)))
+    all_both p (each_below n f) (f n) (all_below p n f (λ k less. each k (omega arith)))
     (each n (omega arith))
 
 -- the first tick at which it is off is none before, and none behind the ticks
@@ -113,6 +114,6 @@ told_fit line tracks =
     let p = span_fits line in
     let terminals = terminal_spans tracks line.horizon in
     let losses = λ (c : ℕ). spans_of tracks line.horizon (what.Loss c) in
-    all_both p (below (terminal_count line) terminals) (below (length line.channels.items) losses)
+    all_both p (each_below (terminal_count line) terminals) (each_below (length line.channels.items) losses)
     (all_below p (terminal_count line) terminals (terminal_fits line tracks))
     (all_below p (length line.channels.items) losses (loss_fits line tracks))

@@ -14,6 +14,7 @@ use Rattle.std.specs.Int.{is_in_range}
 use Rattle.std.specs.List.{list_all, list_any, position_or_len}
 use Rattle.std.specs.Prelude.{◌==◌, ◌||◌, codes, nat_le, nat_lt, if◌then◌else◌}
 use Rattle.std.specs.Str.{bytes_eq}
+use Rattle.model_history.specs.Each.{each_below}
 use Rattle.model_line.specs.Channels.{channel_number, from_of, to_of}
 use Rattle.model_line.specs.{declared.line.Line.Line, Parameters.terminal_count}
 use Rattle.model_line.specs.{PlainNames.is_plain_byte, PlainNames.is_plain_name}
@@ -22,7 +23,6 @@ use Rattle.model_line.specs.NamesByNumber.{terminal_name}
 use Rattle.file_comtrade.specs.Named.{has_id, named_in}
 use Rattle.file_comtrade.specs.declared.channel.Named.TheVariants.{One}
 use Rattle.file_records.specs.declared.map.source.Signal.{Signal}
-use Rattle.file_records.specs.tracks.Below.{below}
 use Rattle.file_records.specs.recorded.Channels.{id_of, loss_signals, signals_of, terminal_signals, word_id}
 use Rattle.file_records.proofs.recorded_lemmas.Fields.{IsField, all_weaker, is_field_byte, solid}
 use Rattle.file_records.proofs.recorded_lemmas.Lists.{AtPlaces, length_below, places_append, places_at, places_below}
@@ -205,7 +205,7 @@ ids_are line =
     let n : ℕ = terminal_count line in
     let m : ℕ = length line.channels.items in
     let long = length_below terminal_signals 7 n (λ k. refl) in
-    places_append (HasId line) 0 (7 * n) (below n terminal_signals) (below m loss_signals) (omega arith)
+    places_append (HasId line) 0 (7 * n) (each_below n terminal_signals) (each_below m loss_signals) (omega arith)
     (places_below (HasId line) terminal_signals 7 0 n (λ k. refl) (ids_of_terminal line))
     (places_below (HasId line) loss_signals 1 (7 * n) m (λ c. refl) (ids_of_loss line))
 

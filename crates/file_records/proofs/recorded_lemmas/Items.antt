@@ -1,9 +1,9 @@
 -- Loops, one step on.
 use Rattle.std.proofs.Common.{◌≡◌, ◌+◌, ◌-◌, ◌<◌, ◌≤◌, ◌++◌, ℕ, suc, zero, Bool, true, false, List, []}
 use Rattle.std.proofs.Common.{◌∷◌, refl, ap, sym, ◌∙◌, arith, append_assoc}
+use Rattle.model_history.specs.Each.{each_below}
 use Rattle.csv.specs.Writing.{row_text, default_writer}
 use Rattle.file_tables.specs.script.Printed.{records_text}
-use Rattle.file_records.specs.tracks.Below.{below}
 use Rattle.file_records.specs.recorded.Spans.{first_off}
 
 -- ---- the first tick at which a signal is off
@@ -21,22 +21,6 @@ module _ (on : ℕ → Bool) (u n : ℕ) (inside : u < n) where
 pub off_end : (on : ℕ → Bool) (u n : ℕ) → n ≤ u → first_off on u (n - u) ≡ u
 off_end on u n over = let none : n - u ≡ zero = omega arith in rw none refl
 
--- ---- lists that grow
-
-pub items_more : {X : Type 0} (pre old new : List X) (f : ℕ → List X) (k : ℕ)
-    → old ≡ pre ++ below k f → new ≡ old ++ f k → new ≡ pre ++ below (k + 1) f
-items_more {X} pre old new f k start step =
-    let next : suc k ≡ k + 1 = omega arith in
-    step
-    ∙ ap (λ (l : List X). l ++ f k) start
-    ∙ append_assoc pre (below k f) (f k)
-    ∙ ap (λ (m : ℕ). pre ++ below m f) next
-
-pub items_done : {X : Type 0} (pre text : List X) (f : ℕ → List X) (k n : ℕ) → n ≤ k → k ≤ n
-    → text ≡ pre ++ below k f → text ≡ pre ++ below n f
-items_done {X} pre text f k n over under is =
-    let last : k ≡ n = omega arith in is ∙ ap (λ (m : ℕ). pre ++ below m f) last
-
 -- ---- texts of records
 
 pub records_both : (xs ys : List (List (List ℕ)))
@@ -47,17 +31,12 @@ records_both (x ∷ xs) ys =
     ∙ sym (append_assoc (row_text default_writer x) (records_text xs) (records_text ys))
 
 pub rows_more : (pre old new : List ℕ) (f : ℕ → List (List (List ℕ))) (k : ℕ)
-    → old ≡ pre ++ records_text (below k f) → new ≡ old ++ records_text (f k)
-    → new ≡ pre ++ records_text (below (k + 1) f)
+    → old ≡ pre ++ records_text (each_below k f) → new ≡ old ++ records_text (f k)
+    → new ≡ pre ++ records_text (each_below (k + 1) f)
 rows_more pre old new f k start step =
     let next : suc k ≡ k + 1 = omega arith in
     step
     ∙ ap (λ (l : List ℕ). l ++ records_text (f k)) start
-    ∙ append_assoc pre (records_text (below k f)) (records_text (f k))
-    ∙ ap (λ (l : List ℕ). pre ++ l) (sym (records_both (below k f) (f k)))
-    ∙ ap (λ (m : ℕ). pre ++ records_text (below m f)) next
-
-pub rows_done : (pre text : List ℕ) (f : ℕ → List (List (List ℕ))) (k n : ℕ) → n ≤ k → k ≤ n
-    → text ≡ pre ++ records_text (below k f) → text ≡ pre ++ records_text (below n f)
-rows_done pre text f k n over under is =
-    let last : k ≡ n = omega arith in is ∙ ap (λ (m : ℕ). pre ++ records_text (below m f)) last
+    ∙ append_assoc pre (records_text (each_below k f)) (records_text (f k))
+    ∙ ap (λ (l : List ℕ). pre ++ l) (sym (records_both (each_below k f) (f k)))
+    ∙ ap (λ (m : ℕ). pre ++ records_text (each_below m f)) next

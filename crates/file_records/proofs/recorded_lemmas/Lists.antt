@@ -5,8 +5,7 @@ use Rattle.std.proofs.Math.Nat.{mul-suc}
 use Rattle.std.proofs.lemmas.List.{map-append}
 use Rattle.std.proofs.lemmas.List.FromFn.{map-range_with_len_more}
 use Rattle.std.specs.List.{range_with_len}
-use Rattle.run_changes.specs.rows.PlayRows.{each_below}
-use Rattle.file_records.specs.tracks.Below.{below}
+use Rattle.model_history.specs.Each.{each_below}
 use Rattle.file_records.proofs.recorded_lemmas.Fields.{rows_append, rows_text}
 
 -- what holds of each element and its place, the first of which has this place
@@ -15,20 +14,20 @@ AtPlaces P a [] = Unit {0}
 AtPlaces P a (x ∷ xs) = P a x × AtPlaces P (a + 1) xs
 
 pub length_below : {X : Type 0} (f : ℕ → List X) (w n : ℕ) → ((k : ℕ) → length (f k) ≡ w)
-    → length (below n f) ≡ w * n
+    → length (each_below n f) ≡ w * n
 length_below f w zero long = omega arith
 length_below f w (suc n) long =
     let here = long n in
     let before = length_below f w n long in
-    let sum = length-append (below n f) (f n) in
+    let sum = length-append (each_below n f) (f n) in
     let more : w * suc n ≡ w * n + w = mul-suc w n in
     omega arith
 
 pub map_below : {X Y : Type 0} (g : X → Y) (f : ℕ → List X) (n : ℕ)
-    → map g (below n f) ≡ below n (λ k. map g (f k))
+    → map g (each_below n f) ≡ each_below n (λ k. map g (f k))
 map_below g f zero = refl
 map_below {X} {Y} g f (suc n) =
-    map-append g (below n f) (f n) ∙ ap (λ (l : List Y). l ++ map g (f n)) (map_below g f n)
+    map-append g (each_below n f) (f n) ∙ ap (λ (l : List Y). l ++ map g (f n)) (map_below g f n)
 
 module _ {X : Type 0} (P : ℕ → X → Type 0) where
   pub places_append : (a b : ℕ) (xs ys : List X) → b ≡ a + length xs → AtPlaces P a xs → AtPlaces P b ys
@@ -50,21 +49,21 @@ module _ {X : Type 0} (P : ℕ → X → Type 0) where
 
   -- each of the lists has so many elements
   pub places_below : (f : ℕ → List X) (w a n : ℕ) → ((k : ℕ) → length (f k) ≡ w)
-      → ((k : ℕ) → k < n → AtPlaces P (a + w * k) (f k)) → AtPlaces P a (below n f)
+      → ((k : ℕ) → k < n → AtPlaces P (a + w * k) (f k)) → AtPlaces P a (each_below n f)
   places_below f w a zero long all = tt
   places_below f w a (suc n) long all =
       let many = length_below f w n long in
-      places_append a (a + w * n) (below n f) (f n) (omega arith)
+      places_append a (a + w * n) (each_below n f) (f n) (omega arith)
       (places_below f w a n long (λ k less. all k (omega arith))) (all n (omega arith))
 
 -- ---- texts
 
 -- the text of the rows of each number
 pub rows_below : (n : ℕ) (f : ℕ → List (List (List ℕ))) (g : ℕ → List ℕ)
-    → ((k : ℕ) → k < n → rows_text (f k) ≡ g k) → rows_text (below n f) ≡ each_below n g
+    → ((k : ℕ) → k < n → rows_text (f k) ≡ g k) → rows_text (each_below n f) ≡ each_below n g
 rows_below zero f g same = refl
 rows_below (suc n) f g same =
-    rows_append (below n f) (f n)
+    rows_append (each_below n f) (f n)
     ∙ ap (λ (l : List ℕ). l ++ rows_text (f n)) (rows_below n f g (λ k less. same k (omega arith)))
     ∙ ap (λ (l : List ℕ). each_below n g ++ l) (same n (omega arith))
 

@@ -2,6 +2,7 @@
 use Rattle.std.proofs.Common.{◌≡◌, ◌<◌, ◌++◌, ◌∙◌, ℕ, zero, suc, Bool, List, [], ◌∷◌, refl, ap, arith}
 use Rattle.std.specs.Bool.{beq}
 use Rattle.std.specs.Prelude.{codes, decimal, if◌then◌else◌}
+use Rattle.model_history.specs.{Each.each_below, EachLaws.each_below-same}
 use Rattle.model_line.specs.Parameters.{terminal_count}
 use Rattle.model_line.specs.declared.script.What.TheVariants as what
 use Rattle.model_line.specs.NamesByNumber.{terminal_name}
@@ -9,7 +10,7 @@ use Rattle.run_changes.specs.rows.PlayRows.{value_before, level_word}
 use Rattle.judge_match.specs.matching.Row.{header_record}
 use Rattle.file_records.specs.declared.map.source.Signal.TheVariants.{Shown, Key, Trip}
 use Rattle.file_records.specs.map.Signals.{shown}
-use Rattle.file_records.specs.{tracks.Below.below, tracks.Levels.is_on}
+use Rattle.file_records.specs.tracks.Levels.{is_on}
 use Rattle.file_records.specs.recorded.Changes.{change_at, head_record, terminal_changes, tick_changes}
 use Rattle.file_records.specs.recorded.Shows.{ShowsWhatIsTold}
 use Rattle.file_records.specs.recorded.Recorded.{RecordsArePlays, ScriptsShowPlays, history_changes}
@@ -26,13 +27,6 @@ scripts_show_plays told line script h plain placed tracks own are t early = reco
       ∙ plays_are_told line script h plain placed tracks own.own are (Shown (what.Loss c)) t early
       (own.losses c there);
 }
-
-below_same : (n : ℕ) (f g : ℕ → List (List (List ℕ))) → ((k : ℕ) → k < n → f k ≡ g k)
-    → below n f ≡ below n g
-below_same zero f g same = refl
-below_same (suc n) f g same =
-    ap (λ (l : List (List (List ℕ))). l ++ f n) (below_same n f g (λ k less. same k (omega arith)))
-    ∙ ap (λ (l : List (List (List ℕ))). below n g ++ l) (same n (omega arith))
 
 before_same : (on own : ℕ → Bool) (horizon t : ℕ) → t < horizon
     → ((s : ℕ) → s < horizon → on s ≡ own s) → value_before on t ≡ value_before own t
@@ -53,8 +47,8 @@ pub records_are_plays : RecordsArePlays
 records_are_plays line script h plain placed tracks own are name =
     let n : ℕ = terminal_count line in
     ap (λ (l : List (List (List ℕ))). header_record ∷ head_record name ∷ l)
-    (below_same line.horizon (tick_changes name line tracks) (λ t. below n (history_changes name line h t))
-    (λ t early. below_same n (terminal_changes name line tracks t) (history_changes name line h t)
+    (each_below-same line.horizon (tick_changes name line tracks) (λ t. each_below n (history_changes name line h t))
+    (λ t early. each_below-same n (terminal_changes name line tracks t) (history_changes name line h t)
     (λ k there.
     let terminal : List ℕ = terminal_name line k in
     let key = change_same name t terminal (codes "key") (is_on tracks (Key k)) (h.key k) line.horizon early

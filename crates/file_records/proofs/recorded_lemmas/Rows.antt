@@ -4,6 +4,7 @@ use Rattle.std.proofs.Common.{length, map, refl, ap, sym, append_assoc}
 use Rattle.std.proofs.lemmas.List.{append-nil, map-append}
 use Rattle.std.specs.List.{concat, range_with_len}
 use Rattle.std.specs.Prelude.{codes, decimal}
+use Rattle.model_history.specs.Each.{each_below}
 use Rattle.model_line.specs.Channels.{from_of, to_of}
 use Rattle.model_line.specs.{declared.line.Line.Line, declared.script.Script.Script}
 use Rattle.model_line.specs.Parameters.{terminal_count}
@@ -12,14 +13,13 @@ use Rattle.model_line.specs.declared.script.Element.TheVariants.{Z1, Z2, Rv, Uv,
 use Rattle.model_line.specs.declared.script.What.TheVariants as what
 use Rattle.model_logic.specs.Histories.{History}
 use Rattle.model_line.specs.NamesByNumber.{terminal_name}
-use Rattle.run_changes.specs.rows.PlayRows.{each_below, level_word}
+use Rattle.run_changes.specs.rows.PlayRows.{level_word}
 use Rattle.file_records.specs.recorded.Config.{channel_count, channel_line, config_text, head_text, loss_line, tail_text}
 use Rattle.file_records.specs.recorded.Config.{terminal_lines}
 use Rattle.file_records.specs.recorded.Data.{data_text, loss_field, sample_text, terminal_fields}
 use Rattle.file_records.specs.declared.map.source.Signal.{Signal}
 use Rattle.file_records.specs.declared.map.source.Signal.TheVariants.{Shown, Key, Trip}
 use Rattle.file_records.specs.map.Signals.{shown}
-use Rattle.file_records.specs.tracks.Below.{below}
 use Rattle.file_records.specs.recorded.Channels.{id_of, level_of, loss_signals, signals_of, terminal_signals}
 use Rattle.file_records.specs.recorded.Channels.{word_id}
 use Rattle.file_records.proofs.recorded_lemmas.ConfigBack.{channel_fields, date_fields}
@@ -134,13 +134,13 @@ signal_rows line =
     let n : ℕ = terminal_count line in
     let m : ℕ = length line.channels.items in
     let parts : map r (signals_of line)
-    ≡ below n (λ k. map r (terminal_signals k)) ++ below m (λ c. map r (loss_signals c)) =
-    map-append r (below n terminal_signals) (below m loss_signals)
-    ∙ ap (λ (l : List Row). l ++ map r (below m loss_signals)) (map_below r terminal_signals n)
-    ∙ ap (λ (l : List Row). below n (λ k. map r (terminal_signals k)) ++ l) (map_below r loss_signals m) in
+    ≡ each_below n (λ k. map r (terminal_signals k)) ++ each_below m (λ c. map r (loss_signals c)) =
+    map-append r (each_below n terminal_signals) (each_below m loss_signals)
+    ∙ ap (λ (l : List Row). l ++ map r (each_below m loss_signals)) (map_below r terminal_signals n)
+    ∙ ap (λ (l : List Row). each_below n (λ k. map r (terminal_signals k)) ++ l) (map_below r loss_signals m) in
     ap rows_text parts
-    ∙ rows_append (below n (λ k. map r (terminal_signals k))) (below m (λ c. map r (loss_signals c)))
-    ∙ ap (λ (l : List ℕ). l ++ rows_text (below m (λ c. map r (loss_signals c))))
+    ∙ rows_append (each_below n (λ k. map r (terminal_signals k))) (each_below m (λ c. map r (loss_signals c)))
+    ∙ ap (λ (l : List ℕ). l ++ rows_text (each_below m (λ c. map r (loss_signals c))))
     (rows_below n (λ k. map r (terminal_signals k)) (terminal_lines line) (λ k less. terminal_text line k))
     ∙ ap (λ (l : List ℕ). each_below n (terminal_lines line) ++ l)
     (rows_below m (λ c. map r (loss_signals c)) (loss_line line) (λ c less. loss_text line c))
@@ -183,10 +183,10 @@ commas_append (f ∷ fs) gs =
     ∙ ap (λ (l : List ℕ). 44 ∷ l) (sym (append_assoc f (commas fs) (commas gs)))
 
 commas_below : (n : ℕ) (f : ℕ → List (List ℕ)) (g : ℕ → List ℕ) → ((k : ℕ) → commas (f k) ≡ g k)
-    → commas (below n f) ≡ each_below n g
+    → commas (each_below n f) ≡ each_below n g
 commas_below zero f g same = refl
 commas_below (suc n) f g same =
-    commas_append (below n f) (f n)
+    commas_append (each_below n f) (f n)
     ∙ ap (λ (l : List ℕ). l ++ commas (f n)) (commas_below n f g same)
     ∙ ap (λ (l : List ℕ). each_below n g ++ l) (same n)
 
@@ -219,9 +219,9 @@ fields_are line script h t =
     let w = word_of script h t in
     let n : ℕ = terminal_count line in
     let m : ℕ = length line.channels.items in
-    ap commas (map-append w (below n terminal_signals) (below m loss_signals))
-    ∙ commas_append (map w (below n terminal_signals)) (map w (below m loss_signals))
-    ∙ ap (λ (l : List ℕ). l ++ commas (map w (below m loss_signals)))
+    ap commas (map-append w (each_below n terminal_signals) (each_below m loss_signals))
+    ∙ commas_append (map w (each_below n terminal_signals)) (map w (each_below m loss_signals))
+    ∙ ap (λ (l : List ℕ). l ++ commas (map w (each_below m loss_signals)))
     (ap commas (map_below w terminal_signals n)
     ∙ commas_below n (λ k. map w (terminal_signals k)) (terminal_fields script h t)
     (λ k. seven_fields (w (shown Z1 k)) (w (shown Z2 k)) (w (shown Rv k)) (w (shown Uv k)) (w (shown Cur k))

@@ -1,9 +1,10 @@
 -- The data of histories that are the same.
 use Rattle.std.proofs.Common.{◌≡◌, ◌++◌, ℕ, Bool, List, ◌∙◌, ap, length}
+use Rattle.model_history.specs.Each.{each_below}
+use Rattle.model_history.specs.EachLaws.{each_below-same}
 use Rattle.model_line.specs.{declared.line.Line.Line, declared.script.Script.Script}
 use Rattle.model_line.specs.Parameters.{terminal_count}
 use Rattle.model_logic.specs.Histories.{History, IsSameHistory}
-use Rattle.run_changes.specs.{rows.PlayRows.each_below, rows.RowLaws.each_below-same}
 use Rattle.file_records.specs.recorded.Config.{line_end}
 use Rattle.file_records.specs.recorded.Data.{all_seen, data_text, level_field, loss_field, sample_head}
 use Rattle.file_records.specs.recorded.Data.{sample_text, terminal_fields}

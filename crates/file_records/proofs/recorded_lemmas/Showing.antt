@@ -6,6 +6,7 @@ use Rattle.std.specs.Prelude.{nat_lt, nat_le}
 use Rattle.std.proofs.Math.Bool.{or-false, or-true}
 use Rattle.std.proofs.lemmas.Bool.{and_parts, cases_lt, false_from_ne_true, leb-true, ltb-true}
 use Rattle.std.proofs.lemmas.List.Folds.{list_any-append}
+use Rattle.model_history.specs.Each.{each_below}
 use Rattle.model_logic.specs.SameTreeLaws.{place-same, place-itself}
 use Rattle.model_line.specs.declared.line.Line.{Line}
 use Rattle.model_line.specs.declared.script.{SeenSpan.SeenSpan, What.What, Element.Element, Place.Place}
@@ -14,7 +15,7 @@ use Rattle.model_line.specs.declared.script.What.TheVariants as what
 use Rattle.model_line.specs.Parameters.{terminal_count}
 use Rattle.model_line.specs.Seen.{is_lost, is_of_loss, is_of_place, is_seen, loses, same_place, shows}
 use Rattle.file_records.specs.declared.map.source.Signal.TheVariants.{Shown}
-use Rattle.file_records.specs.{tracks.Below.below, tracks.Levels.is_on, tracks.Tracks.TrackValues}
+use Rattle.file_records.specs.{tracks.Levels.is_on, tracks.Tracks.TrackValues}
 use Rattle.file_records.specs.recorded.Shows.{ShowsWhatIsTold}
 use Rattle.file_records.specs.recorded.Spans.{begins_at, element_at, first_off, span_from, spans_of}
 use Rattle.file_records.specs.recorded.Spans.{spans_told, terminal_spans}
@@ -23,34 +24,34 @@ use Rattle.file_records.proofs.recorded_lemmas.Fitting.{first_from}
 -- ---- one of many
 
 any_none : {X : Type 0} (p : X → Bool) (n : ℕ) (f : ℕ → List X)
-    → ((k : ℕ) → k < n → list_any p (f k) ≡ false) → list_any p (below n f) ≡ false
+    → ((k : ℕ) → k < n → list_any p (f k) ≡ false) → list_any p (each_below n f) ≡ false
 any_none p zero f none = refl
 any_none p (suc n) f none =
     let rest = any_none p n f (λ k less. none k (omega arith)) in
     let last = none n (omega arith) in
-    let both = list_any-append p (below n f) (f n) in
+    let both = list_any-append p (each_below n f) (f n) in
     both ∙ (rw (rest, last) refl)
 
 any_some : {X : Type 0} (p : X → Bool) (n : ℕ) (f : ℕ → List X) (u : ℕ) → u < n
-    → list_any p (f u) ≡ true → list_any p (below n f) ≡ true
+    → list_any p (f u) ≡ true → list_any p (each_below n f) ≡ true
 any_some p zero f u less is = absurd (omega arith)
 any_some p (suc n) f u less is =
-    let both = list_any-append p (below n f) (f n) in
+    let both = list_any-append p (each_below n f) (f n) in
     elim (cases_lt u n) [
       | inl before ↦ both ∙ (rw (any_some p n f u before is) refl)
       | inr more ↦ (
           let same : u ≡ n = omega arith in
           let last : list_any p (f n) ≡ true = subst (λ (k : ℕ). list_any p (f k) ≡ true) same is in
-          both ∙ (rw last (or-true (list_any p (below n f))))
+          both ∙ (rw last (or-true (list_any p (each_below n f))))
           )
     ]
 
 any_one : {X : Type 0} (p : X → Bool) (n : ℕ) (f : ℕ → List X) (j : ℕ) → j < n
     → ((k : ℕ) → k < n → k ≢ j → list_any p (f k) ≡ false)
-    → list_any p (below n f) ≡ list_any p (f j)
+    → list_any p (each_below n f) ≡ list_any p (f j)
 any_one p zero f j inside none = absurd (omega arith)
 any_one p (suc n) f j inside none =
-    let both = list_any-append p (below n f) (f n) in
+    let both = list_any-append p (each_below n f) (f n) in
     elim (cases_lt j n) [
       | inl before ↦ (
           let rest = any_one p n f j before (λ k less other. none k (omega arith) other) in
@@ -306,10 +307,10 @@ module _ (tracks : List TrackValues) (h t : ℕ) (early : t < h) where
 
 module _ (line : Line) (tracks : List TrackValues) (t : ℕ) (early : t < line.horizon) where
   abbrev terminals : List SeenSpan
-  terminals = below (terminal_count line) (terminal_spans tracks line.horizon)
+  terminals = each_below (terminal_count line) (terminal_spans tracks line.horizon)
 
   abbrev losses : List SeenSpan
-  losses = below (length line.channels.items) (λ c. spans_of tracks line.horizon (what.Loss c))
+  losses = each_below (length line.channels.items) (λ c. spans_of tracks line.horizon (what.Loss c))
 
   elements_shown : (e : Element) (k : ℕ) → k < terminal_count line
       → is_seen (spans_told line tracks) (at e k) t ≡ is_on tracks (Shown (element_at e k)) t

@@ -11,6 +11,7 @@ use Rattle.std.proofs.lemmas.List.Folds.{list_all-append}
 use Rattle.std.proofs.lemmas.List.FromFn.{get_or-map-range_with_len, length-map-range_with_len}
 use Rattle.std.specs.List.{AllByRecursion, list_all, range_with_len}
 use Rattle.std.specs.Prelude.{codes, decimal, nat_lt}
+use Rattle.model_history.specs.Each.{each_below}
 use Rattle.model_line.specs.{declared.line.Line.Line, declared.script.Script.Script}
 use Rattle.model_line.specs.Parameters.{terminal_count}
 use Rattle.model_line.specs.PlainNames.{is_plain_name}
@@ -24,7 +25,6 @@ use Rattle.file_records.specs.{recorded.Config.channel_count, recorded.Config.co
 use Rattle.file_records.specs.declared.map.source.Signal.{Signal}
 use Rattle.file_records.specs.declared.map.source.Signal.TheVariants.{Key}
 use Rattle.file_records.specs.map.Sources.{id}
-use Rattle.file_records.specs.tracks.Below.{below}
 use Rattle.file_records.specs.tracks.Tracks.{ticks_of}
 use Rattle.file_records.specs.recorded.Channels.{id_of, level_of, loss_signals, signals_of, terminal_signals}
 use Rattle.file_records.specs.recorded.ReadBack.{ConfigsAreReadBack, DataAreReadBack, PlaysAreReadBack}
@@ -67,7 +67,7 @@ signals_long line =
     let m : ℕ = length line.channels.items in
     let first = length_below terminal_signals 7 n (λ k. refl) in
     let second = length_below loss_signals 1 m (λ c. refl) in
-    let sum = length-append (below n terminal_signals) (below m loss_signals) in
+    let sum = length-append (each_below n terminal_signals) (each_below m loss_signals) in
     omega arith
 
 few_channels : (line : Line) → channel_count line ≤ 27
@@ -86,7 +86,7 @@ numbers_are line =
     let n : ℕ = terminal_count line in
     let m : ℕ = length line.channels.items in
     let long = length_below terminal_signals 7 n (λ k. refl) in
-    places_append (HasNumber line) 0 (7 * n) (below n terminal_signals) (below m loss_signals) (omega arith)
+    places_append (HasNumber line) 0 (7 * n) (each_below n terminal_signals) (each_below m loss_signals) (omega arith)
     (places_below (HasNumber line) terminal_signals 7 0 n (λ k. refl) (λ k less.
     (omega arith, (omega arith, (omega arith, (omega arith, (omega arith, (omega arith, (omega arith, tt)))))))))
     (places_below (HasNumber line) loss_signals 1 (7 * n) m (λ c. refl) (λ c less. (omega arith, tt)))

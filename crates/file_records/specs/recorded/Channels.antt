@@ -2,6 +2,7 @@
 -- at each tick of the play.
 use Rattle.std.specs.Prelude.{◌++◌, ℕ, Bool, List, [], ◌∷◌, codes, length}
 use Rattle.std.specs.List.{concat}
+use Rattle.model_history.specs.Each.{each_below}
 use Rattle.model_line.specs.Channels.{from_of, to_of}
 use Rattle.model_line.specs.{declared.line.Line.Line, declared.script.Script.Script}
 use Rattle.model_line.specs.{Parameters.terminal_count, Seen.is_lost, Seen.is_seen}
@@ -12,7 +13,6 @@ use Rattle.model_line.specs.NamesByNumber.{element_text, terminal_name}
 use Rattle.file_records.specs.declared.map.source.Signal.{Signal}
 use Rattle.file_records.specs.declared.map.source.Signal.TheVariants.{Shown, Key, Trip}
 use Rattle.file_records.specs.map.Signals.{shown}
-use Rattle.file_records.specs.tracks.Below.{below}
 
 -- what terminal k sees, its key and its trip
 abbrev pub terminal_signals : ℕ → List Signal
@@ -26,8 +26,8 @@ loss_signals c = Shown (what.Loss c) ∷ []
 -- all signals of a line: those of its terminals, and then the losses of its channels
 abbrev pub signals_of : Line → List Signal
 signals_of line =
-    below (terminal_count line) terminal_signals
-    ++ below (length line.channels.items) loss_signals
+    each_below (terminal_count line) terminal_signals
+    ++ each_below (length line.channels.items) loss_signals
 
 -- a terminal's name and a word
 abbrev pub word_id : Line → ℕ → List ℕ → List ℕ

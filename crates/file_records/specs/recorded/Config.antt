@@ -1,10 +1,10 @@
 -- The configuration of a play as a record (COMTRADE, 1999, ASCII).
 use Rattle.std.specs.Prelude.{◌+◌, ◌*◌, ◌++◌, ℕ, List, [], ◌∷◌, codes, decimal, length}
 use Rattle.std.specs.List.{concat}
+use Rattle.model_history.specs.Each.{each_below}
 use Rattle.model_line.specs.Channels.{from_of, to_of}
 use Rattle.model_line.specs.{declared.line.Line.Line, Parameters.terminal_count}
 use Rattle.model_line.specs.NamesByNumber.{terminal_name}
-use Rattle.run_changes.specs.rows.PlayRows.{each_below}
 
 abbrev pub line_end : List ℕ
 line_end = 13 ∷ 10 ∷ []

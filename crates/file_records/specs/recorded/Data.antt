@@ -1,12 +1,13 @@
 -- The data of a play as a record: a sample for each tick.
 use Rattle.std.specs.Prelude.{◌+◌, ◌*◌, ◌++◌, ℕ, Bool, List, [], ◌∷◌, codes, decimal, length}
 use Rattle.std.specs.List.{concat}
+use Rattle.model_history.specs.Each.{each_below}
 use Rattle.model_line.specs.{declared.line.Line.Line, declared.script.Script.Script}
 use Rattle.model_line.specs.declared.script.{Element.Element}
 use Rattle.model_line.specs.declared.script.Element.TheVariants.{Z1, Z2, Rv, Uv, Cur}
 use Rattle.model_line.specs.{Parameters.terminal_count, Seen.is_lost, Seen.is_seen}
 use Rattle.model_logic.specs.Histories.{History}
-use Rattle.run_changes.specs.rows.PlayRows.{each_below, level_word}
+use Rattle.run_changes.specs.rows.PlayRows.{level_word}
 use Rattle.file_records.specs.recorded.Config.{line_end}
 
 -- a level behind a comma

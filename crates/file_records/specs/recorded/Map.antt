@@ -2,12 +2,12 @@
 use Rattle.std.specs.Prelude.{◌==◌, ◌++◌, ℕ, List, [], ◌∷◌, codes, decimal, length}
 use Rattle.std.specs.Prelude.{if◌then◌else◌}
 use Rattle.std.specs.List.{concat}
+use Rattle.model_history.specs.Each.{each_below}
 use Rattle.model_line.specs.Channels.{from_of, to_of}
 use Rattle.model_line.specs.{declared.line.Line.Line, declared.script.Script.Script}
 use Rattle.model_line.specs.declared.script.Kind.TheVariants.{Internal, External}
 use Rattle.model_line.specs.{declared.script.Kind.Kind, Parameters.terminal_count}
 use Rattle.model_line.specs.NamesByNumber.{terminal_name}
-use Rattle.run_changes.specs.rows.PlayRows.{each_below}
 
 unfoldable pub kind_text : Kind → ℕ → List ℕ
 kind_text Internal deadline =

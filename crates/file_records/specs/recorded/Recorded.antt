@@ -2,6 +2,7 @@
 -- the changes of the play's keys and trips.
 use Rattle.std.specs.Prelude.{◌≡◌, ◌<◌, ◌++◌, ℕ, List, ◌∷◌, codes, length, IsTrue}
 use Rattle.std.specs.List.{All, Any}
+use Rattle.model_history.specs.Each.{each_below}
 use Rattle.model_line.specs.{declared.line.Line.Line, declared.script.Script.Script}
 use Rattle.model_line.specs.{Parameters.terminal_count, PlainNames.is_plain_name}
 use Rattle.model_line.specs.declared.script.Element.{Element}
@@ -12,7 +13,7 @@ use Rattle.model_line.specs.NamesByNumber.{terminal_name}
 use Rattle.judge_match.specs.matching.Row.{header_record}
 use Rattle.file_records.specs.{declared.map.source.Signal.Signal, map.Signals.shown}
 use Rattle.file_records.specs.declared.map.source.Signal.TheVariants.{Shown, Key, Trip}
-use Rattle.file_records.specs.{tracks.Below.below, tracks.Tracks.AreTracks, tracks.Tracks.PlacedValues, tracks.Tracks.TrackValues}
+use Rattle.file_records.specs.{tracks.Tracks.AreTracks, tracks.Tracks.PlacedValues, tracks.Tracks.TrackValues}
 use Rattle.file_records.specs.{recorded.Changes.change_at, recorded.Changes.head_record, recorded.Changes.record_rows}
 use Rattle.file_records.specs.recorded.Spans.{spans_told}
 use Rattle.file_records.specs.recorded.Told.{IsOwnSource}
@@ -60,7 +61,7 @@ history_changes name line h t k =
 abbrev pub history_rows : List ℕ → Line → History → List (List (List ℕ))
 history_rows name line h =
     header_record ∷ head_record name
-    ∷ below line.horizon (λ t. below (terminal_count line) (history_changes name line h t))
+    ∷ each_below line.horizon (λ t. each_below (terminal_count line) (history_changes name line h t))
 
 -- the record that is made of the tracks is that of the play's keys and trips
 abbrev pub RecordsArePlays : Type 0

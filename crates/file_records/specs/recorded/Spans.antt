@@ -2,6 +2,7 @@
 -- spans of the ticks at which it is on.
 use Rattle.std.specs.Prelude.{◌+◌, ◌-◌, ◌++◌, ◌&&◌, ℕ, zero, suc, Bool, not, List, [], ◌∷◌, length}
 use Rattle.std.specs.Prelude.{if◌then◌else◌}
+use Rattle.model_history.specs.Each.{each_below}
 use Rattle.model_line.specs.{declared.line.Line.Line, Parameters.terminal_count}
 use Rattle.model_line.specs.declared.script.{Element.Element, SeenSpan.SeenSpan, What.What}
 use Rattle.model_line.specs.declared.script.Element.TheVariants.{Z1, Z2, Rv, Uv, Cur}
@@ -10,7 +11,7 @@ use Rattle.run_changes.specs.rows.PlayRows.{value_before}
 use Rattle.file_tables.specs.script.Values.{ScriptValues}
 use Rattle.file_records.specs.map.Maps.{MapValues}
 use Rattle.file_records.specs.declared.map.source.Signal.TheVariants.{Shown}
-use Rattle.file_records.specs.{tracks.Below.below, tracks.Levels.is_on, tracks.Tracks.TrackValues}
+use Rattle.file_records.specs.{tracks.Levels.is_on, tracks.Tracks.TrackValues}
 
 -- it is on at a tick, and was off at the one before, or the tick is the first
 abbrev pub begins_at : (ℕ → Bool) → ℕ → Bool
@@ -31,7 +32,7 @@ span_from of on horizon t =
 -- the spans of what is shown, in order
 abbrev pub spans_of : List TrackValues → ℕ → What → List SeenSpan
 spans_of tracks horizon of =
-    below horizon (span_from of (is_on tracks (Shown of)) horizon)
+    each_below horizon (span_from of (is_on tracks (Shown of)) horizon)
 
 abbrev pub element_at : Element → ℕ → What
 element_at element k = what.Element (record { element = element; terminal = k })
@@ -46,8 +47,8 @@ terminal_spans tracks horizon k =
 -- those of all terminals, and then of the channels that are lost
 abbrev pub spans_told : Line → List TrackValues → List SeenSpan
 spans_told line tracks =
-    below (terminal_count line) (terminal_spans tracks line.horizon)
-    ++ below (length line.channels.items) (λ c. spans_of tracks line.horizon (what.Loss c))
+    each_below (terminal_count line) (terminal_spans tracks line.horizon)
+    ++ each_below (length line.channels.items) (λ c. spans_of tracks line.horizon (what.Loss c))
 
 -- the script of a map with these spans
 abbrev pub script_told : Line → MapValues → List TrackValues → ScriptValues

@@ -2,6 +2,7 @@
 use Rattle.std.specs.Prelude.{◌++◌, ◌*◌, ◌/◌, ◌-◌, ◌&&◌, ◌==◌, ℕ, Bool, false, not, List, [], ◌∷◌, Option, None, Some}
 use Rattle.std.specs.Prelude.{codes, get_or, length, nat_lt, slice_get, if◌then◌else◌}
 use Rattle.std.specs.{Bool.beq, Fmt.decimal}
+use Rattle.model_history.specs.Each.{each_below}
 use Rattle.run_changes.specs.rows.PlayRows.{level_word}
 use Rattle.model_line.specs.declared.line.{Channel.Channel, Line.Line}
 use Rattle.model_line.specs.declared.script.What.TheVariants as what
@@ -11,7 +12,7 @@ use Rattle.file_records.specs.declared.map.source.Signal.{Signal}
 use Rattle.file_records.specs.declared.map.source.Signal.TheVariants as signal
 use Rattle.file_records.specs.map.Recorders.{RecorderValues}
 use Rattle.file_records.specs.map.Sources.{ChannelSaid, id, number}
-use Rattle.file_records.specs.{tracks.Below.below, tracks.Tracks.TrackValues}
+use Rattle.file_records.specs.tracks.Tracks.{TrackValues}
 
 -- ---- the signal
 
@@ -55,7 +56,7 @@ change_at track t =
 
 -- the ticks at which it changes
 abbrev pub changes_of : Line → TrackValues → List ℕ
-changes_of line track = below line.horizon (change_at track)
+changes_of line track = each_below line.horizon (change_at track)
 
 -- a tick, and the same in milliseconds; empty where there is none
 abbrev pub tick_fields : Line → Option ℕ → List (List ℕ)

@@ -1,10 +1,10 @@
 -- The table of the sources of a map: a record for each.
 use Rattle.std.specs.Prelude.{◌++◌, ℕ, List, [], ◌∷◌, Option, None, Some, codes, length, slice_get}
+use Rattle.model_history.specs.Each.{each_below}
 use Rattle.run_changes.specs.rows.PlayRows.{level_word}
 use Rattle.model_line.specs.declared.line.Line.{Line}
 use Rattle.file_records.specs.map.Recorders.{RecorderValues}
 use Rattle.file_tables.specs.script.Printed.{records_text}
-use Rattle.file_records.specs.tracks.Below.{below}
 use Rattle.file_records.specs.tracks.Tracks.{PlacedValues, TrackValues}
 use Rattle.file_records.specs.tracks.Fields.{channel_text, config_name, course_fields, sampled_fields}
 use Rattle.file_records.specs.tracks.Fields.{signal_fields}
@@ -40,7 +40,7 @@ record_at line recorders placed tracks i =
 abbrev pub sources_rows : Line → List RecorderValues → List PlacedValues → List TrackValues
     → List (List (List ℕ))
 sources_rows line recorders placed tracks =
-    header_record ∷ below (length placed) (record_at line recorders placed tracks)
+    header_record ∷ each_below (length placed) (record_at line recorders placed tracks)
 
 -- their text
 abbrev pub sources_text : Line → List RecorderValues → List PlacedValues → List TrackValues → List ℕ

@@ -35,17 +35,6 @@ fn other_names(alloc: Global, line: &Line, k: u32) -> Result<Vec<Name>, AllocErr
     Ok(names)
 }
 
-// A plain name as a text.
-fn text_of_name(name: &Name) -> &str
-    requires { is_plain_name name.now ≡ true }
-    ensures { result.now ≡ name.now }
-{
-    match std::str::from_utf8(name.bytes()) {
-        Ok(text) => text,
-        Err(_) => unreachable!(),
-    }
-}
-
 // The loss of the channel from a terminal to terminal k, under its name.
 fn push_loss(
     alloc: Global,
@@ -63,7 +52,7 @@ fn push_loss(
     match channel {
         Some(c) => {
             let signal = Signal::Shown(What::Loss(c));
-            push_signal(alloc, path, text_of_name(name), signal, table, signals)
+            push_signal(alloc, path, name.plain_text(), signal, table, signals)
         }
         None => Ok(()),
     }

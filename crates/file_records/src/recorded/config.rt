@@ -1,8 +1,8 @@
 //! The configuration of a play as a record.
 
 ghost use Rattle.std.specs.Prelude.{◌≡◌, ◌<◌, ◌++◌, IfOk, OnOk, length};
+ghost use Rattle.model_history.specs.Each.{each_below};
 ghost use Rattle.model_line.specs.Parameters.{terminal_count};
-ghost use Rattle.run_changes.specs.rows.PlayRows.{each_below};
 ghost use Rattle.file_records.specs.recorded.Config.{channel_count as count_of, channel_line, config_text as text_of_config};
 ghost use Rattle.file_records.specs.recorded.Config.{element_lines, head_text, loss_line, tail_text, terminal_lines};
 

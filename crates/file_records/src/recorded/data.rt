@@ -1,10 +1,10 @@
 //! The data of a play as a record.
 
 ghost use Rattle.std.specs.Prelude.{◌≡◌, ◌<◌, ◌++◌, IfOk, OnOk, length};
+ghost use Rattle.model_history.specs.Each.{each_below};
 ghost use Rattle.model_line.specs.Parameters.{terminal_count};
 ghost use Rattle.model_logic.specs.Histories.{History, IsLineHistory};
 ghost use Rattle.model_timing.specs.{Choice.timing_choice, Inside.IsTimingInside};
-ghost use Rattle.run_changes.specs.rows.PlayRows.{each_below};
 ghost use Rattle.run_step.specs.Ticks.{AreSent};
 ghost use Rattle.run_changes.specs.changes.PlayedTracks.{is_on, played};
 ghost use Rattle.file_records.specs.recorded.Data.{all_seen, data_text as text_of_data, level_field};

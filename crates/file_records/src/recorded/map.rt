@@ -1,8 +1,8 @@
 //! The map of a play that is written as a record.
 
 ghost use Rattle.std.specs.Prelude.{◌≡◌, ◌<◌, ◌++◌, IfOk, OnOk, length};
+ghost use Rattle.model_history.specs.Each.{each_below};
 ghost use Rattle.model_line.specs.Parameters.{terminal_count};
-ghost use Rattle.run_changes.specs.rows.PlayRows.{each_below};
 ghost use Rattle.file_records.specs.recorded.Map.{element_signals, front_text, head_text, kind_text, loss_line, map_text as text_of_map};
 ghost use Rattle.file_records.specs.recorded.Map.{recorder_head, recorder_text, signal_line, start_text};
 

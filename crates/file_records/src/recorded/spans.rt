@@ -1,11 +1,12 @@
 //! The spans of the ticks at which signals are on.
 
 ghost use Rattle.std.specs.Prelude.{◌≡◌, ◌≤◌, ◌<◌, ◌-◌, ◌++◌, IfOk, OnOk, map, length};
+ghost use Rattle.model_history.specs.Each.{each_below};
 ghost use Rattle.run_changes.specs.rows.PlayRows.{value_before};
 ghost use Rattle.model_line.specs.Parameters.{terminal_count};
 ghost use Rattle.model_line.specs.declared.script.What.TheVariants as what;
 ghost use Rattle.file_records.specs.declared.map.source.Signal.TheVariants.{Shown};
-ghost use Rattle.file_records.specs.{tracks.Below.below, tracks.Levels.is_on as is_signal_on, tracks.Tracks.track_values};
+ghost use Rattle.file_records.specs.{tracks.Levels.is_on as is_signal_on, tracks.Tracks.track_values};
 ghost use Rattle.file_records.specs.recorded.Spans.{begins_at, first_off as off_tick, span_from, spans_of};
 ghost use Rattle.file_records.specs.recorded.Spans.{spans_told as all_spans, terminal_spans};
 
@@ -110,7 +111,7 @@ fn push_terminal(
 }
 
 fn push_terminals(line: &Line, tracks: &[Track], spans: &mut Vec<SeenSpan>) -> Result<(), Memory>
-    ensures { OnOk result (spans.new.items ≡ spans.old.items ++ below (terminal_count line.now)
+    ensures { OnOk result (spans.new.items ≡ spans.old.items ++ each_below (terminal_count line.now)
         (terminal_spans (map track_values tracks.now) line.now.horizon)) }
 {
     for k in 0..line.terminals.len() {
@@ -121,7 +122,7 @@ fn push_terminals(line: &Line, tracks: &[Track], spans: &mut Vec<SeenSpan>) -> R
 
 fn push_losses(line: &Line, tracks: &[Track], spans: &mut Vec<SeenSpan>) -> Result<(), Memory>
     ensures { OnOk result (spans.new.items ≡ spans.old.items
-        ++ below (length line.now.channels.items)
+        ++ each_below (length line.now.channels.items)
         (λ c. spans_of (map track_values tracks.now) line.now.horizon (what.Loss c))) }
 {
     for c in 0..line.channels.len() {

@@ -1,10 +1,8 @@
 -- The line file of a study nests little, and has no date.
 use Rattle.std.proofs.Common.{◌≡◌, ◌+◌, ◌≤◌, ℕ, true, List, [], ◌∷◌, ◌++◌, Option, None, Some}
-use Rattle.std.proofs.Common.{Result, Ok, Less, Equal, Greater, refl, subst, arith, codes, map}
+use Rattle.std.proofs.Common.{Result, Ok, refl, subst, arith, codes, map}
 use Rattle.std.proofs.Common.{Bool}
 use Rattle.std.proofs.lemmas.Bool.{and_parts}
-use Rattle.std.specs.Ordering.{nat_cmp, match_ordering}
-use Rattle.std.specs.Cmp.Lexicographic.{slice_cmp}
 use Rattle.toml.specs.Data.{Data, string, integer, float, boolean, datetime, array, table, Members}
 use Rattle.toml.specs.Data.{no_members, member, depth, items_depth, members_depth, has_valid_dates}
 use Rattle.toml.specs.Data.{items_have_valid_dates, members_have_valid_dates, get_member}
@@ -14,6 +12,7 @@ use Rattle.model_line.specs.{declared.line.Terminal.Terminal, declared.line.Chan
 use Rattle.model_line.specs.{ParamNames.name_at, ParamNames.pair_name}
 use Rattle.base_memory.specs.CheckLaws.{passed, same_ok}
 use Rattle.file_line.specs.Canonical.{put_member, table_of}
+use Rattle.file_line.specs.PutLaws.{put_depth, put_dated}
 use Rattle.file_document.specs.declared.fault.DocumentFault.{DocumentFault}
 use Rattle.file_study.specs.declared.study.units.Units.{Units}
 use Rattle.file_study.specs.study.Settings.{ends_data, time_data, time_in, put_times, setting_in}
@@ -38,29 +37,6 @@ pub record AreFlat (n : ℕ) (ms : Members) : Type 0 where
 pub record ListFlat (n : ℕ) (ds : List Data) : Type 0 where
   pub deep : items_depth (items_of ds) ≤ n
   pub dated : items_have_valid_dates (items_of ds) ≡ true
-
-put_depth : (n : ℕ) (k : List ℕ) (d : Data) (ms : Members) → depth d ≤ n → members_depth ms ≤ n
-    → members_depth (put_member k d ms) ≤ n
-put_depth n k d no_members a b = omega arith
-put_depth n k d (member l e ms) a b =
-    let more : members_depth (put_member k d ms) ≤ n = put_depth n k d ms a (omega arith) in
-    elim (slice_cmp nat_cmp k l)
-    as (λ o. members_depth
-    (match_ordering o (member k d (member l e ms)) (member l d ms)
-    (member l e (put_member k d ms))) ≤ n)
-    [ Less ↦ omega arith | Equal ↦ omega arith | Greater ↦ omega arith ]
-
-put_dated : (k : List ℕ) (d : Data) (ms : Members) → has_valid_dates d ≡ true
-    → members_have_valid_dates ms ≡ true → members_have_valid_dates (put_member k d ms) ≡ true
-put_dated k d no_members a b = rw a
-put_dated k d (member l e ms) a b =
-    let (here, rest) = and_parts (has_valid_dates e) (members_have_valid_dates ms) b in
-    let more : members_have_valid_dates (put_member k d ms) ≡ true = put_dated k d ms a rest in
-    elim (slice_cmp nat_cmp k l)
-    as (λ o. members_have_valid_dates
-    (match_ordering o (member k d (member l e ms)) (member l d ms)
-    (member l e (put_member k d ms))) ≡ true)
-    [ Less ↦ rw (a, here, rest) | Equal ↦ rw (a, rest) | Greater ↦ rw (here, more) ]
 
 put_flat : (n : ℕ) (k : List ℕ) (d : Data) (ms : Members) → IsFlat n d → AreFlat n ms
     → AreFlat n (put_member k d ms)

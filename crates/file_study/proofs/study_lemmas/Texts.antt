@@ -7,7 +7,7 @@ use Rattle.std.proofs.Common.{subst, sym}
 use Rattle.model_line.specs.{declared.line.Terminal.Terminal, declared.line.Channel.Channel}
 use Rattle.model_line.specs.{Terminals.are_plain_names, ParamNames.name_at, ParamNames.pair_name}
 use Rattle.model_line.specs.PlainNames.{is_plain_name}
-use Rattle.file_line.specs.PlainTextLaws.{plain_text, passes}
+use Rattle.model_line.specs.PlainTextLaws.{plain_text, passes}
 
 arrow : IsUtf8 (62 ∷ [])
 arrow = IsUtf8-from_ascii (62 ∷ []) ascii

@@ -17,7 +17,8 @@ use Rattle.file_document.specs.declared.time_fault.TimeFault.{TimeFault}
 use Rattle.file_document.specs.declared.time_fault.TimeFault.TheVariants as fault
 use Rattle.file_study.specs.declared.times.fraction.Fraction.{Fraction}
 use Rattle.file_study.specs.declared.times.word.Sign.TheVariants as sign
-use Rattle.file_study.specs.times.Words.{is_space, is_no_space, next_start, next_end, place_of, word_of}
+use Rattle.base_text.specs.lines.Lines.{is_space}
+use Rattle.file_study.specs.times.Words.{is_no_space, next_start, next_end, place_of, word_of}
 use Rattle.file_study.specs.times.Words.{sign_in, sign_at}
 use Rattle.file_study.specs.times.Numbers.{is_point, is_whole, is_parted_well, whole_part, decimals}
 use Rattle.file_study.specs.times.Numbers.{number_in}

@@ -1,11 +1,11 @@
 -- Times of a study in ticks: intervals, instants, and the values of a sweep.
-use Rattle.std.specs.Prelude.{◌+◌, ◌&&◌, ◌==◌, ◌++◌, ℕ, zero, suc, Bool, List, [], ◌∷◌}
+use Rattle.std.specs.Prelude.{◌+◌, ◌++◌, ℕ, zero, suc, Bool, List, [], ◌∷◌}
 use Rattle.std.specs.Prelude.{Result, Ok, Err, if◌then◌else◌, nat_le}
 use Rattle.file_study.specs.declared.times.fraction.Fraction.{Fraction}
 use Rattle.file_document.specs.declared.time_fault.TimeFault.{TimeFault}
 use Rattle.file_study.specs.declared.times.time.{Sweep.Sweep, Time.Time, Interval.Interval}
 use Rattle.file_study.specs.declared.times.time.Time.TheVariants as time
-use Rattle.file_study.specs.{times.Times.time_of, times.Sweeps.value_of, times.Fractions.is_at_most}
+use Rattle.file_study.specs.{times.Times.is_instant, times.Times.time_of, times.Sweeps.value_of, times.Fractions.is_at_most}
 use Rattle.model_line.specs.declared.bounds.Bounds.{Bounds}
 use Rattle.base_memory.specs.Gives.{◌>>=◌}
 use Rattle.file_document.specs.declared.fault.DocumentFault.{DocumentFault}
@@ -32,11 +32,6 @@ bounds_in tick_us path (time.Sweep sweep) = Err (fault.Swept path)
 
 unfoldable pub bounds_of : Units → List ℕ → List ℕ → Result Bounds DocumentFault
 bounds_of units path text = told path (time_of units.hertz text) >>= bounds_in units.tick_us path
-
--- both ends are one
-abbrev pub is_instant : Interval → Bool
-is_instant ends =
-    (ends.least.over == ends.greatest.over) && (ends.least.under == ends.greatest.under)
 
 -- an instant in ticks, rounded up or down
 abbrev pub instant_at : Bool → ℕ → List ℕ → Interval → Result ℕ DocumentFault

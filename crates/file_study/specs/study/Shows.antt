@@ -3,6 +3,7 @@ use Rattle.std.specs.Prelude.{◌+◌, ◌++◌, ◌==◌, ℕ, Bool, List, [], 
 use Rattle.std.specs.Prelude.{Ok, Err, codes, if◌then◌else◌}
 use Rattle.std.specs.Str.{bytes_eq}
 use Rattle.std.specs.List.{before_first, after_first, position_from}
+use Rattle.base_text.specs.lines.Lines.{is_space}
 use Rattle.toml.specs.Data.{Data, Items, no_items, item, Members, get_member}
 use Rattle.model_line.specs.declared.script.Element.TheVariants.{Z1, Z2, Rv, Uv, Cur}
 use Rattle.model_line.specs.{declared.script.Element.Element}
@@ -30,9 +31,6 @@ element_of text =
 abbrev pub element_in : List ℕ → Option Element → Result Element DocumentFault
 element_in path None = Err (fault.BadName path)
 element_in path (Some element) = Ok element
-
-abbrev pub is_space : ℕ → Bool
-is_space byte = byte == 32
 
 -- behind an element: nothing, or `+` and how far into the stage it comes
 abbrev pub shift_in : Bool → Units → List ℕ → List ℕ → Result ℕ DocumentFault

@@ -1,18 +1,16 @@
 -- The names of an axis, parted by commas, and the parameters for which they stand.
-use Rattle.std.specs.Prelude.{◌+◌, ◌==◌, ◌&&◌, ◌||◌, ◌++◌, ℕ, zero, suc, Bool, true, false, List, []}
-use Rattle.std.specs.Prelude.{◌∷◌, Option, None, Some, codes, drop, length, min, count_by}
+use Rattle.std.specs.Prelude.{◌+◌, ◌==◌, ◌&&◌, ◌||◌, ◌++◌, ℕ, zero, suc, Bool, not, List, []}
+use Rattle.std.specs.Prelude.{◌∷◌, Option, None, codes, drop, length, min, count_by}
 use Rattle.std.specs.Prelude.{if◌then◌else◌}
 use Rattle.std.specs.List.{position_or_len, before_first}
-use Rattle.std.specs.Str.{bytes_eq}
+use Rattle.std.specs.{Str.bytes_eq, Option.option_or, Bool.then_some}
+use Rattle.file_study.specs.times.Numbers.{is_point}
 use Rattle.model_history.specs.Elements.{some_below}
 use Rattle.model_line.specs.{declared.line.Line.Line, Parameters.param_count}
 use Rattle.model_line.specs.NamesByNumber.{parameter_name}
 
 abbrev pub is_comma : ℕ → Bool
 is_comma byte = byte == 44
-
-abbrev pub is_point : ℕ → Bool
-is_point byte = byte == 46
 
 -- ---- the names of the list, counted from 0
 
@@ -69,16 +67,10 @@ those_below test (suc n) = those_below test n ++ (if test n then n ∷ [] else [
 abbrev pub params_of : Line → List ℕ → List ℕ
 params_of line names = those_below (is_meant line names) (param_count line)
 
--- what was found before, or else n where it does not pass
-abbrev pub first_or : Option ℕ → Bool → ℕ → Option ℕ
-first_or None true n = None
-first_or None false n = Some n
-first_or (Some k) passes n = Some k
-
 -- the first number below n that does not pass the test
 abbrev pub first_failing : (ℕ → Bool) → ℕ → Option ℕ
 first_failing test zero = None
-first_failing test (suc n) = first_or (first_failing test n) (test n) n
+first_failing test (suc n) = option_or (first_failing test n) (then_some (not (test n)) n)
 
 -- the first name, counted from 0, that stands for no parameter
 abbrev pub unknown_in : Line → List ℕ → Option ℕ

@@ -10,7 +10,7 @@ use Rattle.file_document.specs.declared.time_fault.TimeFault.{TimeFault}
 use Rattle.file_study.specs.declared.times.{fraction.Fraction.Fraction}
 use Rattle.file_study.specs.declared.times.{time.Interval.Interval, time.Time.Time}
 use Rattle.file_study.specs.declared.times.time.Time.TheVariants as time
-use Rattle.file_study.specs.times.Times.{time_of}
+use Rattle.file_study.specs.times.Times.{is_instant, time_of}
 use Rattle.file_study.specs.declared.times.{axis_fault.AxisFault.AxisFault, axis_fault.Part.Part, steps.Steps.Steps}
 use Rattle.file_study.specs.declared.times.axis_fault.AxisFault.TheVariants as fault
 use Rattle.file_study.specs.declared.times.axis_fault.Part.TheVariants as part
@@ -40,11 +40,6 @@ abbrev pub ticks_of : Part → ℕ → Fraction → Result ℕ AxisFault
 ticks_of part tick_us a =
     if is_on_grid tick_us a then at_most_4000 part (a.over / a.under / tick_us)
     else Err (fault.OffGrid part)
-
--- both ends are one time
-abbrev pub is_instant : Interval → Bool
-is_instant ends =
-    (ends.least.over == ends.greatest.over) && (ends.least.under == ends.greatest.under)
 
 abbrev pub instant_of : Part → ℕ → Time → Result ℕ AxisFault
 instant_of part tick_us (time.Sweep sweep) = Err (fault.NoInstant part)

@@ -1,12 +1,12 @@
 -- What the text of a time says, word by word. A text is refused for the first word that cannot
 -- stand where it does.
-use Rattle.std.specs.Prelude.{◌+◌, ◌==◌, ◌<◌, ◌^◌, ℕ, List, Option, Result, Ok, Err}
+use Rattle.std.specs.Prelude.{◌+◌, ◌==◌, ◌&&◌, ◌<◌, ◌^◌, ℕ, Bool, List, Option, Result, Ok, Err}
 use Rattle.std.specs.Prelude.{if◌then◌else◌}
 use Rattle.base_memory.specs.Gives.{◌>>=◌}
 use Rattle.file_document.specs.declared.time_fault.TimeFault.{TimeFault}
 use Rattle.file_document.specs.declared.time_fault.TimeFault.TheVariants as fault
 use Rattle.file_study.specs.declared.times.fraction.Fraction.{Fraction}
-use Rattle.file_study.specs.declared.times.time.{Sweep.Sweep, Time.Time}
+use Rattle.file_study.specs.declared.times.time.{Interval.Interval, Sweep.Sweep, Time.Time}
 use Rattle.file_study.specs.declared.times.time.Time.TheVariants as time
 use Rattle.file_study.specs.declared.times.word.Sign.{Sign}
 use Rattle.file_study.specs.declared.times.word.Sign.TheVariants as sign
@@ -47,6 +47,11 @@ closed text k read = closed_at text k (sign_at text k) read
 
 abbrev pub interval : Fraction → Fraction → Time
 interval least greatest = time.Interval (record { least = least; greatest = greatest })
+
+-- both ends are one time
+abbrev pub is_instant : Interval → Bool
+is_instant ends =
+    (ends.least.over == ends.greatest.over) && (ends.least.under == ends.greatest.under)
 
 -- ---- a tolerance
 

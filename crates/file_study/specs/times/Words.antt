@@ -1,13 +1,11 @@
 -- The words of a text, parted by spaces, and the signs among them.
-use Rattle.std.specs.Prelude.{◌==◌, ◌+◌, ℕ, zero, suc, Bool, not, List, [], codes, drop}
+use Rattle.std.specs.Prelude.{◌+◌, ℕ, zero, suc, Bool, not, List, [], codes, drop}
 use Rattle.std.specs.Prelude.{if◌then◌else◌}
 use Rattle.std.specs.List.{position_or_len, before_first}
 use Rattle.std.specs.Str.{bytes_eq}
+use Rattle.base_text.specs.lines.Lines.{is_space}
 use Rattle.file_study.specs.declared.times.word.Sign.{Sign}
 use Rattle.file_study.specs.declared.times.word.Sign.TheVariants as sign
-
-abbrev pub is_space : ℕ → Bool
-is_space byte = byte == 32
 
 abbrev pub is_no_space : ℕ → Bool
 is_no_space byte = not (is_space byte)

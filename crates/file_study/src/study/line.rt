@@ -18,7 +18,7 @@ ghost use Rattle.file_study.specs.study.LineTables.{owner_members, terminal_memb
 ghost use Rattle.file_study.specs.study.LineTables.{line_head, with_tables, line_table, line_of_study};
 ghost use Rattle.file_study.specs.study.LineTables.{as_study, head_pairs};
 
-use crate::study::settings::{put, put_section};
+use crate::study::settings::put_section;
 use crate::study::ticks::instant;
 use crate::study::units::Units;
 use base_memory::{Memory, Stopped};
@@ -27,7 +27,7 @@ use file_document::keys::{
 };
 use file_document::words::plain_name;
 use file_document::{DocumentFault, Path};
-use file_line::{LineFault, read_line};
+use file_line::{LineFault, put, read_line};
 use model_line::{Channel, Line, Name, Terminal, channel_name};
 use std::alloc::Global;
 use toml::ser::Error;
@@ -157,17 +157,6 @@ fn with_owner(
     Ok(table)
 }
 
-/// A plain name as a text.
-pub fn text_of_name(name: &Name) -> &str
-    requires { is_plain_name name.now ≡ true }
-    ensures { result.now ≡ name.now }
-{
-    match std::str::from_utf8(name.bytes()) {
-        Ok(text) => text,
-        Err(_) => unreachable!(),
-    }
-}
-
 // The table of a terminal.
 fn terminal_table(
     alloc: Global,
@@ -182,7 +171,7 @@ fn terminal_table(
         (terminal_members units (option_map (λ t. table_view t.now) defaults.entry)
         (option_map (λ t. table_view t.now) own.entry) terminal) }
 {
-    let name = text_of_name(&terminal.name);
+    let name = terminal.name.plain_text();
     let table = with_text(alloc, Ok(Table::new(alloc)), "name", name);
     with_owner(alloc, units, defaults, "terminal", own, name, table)
 }
@@ -216,9 +205,9 @@ fn channel_table(
         (option_map (λ t. table_view t.now) own.entry) terminals.now channel) }
 {
     let name = channel_name(terminals, channel);
-    let from = text_of_name(&terminals[channel.from as usize].name);
+    let from = terminals[channel.from as usize].name.plain_text();
     let table = with_text(alloc, Ok(Table::new(alloc)), "from", from);
-    let to = text_of_name(&terminals[channel.to as usize].name);
+    let to = terminals[channel.to as usize].name.plain_text();
     let table = with_text(alloc, table, "to", to);
     let key = text_of_channel(&name);
     with_owner(alloc, units, defaults, "channel", own, key, table)

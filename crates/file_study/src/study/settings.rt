@@ -1,8 +1,7 @@
 //! The settings of a terminal or a channel as tables of a line file, with times in ticks.
 
-ghost use Rattle.std.specs.Prelude.{◌≡◌, ◌<◌, IfOk, OnOk, option_map};
+ghost use Rattle.std.specs.Prelude.{◌≡◌, ◌<◌, IfOk, option_map};
 ghost use Rattle.toml.specs.{Data.no_members, View.view, View.table_view};
-ghost use Rattle.file_line.specs.Canonical.{put_member};
 ghost use Rattle.base_memory.specs.Gives.{Becomes, Gives};
 ghost use Rattle.file_study.specs.study.Settings.{time_data, time_in, put_times, setting_in};
 ghost use Rattle.file_study.specs.study.Settings.{put_settings};
@@ -13,19 +12,10 @@ use crate::study::units::Units;
 use base_memory::{Memory, Stopped};
 use file_document::keys::{find_in, optional_table};
 use file_document::{DocumentFault, Path};
+use file_line::put;
 use model_line::Bounds;
 use std::alloc::Global;
 use toml::{Table, Value};
-
-/// Puts a value under one more key.
-pub fn put(alloc: Global, table: &mut Table, key: &str, value: Value) -> Result<(), Memory>
-    ensures { OnOk result
-        (table_view table.new ≡ put_member key.now (view value) (table_view table.old)) }
-{
-    let key = String::from_str(alloc, key)?;
-    let _old = table.insert(key, value)?;
-    Ok(())
-}
 
 // A time in a line file: an array of its two ends.
 fn ends_value(alloc: Global, ends: Bounds) -> Result<Value, Memory>

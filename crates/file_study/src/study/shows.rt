@@ -6,11 +6,11 @@ ghost use Rattle.toml.specs.View.{view, table_view, items_view};
 ghost use Rattle.file_line.specs.Lines.{line_values};
 ghost use Rattle.base_memory.specs.Gives.{Becomes, Gives};
 ghost use Rattle.model_line.specs.{PlainNames.is_plain_name, Terminals.are_plain_names};
-ghost use Rattle.file_study.specs.study.Shows.{element_of, element_in, is_space, shift_in, shown_in};
+ghost use Rattle.file_study.specs.study.Shows.{element_of, element_in, shift_in, shown_in};
+ghost use Rattle.base_text.specs.lines.Lines.{is_space};
 ghost use Rattle.file_study.specs.study.Shows.{all_shown, terminal_shows, terminals_show};
 ghost use Rattle.file_study.specs.study.Shows.{channel_called, channel_in, lost_in, all_lost, shows_of};
 
-use crate::study::line::text_of_name;
 use crate::study::stage::Shown;
 use crate::study::ticks::instant;
 use crate::study::units::Units;
@@ -141,7 +141,7 @@ fn push_terminal(
     ensures { Becomes result shows.new.items
         (terminal_shows upward units path (table_view table.now) k terminal shows.old.items) }
 {
-    let name = text_of_name(&terminal.name);
+    let name = terminal.name.plain_text();
     let path = path.key(name.as_bytes());
     let items = optional_items(path, find(table, name))?;
     push_shown(upward, units, k, path, items, shows)

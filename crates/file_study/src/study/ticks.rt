@@ -5,7 +5,7 @@ ghost use Rattle.file_study.specs.times.Times.{IsEnd, IsReadable, IsSwept};
 ghost use Rattle.file_study.specs.study.Rounding.{down, up, rounded};
 ghost use Rattle.base_memory.specs.Gives.{Gives};
 ghost use Rattle.file_study.specs.study.Moments.{limited, bounds_of, bounds_in, instant_at, instant_of};
-ghost use Rattle.file_study.specs.study.Moments.{told, is_instant, instant_in, swept_in, moments_in};
+ghost use Rattle.file_study.specs.study.Moments.{told, instant_in, swept_in, moments_in};
 ghost use Rattle.file_study.specs.study.Moments.{moments_of};
 ghost use Rattle.file_study.specs.times.Times.{time_of};
 
@@ -95,19 +95,13 @@ pub fn bounds(units: Units, path: Path, text: &[u8]) -> Result<Bounds, DocumentF
     bounds_in(units.tick_us, path, time)
 }
 
-fn is_instant(ends: Interval) -> bool
-    ensures { result ≡ is_instant ends }
-{
-    ends.least.over == ends.greatest.over && ends.least.under == ends.greatest.under
-}
-
 fn instant_at(upward: bool, tick_us: u32, path: Path, ends: Interval) -> Result<u32, DocumentFault>
     requires tick { 0 < tick_us }
     requires least { IsEnd ends.least }
     ensures is { result ≡ instant_at upward tick_us path ends }
     ensures few { IfOk result (λ n. n ≤ 4000) }
 {
-    if is_instant(ends) {
+    if ends.is_instant() {
         limited(path, rounded(upward, tick_us, ends.least))
     } else {
         Err(DocumentFault::NoInstant(path))

@@ -3,14 +3,14 @@
 ghost use Rattle.std.specs.Prelude.{◌≡◌, ◌≤◌, ◌<◌, IfOk};
 ghost use Rattle.file_study.specs.times.Times.{IsReadable};
 ghost use Rattle.file_study.specs.times.Steps.{at_most_4000 as at_most_4000_of, counted_of, instant_of};
-ghost use Rattle.file_study.specs.times.Steps.{have_units as units_in, is_instant as is_instant_of};
+ghost use Rattle.file_study.specs.times.Steps.{have_units as units_in};
 ghost use Rattle.file_study.specs.times.Steps.{is_letter as is_letter_of, is_on_grid as is_on_grid_of};
 ghost use Rattle.file_study.specs.times.Steps.{number_of, ticks_of};
 
 use crate::times::axis_fault::{AxisFault, Part};
 use crate::times::fraction::Fraction;
 use crate::times::read::read_time;
-use crate::times::time::{Interval, Time};
+use crate::times::time::Time;
 use base_text::store::number;
 
 /// Whether a letter stands in the numbers of an axis: then each is a time with its unit.
@@ -62,19 +62,13 @@ fn instant(part: Part, tick_us: u32, time: Time) -> Result<u32, AxisFault>
     match time {
         Time::Sweep(_) => Err(AxisFault::NoInstant(part)),
         Time::Interval(ends) => {
-            if is_instant(ends) {
+            if ends.is_instant() {
                 in_ticks(part, tick_us, ends.least)
             } else {
                 Err(AxisFault::NoInstant(part))
             }
         }
     }
-}
-
-fn is_instant(ends: Interval) -> bool
-    ensures { result ≡ is_instant_of ends }
-{
-    ends.least.over == ends.greatest.over && ends.least.under == ends.greatest.under
 }
 
 // How many ticks a time comes to.

@@ -5,7 +5,7 @@ ghost use Rattle.std.specs.Prelude.{count_by, if◌then◌else◌};
 ghost use Rattle.std.specs.List.{All};
 ghost use Rattle.std.specs.Str.{bytes_eq};
 ghost use Rattle.model_line.specs.Parameters.{param_count};
-ghost use Rattle.file_study.specs.times.Names.{first_or as first_or_of, is_comma, is_known};
+ghost use Rattle.file_study.specs.times.Names.{is_comma, is_known};
 ghost use Rattle.file_study.specs.times.Names.{is_meant as is_meant_of, name_count, name_of, next_start};
 ghost use Rattle.file_study.specs.times.Names.{owner_in, params_of as params_for, setting_in};
 ghost use Rattle.file_study.specs.times.Names.{stands_for as stands_for_of, start_of, unknown_in};
@@ -58,19 +58,9 @@ pub fn unknown(line: &Line, names: &[u8]) -> Option<usize>
 {
     let mut found = None;
     for k in 0..count(names) {
-        found = first_or(found, known(line, name(names, k)), k);
+        found = found.or((!known(line, name(names, k))).then_some(k));
     }
     found
-}
-
-fn first_or(found: Option<usize>, passes: bool, n: usize) -> Option<usize>
-    ensures { result ≡ first_or_of found passes n }
-{
-    match (found, passes) {
-        (Some(k), _) => Some(k),
-        (None, true) => None,
-        (None, false) => Some(n),
-    }
 }
 
 // Whether a name stands for some parameter.

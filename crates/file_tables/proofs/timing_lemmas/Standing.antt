@@ -33,7 +33,7 @@ use Rattle.model_timing.specs.Inside.{IsStepInside, IsTimingInside}
 use Rattle.model_timing.specs.NamedValues.{NamedValues}
 use Rattle.file_tables.specs.timing.SoFar.{OpenTiming, TimingsSoFar, all_timings, no_timings}
 use Rattle.file_tables.specs.timing.SoFar.{one_or_none, closed, opened, with_row}
-use Rattle.file_tables.specs.timing.Checks.{is_at, is_earlier, after_latest, check_timing, named_in}
+use Rattle.file_tables.specs.timing.Checks.{is_at, is_earlier, check_timing, named_in}
 use Rattle.file_tables.specs.timing.Checks.{number_within, step_at, step_named, number_or_step, value_for}
 use Rattle.file_tables.specs.timing.Timings.{after_row, after_record, timing_file, timings_in}
 use Rattle.file_tables.specs.timing.Printed.{name_record, number_records, step_record, timing_records}

@@ -8,12 +8,8 @@ use Rattle.model_line.specs.ParamNames.{name_at, channel_name}
 use Rattle.model_line.specs.{declared.line.Line.Line, declared.script.Kind.Kind}
 use Rattle.model_line.specs.{declared.script.What.What, declared.script.SeenSpan.SeenSpan}
 use Rattle.model_line.specs.declared.script.What.TheVariants as what
-use Rattle.model_line.specs.NamesByNumber.{element_text}
+use Rattle.model_line.specs.NamesByNumber.{element_text, kind_text}
 use Rattle.file_tables.specs.{script.Row.header_record, script.Values.ScriptValues}
-
-abbrev pub kind_text : Kind → List ℕ
-kind_text Internal = codes "internal"
-kind_text External = codes "external"
 
 -- an external script has no deadline
 abbrev pub deadline_text : Kind → ℕ → List ℕ

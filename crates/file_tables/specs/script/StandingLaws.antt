@@ -24,14 +24,14 @@ use Rattle.model_line.specs.{declared.line.Channel.Channel, declared.script.Kind
 use Rattle.model_line.specs.{declared.script.SeenSpan.SeenSpan, PlainNames.is_plain_name}
 use Rattle.model_line.specs.{ParamNames.channel_name, declared.script.Script.Script}
 use Rattle.model_line.specs.declared.script.What.TheVariants as what
-use Rattle.model_line.specs.NamesByNumber.{element_text}
+use Rattle.model_line.specs.NamesByNumber.{element_text, kind_text}
 use Rattle.model_names.specs.NumbersByName.{channel_named}
 use Rattle.file_tables.specs.declared.script.item.Item.TheVariants.{Head, Seen, Lost}
 use Rattle.base_records.specs.SoFar.{SoFar, all_of, nothing}
 use Rattle.file_tables.specs.script.Values.{ScriptValues, AreOfOneFile, values_of, with_head}
 use Rattle.file_tables.specs.script.Scripts.{after_head, after_row, after_item, after_record, script_file}
 use Rattle.file_tables.specs.script.Scripts.{scripts_in}
-use Rattle.file_tables.specs.script.Printed.{kind_text, deadline_text, head_record, item_text, place_text}
+use Rattle.file_tables.specs.script.Printed.{deadline_text, head_record, item_text, place_text}
 use Rattle.file_tables.specs.script.Printed.{row_record, script_records, file_records}
 use Rattle.file_tables.specs.{script.Checks.item_of, script.Checks.is_head, script.Checks.is_taken, script.Checks.what_at}
 use Rattle.file_tables.specs.{script.Checks.deadline_of, declared.script.item.Item.Item, script.Row.Row}

@@ -1,11 +1,11 @@
 //! The checks of one record, each of them alone.
 
-ghost use Rattle.std.specs.Prelude.{◌≡◌, ◌<◌, ◌↔◌, IsTrue, length, option_map};
+ghost use Rattle.std.specs.Prelude.{◌≡◌, ◌<◌, ◌↔◌, IsTrue, length, option_map, option_to_list};
 ghost use Rattle.std.specs.List.{list_any};
 ghost use Rattle.std.specs.Str.{bytes_eq};
 ghost use Rattle.base_text.specs.store.Number.{number_of};
 ghost use Rattle.file_tables.specs.script.Row.{row_of};
-ghost use Rattle.base_records.specs.SoFar.{all_of, one_or_none, so_far_of};
+ghost use Rattle.base_records.specs.SoFar.{all_of, so_far_of};
 ghost use Rattle.file_tables.specs.script.Values.{values_of};
 ghost use Rattle.file_tables.specs.script.Checks.{is_taken, has_good_name, what_at, deadline_of};
 ghost use Rattle.file_tables.specs.script.Checks.{span_between};
@@ -39,7 +39,7 @@ fn is_any(scripts: &[Script], name: &[u8]) -> bool
 
 fn is_latest(latest: &Option<Script>, name: &[u8]) -> bool
     ensures { result ≡ list_any (λ script. bytes_eq script.name name.now)
-        (one_or_none (option_map values_of latest.now)) }
+        (option_to_list (option_map values_of latest.now)) }
 {
     match latest {
         Some(script) => is(script.name.bytes(), name),

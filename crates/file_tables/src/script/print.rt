@@ -11,7 +11,9 @@ ghost use Rattle.file_tables.specs.script.Printed.{records_text};
 ghost use Rattle.file_tables.specs.script.Scripts.{scripts_in};
 
 use itoa::Buffer;
-use model_line::{Kind, Line, Memory, Script, SeenSpan, What, channel_name, element_word};
+use model_line::{
+    Kind, Line, Memory, Script, SeenSpan, What, channel_name, element_word, kind_word,
+};
 use std::alloc::Global;
 
 /// The file of these scripts: the header and each script's records.
@@ -56,9 +58,10 @@ fn push_head(alloc: Global, text: &mut Vec<u8>, script: &Script) -> Result<(), M
     let name = script.name.bytes();
     let mut buffer = Buffer::new();
     let deadline = buffer.format(script.deadline).as_bytes();
+    let kind = kind_word(script.kind);
     match script.kind {
-        Kind::Internal => push_record(alloc, text, name, b"internal", b"", deadline, b""),
-        Kind::External => push_record(alloc, text, name, b"external", b"", b"", b""),
+        Kind::Internal => push_record(alloc, text, name, kind, b"", deadline, b""),
+        Kind::External => push_record(alloc, text, name, kind, b"", b"", b""),
     }
 }
 

@@ -14,6 +14,7 @@ ghost use Rattle.file_tables.specs.timing.Timings.{timings_in};
 
 use crate::timing::laws::timings_are_read_back;
 use base_records::{Memory, push_record};
+use base_text::pieces::text_of;
 use itoa::Buffer;
 use model_line::Line;
 use model_line::laws::{delays_are_parameters, parameters_are_numbered};
@@ -126,21 +127,10 @@ fn push_step(
     let param = line.params[step.param as usize].name;
     let mut digits = Buffer::new();
     let from = digits.format(step.from).as_bytes();
-    let mut field: Vec<u8> = Vec::new(alloc);
-    push_name(&mut field, param.bytes(), from)?;
+    let field = text_of(alloc, &[param.bytes(), b"@", from])?;
     let mut digits = Buffer::new();
     let value = digits.format(step.value.value()).as_bytes();
     push_fields(alloc, text, name, field.as_slice(), value)
-}
-
-// Appends the name of a step: its parameter, `@` and its tick.
-fn push_name(field: &mut Vec<u8>, param: &[u8], from: &[u8]) -> Result<(), Memory>
-    ensures { OnOk result (field.new.items ≡ field.old.items ++ (param.now ++ 64 ∷ from.now)) }
-{
-    field.extend_from_slice(param)?;
-    field.extend_from_slice(b"@")?;
-    field.extend_from_slice(from)?;
-    Ok(())
 }
 
 // A record of three fields.

@@ -4,11 +4,12 @@ use Rattle.std.proofs.Common.{[], ◌∷◌, Option, None, Some, subst, refl, ar
 use Rattle.std.proofs.Math.Nat.{mul-le-mul_right}
 use Rattle.std.proofs.lemmas.Bool.{ltb-false}
 use Rattle.std.specs.Prelude.{slice_get, nat_lt, ◌==◌, ◌&&◌}
+use Rattle.std.specs.Option.{option_or}
 use Rattle.model_line.specs.{declared.line.Line.Line, Parameters.is_delay}
 use Rattle.judge_margins.specs.{declared.map.axis.Axis.Axis, declared.map.axis.Axes.Axes}
 use Rattle.judge_margins.specs.map.Axes.{CanMove, CanMoveBoth, CanMoveSecond, count_along, least_at}
 use Rattle.judge_margins.specs.declared.map.fault.MapFault.{MapFault}
-use Rattle.judge_margins.specs.map.Faults.{first_fault, axis_fault, second_fault, count_fault, or_else}
+use Rattle.judge_margins.specs.map.Faults.{first_fault, axis_fault, second_fault, count_fault}
 use Rattle.judge_margins.specs.map.Faults.{map_fault}
 use Rattle.judge_margins.specs.map.Placed.{width_of}
 
@@ -61,7 +62,7 @@ pub can_move_second : (line : Line) (y : Option Axis) → second_fault line y �
 can_move_second line None none = tt
 can_move_second line (Some axis) none = can_move line axis none
 
-neither : (a b : Option MapFault) → or_else a b ≡ None → (a ≡ None) × (b ≡ None)
+neither : (a b : Option MapFault) → option_or a b ≡ None → (a ≡ None) × (b ≡ None)
 neither None b none = (refl, none)
 neither (Some fault) b none = absurd (cc)
 
@@ -69,7 +70,7 @@ pub can_move_both : (line : Line) (axes : Axes) → map_fault line axes ≡ None
     → CanMoveBoth line axes
 can_move_both line axes none =
     let first = neither (axis_fault line axes.x)
-    (or_else (second_fault line axes.y) (count_fault axes)) none in
+    (option_or (second_fault line axes.y) (count_fault axes)) none in
     let then = neither (second_fault line axes.y) (count_fault axes) first.1 in
     record {
       x = can_move line axes.x first.0;

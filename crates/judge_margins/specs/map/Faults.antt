@@ -1,6 +1,7 @@
 -- Why a map cannot be made.
 use Rattle.std.specs.Prelude.{◌+◌, ◌-◌, ◌==◌, ◌&&◌, ℕ, List, [], ◌∷◌, Option, None, Some, nat_lt}
 use Rattle.std.specs.Prelude.{if◌then◌else◌}
+use Rattle.std.specs.Option.{option_or}
 use Rattle.model_line.specs.{declared.line.Line.Line, Parameters.is_delay}
 use Rattle.model_line.specs.NamesByNumber.{parameter_name}
 use Rattle.judge_margins.specs.{declared.map.axis.Axis.Axis, declared.map.axis.Axes.Axes}
@@ -25,11 +26,6 @@ abbrev pub second_fault : Line → Option Axis → Option MapFault
 second_fault line None = None
 second_fault line (Some axis) = axis_fault line axis
 
--- the first fault, or else the other
-abbrev pub or_else : Option MapFault → Option MapFault → Option MapFault
-or_else None other = other
-or_else (Some fault) other = Some fault
-
 -- 40,000 cells are the most
 abbrev pub count_fault : Axes → Option MapFault
 count_fault axes = if nat_lt 40000 (cell_count axes) then Some TooMany else None
@@ -37,4 +33,4 @@ count_fault axes = if nat_lt 40000 (cell_count axes) then Some TooMany else None
 -- the first axis comes before the second, and both before the number of cells
 abbrev pub map_fault : Line → Axes → Option MapFault
 map_fault line axes =
-    or_else (axis_fault line axes.x) (or_else (second_fault line axes.y) (count_fault axes))
+    option_or (axis_fault line axes.x) (option_or (second_fault line axes.y) (count_fault axes))

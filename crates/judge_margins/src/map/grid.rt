@@ -16,9 +16,9 @@ ghost use Rattle.judge_margins.specs.map.Cells.{AreCells, AreCellsBelow};
 use crate::map::axis::Axes;
 use crate::map::cell::Cell;
 use crate::map::known::laws_below;
-use crate::map::ruled::{Ruled, cell_in_lane, tripped_in};
+use crate::map::ruled::{Ruled, cell_in_lane};
 use crate::map::spans::cell_spans;
-use judge_verdict::boxes::{Spans64, Terns64};
+use judge_verdict::boxes::{Spans64, Terns64, tripped};
 use model_line::{Kind, Line, Memory, Script};
 use model_timing::Step;
 use net_gates::Compiled;
@@ -130,7 +130,7 @@ fn rule_script(
     let tracks = run_tracks::<Terns64>(alloc, compiled, script, spans, &steps)?;
     let ticks = ticks_of(compiled.line, script);
     for k in 0..compiled.line.terminals.len() {
-        let tripped = tripped_in(&tracks.trips[k], ticks);
+        let tripped = tripped(&tracks.trips[k], ticks);
         ruled.push(Ruled {
             kind: script.kind,
             tripped,

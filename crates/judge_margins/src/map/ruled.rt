@@ -1,10 +1,6 @@
 //! What 64 lanes say of an obligation.
 
-ghost use Rattle.std.specs.Prelude.{◌≡◌, ◌<◌, ◌≤◌, ℕ, Some, IfOk, length, slice_get};
-ghost use Rattle.model_history.specs.Elements.{some_below};
-ghost use Rattle.run_signal.specs.SentKeys.{SentKeys};
-ghost use Rattle.judge_verdict.specs.boxes.Terns.{terns_rails};
-ghost use Rattle.judge_verdict.specs.boxes.Held.{must_trip, may_trip};
+ghost use Rattle.std.specs.Prelude.{◌≡◌, ◌<◌, Some, IfOk, length, slice_get};
 ghost use Rattle.judge_verdict.specs.verdict.Rules.{rule_from, rule_named};
 ghost use Rattle.judge_margins.specs.map.Blocks.{IsLaneOf, IsRuleIn};
 ghost use Rattle.judge_margins.specs.declared.map.ruled.Ruled.{Ruled as RuledOf};
@@ -13,7 +9,7 @@ use crate::map::cell::Cell;
 use judge_verdict::boxes::Terns64;
 use judge_verdict::verdict::Rule;
 use model_line::{Kind, Memory};
-use run_signal::{Signal, Track};
+use run_signal::Signal;
 use std::alloc::Global;
 
 /// The kind of a script, and whether the trip at a terminal must, or may, be on at some tick that
@@ -22,21 +18,6 @@ use std::alloc::Global;
 pub struct Ruled {
     pub kind: Kind,
     pub tripped: Terns64,
-}
-
-/// The lanes in which a trip must, or may, be on at some of the first ticks.
-pub fn tripped_in(trip: &Track<Terns64>, ticks: u32) -> Terns64
-    requires { ticks ≤ length trip.now.keys }
-    ensures must { (lane : ℕ) → lane < 64 →
-        (terns_rails result lane).must ≡ some_below (must_trip trip.now lane) ticks }
-    ensures may { (lane : ℕ) → lane < 64 →
-        (terns_rails result lane).may ≡ some_below (may_trip trip.now lane) ticks }
-{
-    let mut lanes = Terns64::known(false);
-    for t in 0..ticks {
-        lanes = trip.at(t).or(lanes);
-    }
-    lanes
 }
 
 /// The rules of a lane.

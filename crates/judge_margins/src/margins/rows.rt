@@ -11,11 +11,10 @@ ghost use Rattle.judge_margins.specs.margins.Groups.{IsGroup};
 
 use crate::margins::ask::Ask;
 use crate::margins::group::Group;
-use crate::margins::held::held_lanes;
 use crate::margins::known::laws_below;
 use crate::margins::spans::ask_spans;
 use judge_report::Lost;
-use judge_verdict::boxes::{Spans64, Terns64};
+use judge_verdict::boxes::{Spans64, Terns64, held_lanes};
 use model_line::{Memory, Script};
 use model_timing::Step;
 use run_changes::changes::run_tracks;

@@ -7,7 +7,8 @@ use Rattle.std.specs.Bool.{beq}
 use Rattle.std.proofs.lemmas.List.Elements.{filter-append, All-cons, All-nil, All-head, All-tail}
 use Rattle.std.proofs.lemmas.List.Elements.{All-append, All-weaker}
 use Rattle.std.proofs.lemmas.Bool.{cases_lt, le-leb, lt-leb}
-use Rattle.judge_match.specs.explain.Changes.{before, turns, changes, AreNear, HaveSameChanges}
+use Rattle.run_changes.specs.rows.PlayRows.{value_before}
+use Rattle.judge_match.specs.explain.Changes.{turns, changes, AreNear, HaveSameChanges}
 use Rattle.judge_match.specs.explain.Changes.{StaysAround}
 
 -- ---- one tick more
@@ -56,14 +57,14 @@ changes_not u n off =
 -- ---- signals that are the same have the same changes
 
 before_same : (u v : ℕ → Bool) (n t : ℕ) → ((r : ℕ) → r < n → u r ≡ v r) → t < n
-    → before u t ≡ before v t
+    → value_before u t ≡ value_before v t
 before_same u v n zero same below = refl
 before_same u v n (suc t) same below = same t (omega arith)
 
 turns_same : (u v : ℕ → Bool) (n t : ℕ) → ((r : ℕ) → r < n → u r ≡ v r) → t < n
     → turns u t ≡ turns v t
 turns_same u v n t same below =
-    ap (λ b. not (beq b (before u t))) (same t below)
+    ap (λ b. not (beq b (value_before u t))) (same t below)
     ∙ ap (λ b. not (beq (v t) b)) (before_same u v n t same below)
 
 pub changes_same : (u v : ℕ → Bool) (n : ℕ) → ((r : ℕ) → r < n → u r ≡ v r)
@@ -121,14 +122,14 @@ xor_false true = refl
 xor_false false = refl
 
 -- after all changes the level is the last one
-flips_past : (u : ℕ → Bool) (m t : ℕ) → m ≤ suc t → flips (changes u m) t ≡ before u m
+flips_past : (u : ℕ → Bool) (m t : ℕ) → m ≤ suc t → flips (changes u m) t ≡ value_before u m
 flips_past u zero t past = refl
 flips_past u (suc m) t past =
     ap (λ l. flips l t) (changes_more u m)
     ∙ flips_append (changes u m) (one_if (turns u m) m) t
     ∙ ap (λ b. xor b (flips (one_if (turns u m) m) t)) (flips_past u m t (omega arith))
-    ∙ ap (xor (before u m)) (flips_one (turns u m) m t (omega arith))
-    ∙ xor_turn (before u m) (u m)
+    ∙ ap (xor (value_before u m)) (flips_one (turns u m) m t (omega arith))
+    ∙ xor_turn (value_before u m) (u m)
 
 -- a signal has at a tick the level that its changes up to there tell
 level_told : (u : ℕ → Bool) (n t : ℕ) → t < n → flips (changes u n) t ≡ u t

@@ -20,7 +20,8 @@ use Rattle.model_logic.specs.Choice.{IsIn, IsWithin}
 use Rattle.model_timing.specs.{declared.step.Step.Step, Timing.TimingValues, Timing.number_at}
 use Rattle.model_timing.specs.Choice.{timing_choice}
 use Rattle.judge_match.specs.explain.Explains.{IsSteadyInside}
-use Rattle.judge_match.specs.explain.Parts.{interval_of, part_box, declared_part, LiesIn, CanPart}
+use Rattle.model_logic.specs.Boxes.{interval_of}
+use Rattle.judge_match.specs.explain.Parts.{part_box, declared_part, LiesIn, CanPart}
 use Rattle.judge_match.specs.explain.Parts.{lower_part, upper_part}
 use Rattle.judge_match.specs.explain.Asked.{IsPart}
 

@@ -17,8 +17,9 @@ use Rattle.judge_match.specs.declared.matching.fault.SeenFault.TheVariants as fa
 use Rattle.judge_match.specs.matching.Heads.{HeadValues, with_head, AllHeadsNamed, IsNamed}
 use Rattle.judge_match.specs.matching.Heads.{with_change}
 use Rattle.judge_match.specs.matching.Waves.{SeenValues, seen_values, seen_of}
+use Rattle.base_records.specs.Fields.{level_named}
 use Rattle.judge_match.specs.matching.Checks.{is_head, is_taken, name_for, place_at, comes_later}
-use Rattle.judge_match.specs.matching.Checks.{level_of, level_before, other_level, change_of}
+use Rattle.judge_match.specs.matching.Checks.{level_before, other_level, change_of}
 use Rattle.judge_match.specs.matching.Records.{after_row, after_name, after_record}
 use Rattle.judge_match.specs.{declared.matching.seen.Seen.Seen, matching.Row.Row, matching.Row.row_in}
 
@@ -64,7 +65,7 @@ module _ (line : Line) (scripts : List Script) where
       let last : HeadValues → Place → ℕ → Bool → Result (SoFar HeadValues) SeenFault =
       λ h p k level. Ok (with_change s h (change_of p k level)) in
       let level : HeadValues → Place → Result Bool SeenFault =
-      λ h p. ok_or (other_level (level_before h p) (level_of row.level)) (fault.Level n) in
+      λ h p. ok_or (other_level (level_before h p) (level_named row.level)) (fault.Level n) in
       let later : HeadValues → Place → ℕ → Result (Unit {0}) SeenFault =
       λ h p k. passes_or (comes_later h.latest k p) (fault.Later n) in
       let tick : Result ℕ SeenFault =

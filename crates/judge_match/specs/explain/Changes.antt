@@ -1,16 +1,12 @@
 -- Where signals change, and signals that have the same changes, each at about the same tick.
-use Rattle.std.specs.Prelude.{◌≡◌, ◌≤◌, ◌<◌, ◌+◌, ℕ, zero, suc, Bool, false, not, List, filter}
+use Rattle.std.specs.Prelude.{◌≡◌, ◌≤◌, ◌<◌, ◌+◌, ℕ, Bool, false, not, List, filter}
 use Rattle.std.specs.List.{AllZip, range_with_len}
 use Rattle.std.specs.Bool.{beq}
-
--- the level before a tick: off before tick 0
-abbrev pub before : (ℕ → Bool) → ℕ → Bool
-before u zero = false
-before u (suc t) = u t
+use Rattle.run_changes.specs.rows.PlayRows.{value_before}
 
 -- the signal has another level at a tick than before it
 abbrev pub turns : (ℕ → Bool) → ℕ → Bool
-turns u t = not (beq (u t) (before u t))
+turns u t = not (beq (u t) (value_before u t))
 
 -- the ticks of the first n at which it does, in order; it goes on at the first of them, off at the
 -- second, and so on

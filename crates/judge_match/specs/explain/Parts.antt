@@ -2,10 +2,10 @@
 use Rattle.std.specs.Prelude.{◌≡◌, ◌≤◌, ◌<◌, ◌+◌, ◌++◌, ◌⊎◌, ℕ, Bool, List, [], ◌∷◌, map, get_or, length}
 use Rattle.std.specs.Prelude.{slice_set}
 use Rattle.std.specs.List.{range_with_len}
-use Rattle.model_history.specs.Rails.{Ends, single, Covers}
+use Rattle.model_history.specs.Rails.{Ends, Covers}
 use Rattle.model_line.specs.{declared.line.Line.Line, declared.script.Script.Script}
 use Rattle.model_line.specs.Parameters.{param_count, terminal_count, declared_ends}
-use Rattle.model_logic.specs.{Boxes.box_of, Choice.Box, Choice.IsIn}
+use Rattle.model_logic.specs.{Boxes.box_of, Boxes.interval_of, Choice.Box, Choice.IsIn}
 use Rattle.model_logic.specs.Histories.{History, PairHistory, IsPairHistory}
 use Rattle.model_timing.specs.Timing.{TimingValues}
 use Rattle.judge_match.specs.explain.Changes.{StaysAround}
@@ -13,9 +13,7 @@ use Rattle.judge_match.specs.explain.Explains.{Explains, signal_of, pairs_of}
 use Rattle.judge_match.specs.declared.explain.tree.PartNode.{PartNode}
 use Rattle.judge_match.specs.declared.explain.tree.PartNode.TheVariants as node
 
--- a part is an interval for each parameter, in the order of the line; past the last 0
-abbrev pub interval_of : List Ends → ℕ → Ends
-interval_of part i = get_or part i (single 0)
+-- a part is an interval for each parameter, in the order of the line
 
 -- the box of a part: each delay stays in its interval
 abbrev pub part_box : Line → List Ends → Box

@@ -47,16 +47,10 @@ abbrev pub comes_later : Option Change → ℕ → Place → Bool
 comes_later None t place = true
 comes_later (Some c) t place = comes_after c t place
 
--- its level is another than the signal has
-abbrev pub level_of : List ℕ → Option Bool
-level_of text =
-    if bytes_eq text (codes "0") then Some false
-    else if bytes_eq text (codes "1") then Some true
-    else None
-
 abbrev pub level_before : HeadValues → Place → Bool
 level_before head place = level_after place.terminal place.trip head.changes false
 
+-- its level is another than the signal has
 abbrev pub other_level : Bool → Option Bool → Option Bool
 other_level before level = option_filter (λ l. not (beq l before)) level
 

@@ -11,7 +11,8 @@ use Rattle.base_records.specs.SoFar.{nothing}
 use Rattle.base_text.specs.store.Number.{number_of}
 use Rattle.judge_match.specs.declared.matching.fault.SeenFault.{SeenFault}
 use Rattle.judge_match.specs.declared.matching.fault.SeenFault.TheVariants as fault
-use Rattle.judge_match.specs.matching.Checks.{is_head, name_for, place_at, comes_later, level_of}
+use Rattle.base_records.specs.Fields.{level_named}
+use Rattle.judge_match.specs.matching.Checks.{is_head, name_for, place_at, comes_later}
 use Rattle.judge_match.specs.matching.Checks.{level_before, other_level, change_of}
 use Rattle.judge_match.specs.{matching.Heads.HeadValues, matching.Heads.with_head, matching.Heads.with_change, matching.Row.Row}
 use Rattle.judge_match.specs.matching.Row.{header_record, row_in}
@@ -23,7 +24,7 @@ after_row line s n row script = do
   place ← ok_or (place_at line row) (fault.BadPlace n)
   t ← ok_or (option_filter (λ t. nat_lt t line.horizon) (number_of row.tick)) (fault.Ticks n)
   later ← passes_or (comes_later head.latest t place) (fault.Later n)
-  level ← ok_or (other_level (level_before head place) (level_of row.level)) (fault.Level n)
+  level ← ok_or (other_level (level_before head place) (level_named row.level)) (fault.Level n)
   Ok (with_change s head (change_of place t level))
 
 abbrev pub after_name : Line → SoFar HeadValues → ℕ → Row → ℕ → Result (SoFar HeadValues) SeenFault

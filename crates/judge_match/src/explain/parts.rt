@@ -4,13 +4,15 @@ ghost use Rattle.std.specs.Prelude.{◌≡◌, ◌≤◌, ◌<◌, ◌+◌, IfOk
 ghost use Rattle.model_history.specs.Rails.{Ends};
 ghost use Rattle.model_line.specs.Parameters.{param_count, declared_ends};
 ghost use Rattle.run_signal.specs.Spans.{AreInOrder};
-ghost use Rattle.judge_match.specs.explain.Parts.{declared_part as part_declared, CanPart, interval_of};
+ghost use Rattle.model_logic.specs.Boxes.{interval_of};
+ghost use Rattle.judge_match.specs.explain.Parts.{declared_part as part_declared, CanPart};
 ghost use Rattle.judge_match.specs.explain.Parts.{lower_part as part_below, upper_part as part_above};
 ghost use Rattle.judge_match.specs.explain.Asked.{IsPart};
 
-use model_line::laws::{declared_intervals_are_in_order, delays_are_parameters};
+use model_line::laws::delays_are_parameters;
 use model_line::{Line, Memory};
 use model_logic::laws::each_line_has_a_choice_inside;
+use model_timing::declared_interval;
 use run_signal::Within;
 use std::alloc::Global;
 
@@ -27,17 +29,6 @@ pub fn declared_part(alloc: Global, line: &Line) -> Result<Vec<Within>, Memory>
         part.push(own)?;
     }
     Ok(part)
-}
-
-// The declared interval of a parameter.
-fn declared_interval(line: &Line, param: u32) -> Within
-    requires { param < param_count line.now }
-    ensures { result ≡ declared_ends line.now param }
-{
-    declared_intervals_are_in_order();
-    let least = line.least(param);
-    let greatest = line.greatest(param);
-    Within::new(least, greatest)
 }
 
 /// Whether neither side is empty where a part is parted there.

@@ -1,22 +1,24 @@
 //! The checks of one record, each of them alone.
 
 ghost use Rattle.std.specs.Prelude.{◌≡◌, ◌==◌, ◌≤◌, option_map, false, length, nat_lt};
+ghost use Rattle.std.specs.Prelude.{option_to_list};
 ghost use Rattle.std.specs.List.{list_any};
 ghost use Rattle.std.proofs.lemmas.Map.Entries.{option_filter};
 ghost use Rattle.model_names.specs.NumbersByName.{script_named};
-ghost use Rattle.base_records.specs.SoFar.{one_or_none, so_far_of};
+ghost use Rattle.base_records.specs.SoFar.{so_far_of};
 ghost use Rattle.base_text.specs.store.Number.{number_of};
 ghost use Rattle.judge_match.specs.matching.Row.{row_of};
 ghost use Rattle.judge_match.specs.matching.Heads.{values_of, level_after as level_left};
 ghost use Rattle.judge_match.specs.matching.Heads.{is_of as is_of_signal};
 ghost use Rattle.judge_match.specs.matching.Checks.{is_head as heads, is_taken, name_for, signal_of};
-ghost use Rattle.judge_match.specs.matching.Checks.{place_at, comes_after, comes_later, level_of};
+ghost use Rattle.judge_match.specs.matching.Checks.{place_at, comes_after, comes_later};
+ghost use Rattle.base_records.specs.Fields.{level_named as level_in};
 ghost use Rattle.judge_match.specs.matching.Checks.{level_before, other_level};
 
 use crate::matching::change::{Change, Place};
 use crate::matching::fields::Fields;
 use crate::matching::heads::Head;
-use base_records::{Reading, is, is_nothing};
+use base_records::{Reading, is, is_nothing, level_named};
 use base_text::store::number;
 use model_line::{Line, Script};
 use model_names::{script_of_name, terminal_of_name};
@@ -65,7 +67,7 @@ fn is_any(heads: &[Head], script: u32) -> bool
 
 fn is_latest(latest: &Option<Head>, script: u32) -> bool
     ensures { result ≡ list_any (λ h. h.script == script)
-        (one_or_none (option_map values_of latest.now)) }
+        (option_to_list (option_map values_of latest.now)) }
 {
     match latest {
         Some(head) => head.script == script,
@@ -124,25 +126,13 @@ fn is_after(change: Change, t: u32, place: Place) -> bool
 
 /// The level of a row, where its signal has the other one.
 pub fn level(head: &Head, place: Place, text: &[u8]) -> Option<bool>
-    ensures { result ≡ other_level (level_before (values_of head.now) place) (level_of text.now) }
+    ensures { result ≡ other_level (level_before (values_of head.now) place) (level_in text.now) }
 {
     let level = level_named(text)?;
     if level == level_after(&head.changes, place.terminal, place.trip) {
         None
     } else {
         Some(level)
-    }
-}
-
-fn level_named(text: &[u8]) -> Option<bool>
-    ensures { result ≡ level_of text.now }
-{
-    if is(text, b"0") {
-        Some(false)
-    } else if is(text, b"1") {
-        Some(true)
-    } else {
-        None
     }
 }
 

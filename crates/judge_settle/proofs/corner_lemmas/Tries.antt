@@ -7,13 +7,13 @@ use Rattle.std.proofs.lemmas.List.{get_or-set_same, get_or-set_other, length-set
 use Rattle.std.proofs.lemmas.List.Edits.{length-remove, get_or-remove_below, get_or-remove_above}
 use Rattle.std.proofs.lemmas.List.Elements.{All-contains, All-contains_itself}
 use Rattle.model_line.specs.{declared.line.Line.Line, Parameters.param_count}
-use Rattle.model_line.specs.Parameters.{declared_ends}
+use Rattle.model_line.specs.Parameters.{declared_ends, declared_middle}
 use Rattle.model_logic.specs.Choice.{IsIn}
 use Rattle.model_timing.specs.{Timing.TimingValues, Inside.IsTimingInside}
 use Rattle.model_timing.specs.Inside.{IsStepInside}
 use Rattle.judge_settle.specs.corner.Obligations.{IsFailed, IsTold}
 use Rattle.judge_settle.specs.declared.corner.obligation.Obligation.{Obligation}
-use Rattle.judge_settle.specs.corner.Cuts.{IsLeftOf, number, nominal_of, least_of, with_number, without_step}
+use Rattle.judge_settle.specs.corner.Cuts.{IsLeftOf, number, least_of, with_number, without_step}
 use Rattle.judge_settle.specs.corner.Rounds.{IsRound, IsTried, weight}
 use Rattle.judge_settle.proofs.corner_lemmas.Weights.{weight_with, weight_without, less_at_nominal, less_at_least}
 
@@ -73,7 +73,7 @@ left_of_left line a b c one other = record {
       (λ (same : number c i ≡ number b i). ⊎_elim
       (λ (whole : number b i ≡ number a i). inl (same ∙ whole))
       (λ put. inr (⊎_elim
-      (λ (middle : number b i ≡ nominal_of line i). inl (same ∙ middle))
+      (λ (middle : number b i ≡ declared_middle line i). inl (same ∙ middle))
       (λ (least : number b i ≡ least_of line i). inr (same ∙ least))
       put))
       (one.numbers i lt))
@@ -84,15 +84,15 @@ left_of_left line a b c one other = record {
 }
 
 pub left_with : (line : Line) (t : TimingValues) (p x : ℕ) → p < length t.values
-    → (x ≡ nominal_of line p) ⊎ (x ≡ least_of line p) → IsLeftOf line t (with_number t p x)
+    → (x ≡ declared_middle line p) ⊎ (x ≡ least_of line p) → IsLeftOf line t (with_number t p x)
 left_with line t p x within put = record {
   numbers = λ i lt. ⊎_elim
       (λ (at : i ≡ p).
       subst (λ (q : ℕ). (number (with_number t p x) q ≡ number t q)
-      ⊎ ((number (with_number t p x) q ≡ nominal_of line q)
+      ⊎ ((number (with_number t p x) q ≡ declared_middle line q)
       ⊎ (number (with_number t p x) q ≡ least_of line q))) (sym at)
       (let here = get_or-set_same t.values p x 0 within in
-      inr (⊎_elim (λ (middle : x ≡ nominal_of line p). inl (here ∙ middle))
+      inr (⊎_elim (λ (middle : x ≡ declared_middle line p). inl (here ∙ middle))
       (λ (least : x ≡ least_of line p). inr (here ∙ least)) put)))
       (λ other.
       let apart : i ≢ p = ⊎_elim (λ (b : i < p). omega arith) (λ (a : p < i). omega arith) other in
@@ -188,20 +188,20 @@ try_kept of old tried told tells is = record {
 -- a number put to the middle, or to the least
 pub put_to_nominal : (of : Obligation) (cut new : TimingValues) (p : ℕ) (taken : Bool)
     → p < param_count of.compiled.line.now → IsFailed of cut
-    → number cut p ≢ nominal_of of.compiled.line.now p
-    → IsTried of cut (with_number cut p (nominal_of of.compiled.line.now p)) new taken → IsRound of
+    → number cut p ≢ declared_middle of.compiled.line.now p
+    → IsTried of cut (with_number cut p (declared_middle of.compiled.line.now p)) new taken → IsRound of
     cut new taken
 put_to_nominal of cut new p taken there fails apart tried =
     let line = of.compiled.line.now in
     let within : p < length cut.values = omega (arith, there, fails.inside.count) in
-    round_of_try of cut (with_number cut p (nominal_of line p)) new taken fails
-    (left_with line cut p (nominal_of line p) within (inl refl))
-    (weight_with line cut p (nominal_of line p) within there
-    (less_at_nominal (nominal_of line p) (least_of line p) (number cut p) apart)) tried
+    round_of_try of cut (with_number cut p (declared_middle line p)) new taken fails
+    (left_with line cut p (declared_middle line p) within (inl refl))
+    (weight_with line cut p (declared_middle line p) within there
+    (less_at_nominal (declared_middle line p) (least_of line p) (number cut p) apart)) tried
 
 pub put_to_least : (of : Obligation) (cut new : TimingValues) (p : ℕ) (taken : Bool)
     → p < param_count of.compiled.line.now → IsFailed of cut
-    → number cut p ≢ nominal_of of.compiled.line.now p → number cut p ≢ least_of
+    → number cut p ≢ declared_middle of.compiled.line.now p → number cut p ≢ least_of
     of.compiled.line.now p
     → IsTried of cut (with_number cut p (least_of of.compiled.line.now p)) new taken → IsRound of
     cut new taken
@@ -211,7 +211,7 @@ put_to_least of cut new p taken there fails apart other tried =
     round_of_try of cut (with_number cut p (least_of line p)) new taken fails
     (left_with line cut p (least_of line p) within (inr refl))
     (weight_with line cut p (least_of line p) within there
-    (less_at_least (nominal_of line p) (least_of line p) (number cut p) apart other)) tried
+    (less_at_least (declared_middle line p) (least_of line p) (number cut p) apart other)) tried
 
 pub step_left : (of : Obligation) (cut new : TimingValues) (j : ℕ) (taken : Bool)
     → j < length cut.steps → IsFailed of cut → IsTried of cut (without_step cut j) new taken

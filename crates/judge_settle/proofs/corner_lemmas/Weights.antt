@@ -5,9 +5,10 @@ use Rattle.std.proofs.lemmas.Bool.{cases_lt}
 use Rattle.std.proofs.lemmas.List.{get_or-set_same, get_or-set_other}
 use Rattle.std.proofs.lemmas.List.Edits.{length-remove}
 use Rattle.std.proofs.lemmas.Bool.Decides.{nat_tests}
-use Rattle.model_line.specs.{declared.line.Line.Line, Parameters.param_count}
+use Rattle.model_line.specs.declared.line.Line.{Line}
+use Rattle.model_line.specs.Parameters.{declared_middle, param_count}
 use Rattle.model_timing.specs.Timing.{TimingValues}
-use Rattle.judge_settle.specs.corner.Cuts.{number, nominal_of, least_of, with_number, without_step}
+use Rattle.judge_settle.specs.corner.Cuts.{number, least_of, with_number, without_step}
 use Rattle.judge_settle.specs.corner.Rounds.{said_by, said_by_first, weight}
 
 -- a number put to the middle says less than one that is not there; put to the least it says less
@@ -29,18 +30,18 @@ module _ (line : Line) (timing : TimingValues) (p x : ℕ) (within : p < length 
       → said_by_first line (with_number timing p x) n ≡ said_by_first line timing n
   same_before zero le = refl
   same_before (suc n) le =
-      ap₂ (λ (a b : ℕ). a + said_by (nominal_of line n) (least_of line n) b)
+      ap₂ (λ (a b : ℕ). a + said_by (declared_middle line n) (least_of line n) b)
       (same_before n (omega arith)) (same_number n (omega arith))
 
-  pub less_with : said_by (nominal_of line p) (least_of line p) x
-      < said_by (nominal_of line p) (least_of line p) (number timing p) → (n : ℕ) → p < n
+  pub less_with : said_by (declared_middle line p) (least_of line p) x
+      < said_by (declared_middle line p) (least_of line p) (number timing p) → (n : ℕ) → p < n
       → said_by_first line (with_number timing p x) n < said_by_first line timing n
   less_with less zero lt = absurd (omega arith)
   less_with less (suc n) lt =
       ⊎_elim
       (λ (before : p < n).
       let one = less_with less n before in
-      let here = ap (said_by (nominal_of line n) (least_of line n))
+      let here = ap (said_by (declared_middle line n) (least_of line n))
       (same_number n (omega arith)) in
       omega (arith, one, here))
       (λ (over : n ≤ p).
@@ -49,19 +50,19 @@ module _ (line : Line) (timing : TimingValues) (p x : ℕ) (within : p < length 
       let here : number (with_number timing p x) n ≡ x =
       subst (λ (i : ℕ). number (with_number timing p x) i ≡ x) (sym at)
       (get_or-set_same timing.values p x 0 within) in
-      let said : said_by (nominal_of line n) (least_of line n) (number (with_number timing p x) n)
-      < said_by (nominal_of line n) (least_of line n) (number timing n) =
-      subst (λ (i : ℕ). said_by (nominal_of line i) (least_of line i)
+      let said : said_by (declared_middle line n) (least_of line n) (number (with_number timing p x) n)
+      < said_by (declared_middle line n) (least_of line n) (number timing n) =
+      subst (λ (i : ℕ). said_by (declared_middle line i) (least_of line i)
       (number (with_number timing p x) i)
-      < said_by (nominal_of line i) (least_of line i) (number timing i)) (sym at)
-      (subst (λ (y : ℕ). said_by (nominal_of line p) (least_of line p) y
-      < said_by (nominal_of line p) (least_of line p) (number timing p))
+      < said_by (declared_middle line i) (least_of line i) (number timing i)) (sym at)
+      (subst (λ (y : ℕ). said_by (declared_middle line p) (least_of line p) y
+      < said_by (declared_middle line p) (least_of line p) (number timing p))
       (sym (get_or-set_same timing.values p x 0 within)) less) in
       omega (arith, one, said))
       (cases_lt p n)
 
-  pub weight_with : p < param_count line → said_by (nominal_of line p) (least_of line p) x
-      < said_by (nominal_of line p) (least_of line p) (number timing p)
+  pub weight_with : p < param_count line → said_by (declared_middle line p) (least_of line p) x
+      < said_by (declared_middle line p) (least_of line p) (number timing p)
       → weight line (with_number timing p x) < weight line timing
   weight_with there less =
       let one = less_with less (param_count line) there in
@@ -72,7 +73,7 @@ same_first : (line : Line) (timing : TimingValues) (j n : ℕ)
     → said_by_first line (without_step timing j) n ≡ said_by_first line timing n
 same_first line timing j zero = refl
 same_first line timing j (suc n) =
-    ap (λ (a : ℕ). a + said_by (nominal_of line n) (least_of line n) (number timing n))
+    ap (λ (a : ℕ). a + said_by (declared_middle line n) (least_of line n) (number timing n))
     (same_first line timing j n)
 
 pub weight_without : (line : Line) (timing : TimingValues) (j : ℕ) → j < length timing.steps

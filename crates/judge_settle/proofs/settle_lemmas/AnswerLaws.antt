@@ -8,7 +8,8 @@ use Rattle.model_logic.specs.Choice.{declared_box, LeastFromOne}
 use Rattle.model_settle.specs.Assumed.{Agrees}
 use Rattle.model_settle.specs.CaseTrees.{CaseTree, are_yes, AreSound}
 use Rattle.model_settle.specs.CaseLaws.{SoundTreesMeet}
-use Rattle.model_settle.specs.{Choices.EveryChoiceMeets, Schemes.IsOneRailedBy}
+use Rattle.model_logic.specs.Obligations.{EveryChoiceMeets}
+use Rattle.model_settle.specs.Schemes.{IsOneRailedBy}
 use Rattle.judge_settle.specs.declared.settle.grown.Grown.{Grown}
 use Rattle.judge_cases.specs.Trees.{AreTree}
 use Rattle.judge_settle.specs.settle.Trees.{IsGrown, Size, size_of_text}

@@ -5,7 +5,8 @@ use Rattle.model_line.specs.Parameters.{terminal_count}
 use Rattle.model_logic.specs.Choice.{Choice, declared_box}
 use Rattle.model_logic.specs.Histories.{PairHistory}
 use Rattle.model_logic.specs.Laws.{LineLaws}
-use Rattle.model_settle.specs.{Choices.EveryChoiceMeets, Worst.deciding, Worst.worst_choice}
+use Rattle.model_logic.specs.Obligations.{EveryChoiceMeets}
+use Rattle.model_settle.specs.{Worst.deciding, Worst.worst_choice}
 use Rattle.model_settle.specs.Schemes.{IsOneRailedBy, TheWorstChoiceDecides, scheme_sides}
 use Rattle.model_logic.specs.HeldOver.{IsHeldOver}
 

@@ -1,8 +1,8 @@
 -- A failing timing cut to what matters.
-use Rattle.std.specs.Prelude.{◌≡◌, ◌≢◌, ◌≤◌, ◌<◌, ◌+◌, ◌/◌, ◌⊎◌, ℕ, length, get_or, slice_set}
+use Rattle.std.specs.Prelude.{◌≡◌, ◌≢◌, ◌≤◌, ◌<◌, ◌⊎◌, ℕ, length, get_or, slice_set}
 use Rattle.std.specs.List.{All, Contains, remove}
 use Rattle.model_line.specs.{declared.line.Line.Line, declared.script.Script.Script}
-use Rattle.model_line.specs.Parameters.{declared_ends, param_count}
+use Rattle.model_line.specs.Parameters.{declared_ends, param_count, declared_middle}
 use Rattle.model_timing.specs.Timing.{TimingValues}
 use Rattle.judge_settle.specs.corner.Failing.{FailsInside, PassesAt}
 
@@ -11,10 +11,6 @@ use Rattle.judge_settle.specs.corner.Failing.{FailsInside, PassesAt}
 -- the number of a parameter
 abbrev pub number : TimingValues → ℕ → ℕ
 number timing i = get_or timing.values i 0
-
--- the middle of its declared interval; of two middle ones the earlier
-abbrev pub nominal_of : Line → ℕ → ℕ
-nominal_of line i = ((declared_ends line i).least + (declared_ends line i).greatest) / 2
 
 abbrev pub least_of : Line → ℕ → ℕ
 least_of line i = (declared_ends line i).least
@@ -32,9 +28,9 @@ without_step timing j = record { values = timing.values; steps = remove timing.s
 -- least, if it stands neither here nor there
 pub record NumberMatters (line : Line) (script : Script) (k : ℕ) (timing : TimingValues) (i : ℕ)
     : Type 0 where
-  pub at_nominal : number timing i ≢ nominal_of line i
-      → PassesAt line script k (with_number timing i (nominal_of line i))
-  pub at_least : number timing i ≢ nominal_of line i
+  pub at_nominal : number timing i ≢ declared_middle line i
+      → PassesAt line script k (with_number timing i (declared_middle line i))
+  pub at_least : number timing i ≢ declared_middle line i
       → number timing i ≢ least_of line i
       → PassesAt line script k (with_number timing i (least_of line i))
 
@@ -59,7 +55,7 @@ pub record EachMatters (line : Line) (script : Script) (k : ℕ) (timing : Timin
 pub record IsLeftOf (line : Line) (whole cut : TimingValues) : Type 0 where
   pub numbers : (i : ℕ) → i < param_count line
       → (number cut i ≡ number whole i)
-      ⊎ ((number cut i ≡ nominal_of line i) ⊎ (number cut i ≡ least_of line i))
+      ⊎ ((number cut i ≡ declared_middle line i) ⊎ (number cut i ≡ least_of line i))
   pub steps : All (Contains whole.steps) cut.steps
 
 -- the cut timing still fails, is what is left of the whole one, and nothing in it can be left out

@@ -8,7 +8,8 @@ use Rattle.model_logic.specs.Histories.{IsPairHistory}
 use Rattle.model_logic.specs.{Rule.is_held, Choice.declared_box}
 use Rattle.model_timing.specs.{Timing.TimingValues, Inside.IsTimingInside, Choice.timing_choice}
 use Rattle.model_timing.specs.Choice.{IsSameChoice}
-use Rattle.model_settle.specs.{Choices.EveryChoiceMeets, Worst.deciding}
+use Rattle.model_logic.specs.Obligations.{EveryChoiceMeets}
+use Rattle.model_settle.specs.Worst.{deciding}
 use Rattle.judge_settle.specs.corner.Corner.{corner}
 
 -- the history at the timing fails the obligation of terminal k

@@ -1,11 +1,12 @@
 -- Rounds of cutting, each of which leaves less.
 use Rattle.std.specs.Prelude.{◌≡◌, ◌<◌, ◌+◌, ◌==◌, ℕ, zero, suc, Bool, length, IsTrue, IsFalse}
 use Rattle.std.specs.Prelude.{if◌then◌else◌}
-use Rattle.model_line.specs.{declared.line.Line.Line, Parameters.param_count}
+use Rattle.model_line.specs.declared.line.Line.{Line}
+use Rattle.model_line.specs.Parameters.{declared_middle, param_count}
 use Rattle.model_timing.specs.Timing.{TimingValues}
 use Rattle.judge_settle.specs.declared.corner.obligation.Obligation.{Obligation}
 use Rattle.judge_settle.specs.corner.Obligations.{IsFailed, IsPassed}
-use Rattle.judge_settle.specs.corner.Cuts.{IsLeftOf, number, nominal_of, least_of}
+use Rattle.judge_settle.specs.corner.Cuts.{IsLeftOf, number, least_of}
 
 -- how much a number says: nothing in the middle of its interval, one at its least, else two
 abbrev pub said_by : ℕ → ℕ → ℕ → ℕ
@@ -15,7 +16,7 @@ said_by nominal least n = if n == nominal then 0 else if n == least then 1 else 
 abbrev pub said_by_first : Line → TimingValues → ℕ → ℕ
 said_by_first line timing zero = 0
 said_by_first line timing (suc n) =
-    said_by_first line timing n + said_by (nominal_of line n) (least_of line n) (number timing n)
+    said_by_first line timing n + said_by (declared_middle line n) (least_of line n) (number timing n)
 
 -- how much a timing says: its numbers and its steps
 abbrev pub weight : Line → TimingValues → ℕ

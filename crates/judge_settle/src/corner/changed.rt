@@ -1,27 +1,14 @@
 //! Timings with a number changed, or a step left out.
 
 ghost use Rattle.std.specs.Prelude.{◌≡◌, ◌≤◌, ◌<◌, ◌||◌, IfOk, length};
-ghost use Rattle.model_line.specs.Parameters.{declared_ends, param_count};
-ghost use Rattle.model_logic.specs.Choice.{IsIn};
-ghost use Rattle.judge_settle.specs.corner.Cuts.{nominal_of, number, with_number as number_changed};
+ghost use Rattle.judge_settle.specs.corner.Cuts.{number, with_number as number_changed};
 ghost use Rattle.judge_settle.specs.corner.Cuts.{without_step as step_left_out};
 
 use crate::corner::proved::steps_stay_in_order;
-use model_line::laws::declared_intervals_are_in_order;
-use model_line::{Line, Memory};
+use model_line::Memory;
 use model_timing::Timing;
 use run_signal::Tick;
 use std::alloc::Global;
-
-/// The middle of a parameter's declared interval, in ticks; of two middle ones the earlier.
-pub fn nominal(line: &Line, param: u32) -> u32
-    requires { param < param_count line.now }
-    ensures is { result ≡ nominal_of line.now param }
-    ensures inside { IsIn result (declared_ends line.now param) }
-{
-    declared_intervals_are_in_order();
-    (line.least(param) + line.greatest(param)) / 2
-}
 
 /// The number of a parameter.
 pub fn number_of(timing: &Timing, param: u32) -> u32
@@ -38,15 +25,6 @@ pub(crate) fn either(one: bool, other: bool) -> bool
     one || other
 }
 
-/// The same timing once more.
-pub fn copy_of(alloc: Global, timing: &Timing) -> Result<Timing, Memory>
-    ensures { IfOk result (λ copy. copy ≡ timing.now) }
-{
-    let values = Vec::from_slice(alloc, timing.values())?;
-    let steps = Vec::from_slice(alloc, timing.steps())?;
-    Ok(Timing::with_steps(values, steps))
-}
-
 /// The timing with another number of a parameter.
 pub fn with_number(
     alloc: Global,
@@ -58,7 +36,7 @@ pub fn with_number(
     requires number { number ≤ 4000 }
     ensures { IfOk result (λ changed. changed ≡ number_changed timing.now param number) }
 {
-    let mut changed = copy_of(alloc, timing)?;
+    let mut changed = timing.copy(alloc)?;
     changed.set(param, Tick::new(number));
     Ok(changed)
 }

@@ -4,7 +4,7 @@ ghost use Rattle.std.specs.Prelude.{◌≡◌, IfOk, IsFalse};
 ghost use Rattle.judge_settle.specs.corner.Obligations.{IsObligation, IsFailed, AllMatterIn, IsCutOf};
 ghost use Rattle.judge_settle.specs.corner.Rounds.{IsRound};
 
-use crate::corner::changed::{copy_of, either};
+use crate::corner::changed::either;
 use crate::corner::number::put_numbers;
 use crate::corner::obligation::Obligation;
 use crate::corner::step::leave_steps;
@@ -19,7 +19,7 @@ pub fn cut(alloc: Global, of: &Obligation, timing: &Timing) -> Result<Timing, Me
     requires fails { IsFailed of.now timing.now }
     ensures { IfOk result (IsCutOf of.now timing.now) }
 {
-    let mut cut = copy_of(alloc, timing)?;
+    let mut cut = timing.copy(alloc)?;
     let mut more = true;
     'rounds: while more {
         more = round(alloc, of, &mut cut)?;

@@ -7,7 +7,7 @@ ghost use Rattle.judge_settle.specs.corner.Obligations.{IsObligation, IsFailed, 
 ghost use Rattle.judge_settle.specs.corner.Cuts.{with_number as number_changed};
 ghost use Rattle.judge_settle.specs.corner.Rounds.{IsRound, IsTried};
 
-use crate::corner::changed::{either, nominal, number_of, with_number};
+use crate::corner::changed::{either, number_of, with_number};
 use crate::corner::obligation::Obligation;
 use crate::corner::play::fails;
 use model_line::Memory;
@@ -43,10 +43,8 @@ fn put_number(alloc: Global, of: &Obligation, cut: &mut Timing, param: u32) -> R
 {
     declared_intervals_are_in_order();
     let number = number_of(cut, param);
-    let (middle, least) = (
-        nominal(of.compiled.line, param),
-        of.compiled.line.least(param),
-    );
+    let line = of.compiled.line;
+    let (middle, least) = (line.middle(param), line.least(param));
     if number == middle {
         return Ok(false);
     }

@@ -5,7 +5,8 @@ ghost use Rattle.model_line.specs.{declared.line.Line.Line, declared.script.Scri
 ghost use Rattle.model_line.specs.{Fits.Fits, Parameters.terminal_count};
 ghost use Rattle.model_logic.specs.Choice.{declared_box};
 ghost use Rattle.model_logic.specs.HeldOver.{IsHeldOver};
-ghost use Rattle.model_settle.specs.{Schemes.IsOneRailedBy, Choices.EveryChoiceMeets};
+ghost use Rattle.model_logic.specs.Obligations.{EveryChoiceMeets};
+ghost use Rattle.model_settle.specs.Schemes.{IsOneRailedBy};
 ghost use Rattle.judge_cases.specs.{declared.view.View.View, Views.Views};
 ghost use Rattle.judge_settle.specs.corner.Decided.{OneTimingDecides};
 ghost use Rattle.judge_settle.specs.{settle.Answers.IsAnswer, settle.Trees.IsFound};

@@ -44,29 +44,25 @@ pub record RuleLaws : Type 0 where
   pub lines : (line other : Line) (script : Script) (k : ℕ) (box : Box)
       → SameButParams line other → IsHeldOver line script k box → IsHeldOver other script k box
 
--- the ends of a lane's span
-abbrev pub lane_ends : SpanLists → ℕ → Ends
-lane_ends span lane = span_ends span lane
-
 module _ (laws : LineLaws) (counts : CountsRestOnNoInterval) (line : Line) (parts : List Line)
     (are : AreParts line parts) (first : ℕ) (spans : List SpanLists)
     (spanned : ArePartSpans line parts first spans) where
   -- the box of a lane is the declared box of its part
   pub box_of_lane : (lane : ℕ) (part : Line) → lane < 64
       → slice_get parts (part_in (length parts) first lane) ≡ Some part
-      → IsSameBox line (lane_box lane_ends line spans [] lane) (declared_box part)
+      → IsSameBox line (lane_box span_ends line spans [] lane) (declared_box part)
   unfolding lane_box declared_box
   box_of_lane lane part inside at =
       let own : (i : ℕ) → i < param_count line
-      → ends_in lane_ends lane (slice_get spans i) ≡ declared_ends part i =
+      → ends_in span_ends lane (slice_get spans i) ≡ declared_ends part i =
       λ i lt.
       let there : i < length spans = omega (arith, spanned.count) in
       let (span, here) = exists_at spans i there in
-      ap (ends_in lane_ends lane) here ∙ spanned.each i span here lane part inside at in
+      ap (ends_in span_ends lane) here ∙ spanned.each i span here lane part inside at in
       record {
         numbers = own;
         delays = λ c t lt early.
-            ap (ends_in lane_ends lane)
+            ap (ends_in span_ends lane)
             (no_step (delay_param line c) t (slice_get spans (delay_param line c)))
             ∙ own (delay_param line c) (laws.parameters.delays line c lt)
             ∙ ap (declared_ends part)
@@ -76,7 +72,7 @@ module _ (laws : LineLaws) (counts : CountsRestOnNoInterval) (line : Line) (part
 
   lane_from_one : (lane : ℕ) (part : Line) → lane < 64
       → slice_get parts (part_in (length parts) first lane) ≡ Some part
-      → LeastFromOne line (lane_box lane_ends line spans [] lane)
+      → LeastFromOne line (lane_box span_ends line spans [] lane)
   lane_from_one lane part inside at c t lt early =
       let same = are.each (part_in (length parts) first lane) part at in
       let lt' = subst (λ (n : ℕ). c < n) (sym (counts.channels line part same)) lt in
@@ -97,13 +93,13 @@ module _ (laws : LineLaws) (counts : CountsRestOnNoInterval) (line : Line) (part
       (at_trip : slice_get trips k ≡ Some trip) where
     pub tells_held : (lane : ℕ) (part : Line) (bit : Bool) → lane < 64
         → slice_get parts (part_in (length parts) first lane) ≡ Some part
-        → IsTheHistory line script (lane_box lane_ends line spans [] lane)
+        → IsTheHistory line script (lane_box span_ends line spans [] lane)
         (tracks_history terns_rails lane keys trips)
         → bit ≡ is_held script.kind script.deadline line.horizon (trip_rails trip lane)
         → Decides bit (IsHeldOf script k part)
     tells_held lane part bit inside at history is =
         let w : PairHistory = tracks_history terns_rails lane keys trips in
-        let box : Box = lane_box lane_ends line spans [] lane in
+        let box : Box = lane_box span_ends line spans [] lane in
         let same = are.each (part_in (length parts) first lane) part at in
         let boxes = box_of_lane lane part inside at in
         let told : bit ≡ is_held script.kind script.deadline line.horizon (w.trip k) =

@@ -10,19 +10,13 @@ use Rattle.run_signal.specs.Spans.{ends_of}
 use Rattle.model_line.specs.Intervals.{IsInterval, leasts, greatests}
 use Rattle.model_line.specs.Parameters.{delay_param, declared_ends}
 use Rattle.model_line.specs.{declared.line.Line.Line, declared.line.Param.Param}
-use Rattle.model_logic.specs.Choice.{Box, LeastFromOne, declared_box}
+use Rattle.model_logic.specs.Choice.{LeastFromOne, declared_box}
+use Rattle.model_logic.specs.Boxes.{box_by}
 use Rattle.model_timing.specs.BlockLaws.{no_step}
 use Rattle.run_signal.specs.Terns.{tern_signal}
-use Rattle.run_step.specs.LaneBox.{ends_in, own_ends, ends_at, lane_box}
+use Rattle.run_step.specs.LaneBox.{ends_in, own_ends, own_span, ends_at, lane_box}
 use Rattle.run_step.specs.Runs.{AreDelayed}
 use Rattle.judge_verdict.specs.verdict.Spans.{declared_span, declared_spans}
-
--- the ends of a span, which are its value
-abbrev pub own_span : Ends → ℕ → Ends
-own_span span lane = span
-
-abbrev made : (ℕ → Ends) → (ℕ → ℕ → Ends) → Box
-made ends delay = record { ends = ends; delay = delay }
 
 -- the interval of a parameter is in order
 pub interval_at : (line : Line) (params : List Param) → params ≡ line.params.items
@@ -79,8 +73,8 @@ spans_make_the_box line lane =
     (no_step (delay_param line c) t (slice_get spans (delay_param line c)))
     ∙ span_at line.params.items lane (delay_param line c))) in
     ap (λ (f : ℕ → Ends).
-    made f (λ (c t : ℕ). ends_at own_span lane spans [] (delay_param line c) t)) ends
-    ∙ ap (made (declared_ends line)) delays
+    box_by f (λ (c t : ℕ). ends_at own_span lane spans [] (delay_param line c) t)) ends
+    ∙ ap (box_by (declared_ends line)) delays
 
 -- so do spans that are these, and each delay of their box is at least 1
 module _ (line : Line) (spans : List Ends) (same : spans ≡ declared_spans line) where

@@ -154,8 +154,8 @@ fn part_at(count: usize, first: usize, lane: usize) -> usize
     }
 }
 
-// The lanes in which the rule is held for a terminal with these trips.
-fn held_lanes(line: &Line, script: &Script, trip: &Track<Terns64>) -> Lanes64
+/// The lanes in which the rule is held for a terminal with these trips.
+pub fn held_lanes(line: &Line, script: &Script, trip: &Track<Terns64>) -> Lanes64
     requires deadline { script.now.deadline < line.now.horizon }
     requires horizon { length trip.now.keys ≡ line.now.horizon }
     ensures { (lane : ℕ) → lane < 64 → bit_on result lane
@@ -168,8 +168,8 @@ fn held_lanes(line: &Line, script: &Script, trip: &Track<Terns64>) -> Lanes64
     }
 }
 
-// The lanes in which the terminal must, or may, trip at some of the first ticks.
-fn tripped(trip: &Track<Terns64>, ticks: u32) -> Terns64
+/// The lanes in which the terminal must, or may, trip at some of the first ticks.
+pub fn tripped(trip: &Track<Terns64>, ticks: u32) -> Terns64
     requires { ticks ≤ length trip.now.keys }
     ensures must { (lane : ℕ) → lane < 64 →
         (terns_rails result lane).must ≡ some_below (must_trip trip.now lane) ticks }

@@ -4,13 +4,14 @@ use Rattle.std.proofs.Common.{◌≡◌, ◌<◌, ◌≤◌, ◌++◌, ℕ, zero
 use Rattle.std.proofs.Common.{◌∙◌, ap, arith, ⊎_elim}
 use Rattle.std.proofs.lemmas.Bool.{cases_lt}
 use Rattle.std.proofs.lemmas.List.{append-nil}
+use Rattle.model_history.specs.Each.{each_below}
 use Rattle.model_line.specs.NamesByNumber.{terminal_name}
 use Rattle.model_line.specs.{declared.line.Line.Line, Parameters.terminal_count}
 use Rattle.run_signal.specs.SentKeys.{SentKeys}
 use Rattle.run_signal.specs.declared.level.Level.{Level}
 use Rattle.model_history.specs.ListLaws.{exists_at}
 use Rattle.run_changes.specs.{changes.PlayedTracks.is_shown, changes.PlayedTracks.played}
-use Rattle.run_changes.specs.rows.PlayRows.{change_row, value_before, signal_row, each_below}
+use Rattle.run_changes.specs.rows.PlayRows.{change_row, value_before, signal_row}
 use Rattle.run_changes.specs.rows.PlayRows.{terminal_rows, tick_rows}
 use Rattle.run_changes.specs.rows.StandingLaws.{AllStand, no_change}
 use Rattle.run_changes.specs.declared.rows.standing.Pair.{Pair}

@@ -1,6 +1,7 @@
 -- The rows of one timing and script: a row for every change of every key and trip.
 use Rattle.std.specs.Prelude.{[], ◌∷◌, ◌++◌, ℕ, zero, suc, Bool, true, false, List, codes, decimal}
 use Rattle.std.specs.List.{concat}
+use Rattle.model_history.specs.Each.{each_below}
 use Rattle.model_line.specs.{declared.line.Line.Line, Parameters.terminal_count}
 use Rattle.model_logic.specs.Histories.{History}
 use Rattle.model_line.specs.NamesByNumber.{terminal_name}
@@ -38,11 +39,6 @@ value_before values (suc t) = values t
 abbrev pub signal_row : List ℕ → List ℕ → ℕ → List ℕ → List ℕ → (ℕ → Bool) → List ℕ
 signal_row timing script t terminal signal values =
     change_row timing script t terminal signal (value_before values t) (values t)
-
--- the texts of all numbers below n, one after another
-abbrev pub each_below : ℕ → (ℕ → List ℕ) → List ℕ
-each_below zero text = []
-each_below (suc n) text = each_below n text ++ text n
 
 -- the rows of one tick and terminal, the key's before the trip's
 abbrev pub terminal_rows : List ℕ → List ℕ → Line → History → ℕ → ℕ → List ℕ

@@ -2,21 +2,12 @@
 use Rattle.std.proofs.Common.{◌≡◌, ℕ, zero, suc, ◌+◌, ◌<◌, ◌≤◌, Bool, List, ◌++◌}
 use Rattle.std.proofs.Common.{refl, ◌∙◌, ap, arith, append_assoc}
 use Rattle.std.specs.Prelude.{codes}
+use Rattle.model_history.specs.EachLaws.{each_below-same}
 use Rattle.model_line.specs.{declared.line.Line.Line, Parameters.terminal_count}
 use Rattle.model_logic.specs.Histories.{History, IsSameHistory}
 use Rattle.model_line.specs.NamesByNumber.{terminal_name}
-use Rattle.run_changes.specs.rows.PlayRows.{change_row, value_before, signal_row, each_below}
+use Rattle.run_changes.specs.rows.PlayRows.{change_row, value_before, signal_row}
 use Rattle.run_changes.specs.rows.PlayRows.{terminal_rows, tick_rows, run_rows}
-
--- one text more
-pub texts_more : (pre old new : List ℕ) (f : ℕ → List ℕ) (k : ℕ) → old ≡ pre ++ each_below k f
-    → new ≡ old ++ f k → new ≡ pre ++ each_below (k + 1) f
-texts_more pre old new f k start step =
-    let next : suc k ≡ k + 1 = omega arith in
-    step
-    ∙ ap (λ (l : List ℕ). l ++ f k) start
-    ∙ append_assoc pre (each_below k f) (f k)
-    ∙ ap (λ (m : ℕ). pre ++ each_below m f) next
 
 -- two texts more
 pub two_texts_more : (pre mid new a b a' b' : List ℕ) → mid ≡ pre ++ a → new ≡ mid ++ b → a ≡ a'
@@ -28,20 +19,7 @@ two_texts_more pre mid new a b a' b' first second same_a same_b =
     ∙ ap (λ (l : List ℕ). pre ++ (l ++ b)) same_a
     ∙ ap (λ (l : List ℕ). pre ++ (a' ++ l)) same_b
 
--- the last of a loop
-pub texts_done : (pre text : List ℕ) (f : ℕ → List ℕ) (k n : ℕ) → n ≤ k → k ≤ n
-    → text ≡ pre ++ each_below k f → text ≡ pre ++ each_below n f
-texts_done pre text f k n over under is =
-    let last : k ≡ n = omega arith in is ∙ ap (λ (m : ℕ). pre ++ each_below m f) last
-
 -- ---- rows of histories that are the same
-
-pub each_below-same : (n : ℕ) (f g : ℕ → List ℕ) → ((k : ℕ) → k < n → f k ≡ g k)
-    → each_below n f ≡ each_below n g
-each_below-same zero f g same = refl
-each_below-same (suc n) f g same =
-    ap (λ (l : List ℕ). l ++ f n) (each_below-same n f g (λ k lt. same k (omega arith)))
-    ∙ ap (λ (l : List ℕ). each_below n g ++ l) (same n (omega arith))
 
 value_before-same : (u v : ℕ → Bool) (t : ℕ) → ((r : ℕ) → r < t → u r ≡ v r)
     → value_before u t ≡ value_before v t

@@ -16,7 +16,8 @@ use Rattle.base_text.specs.store.DigitLaws.{digit_is}
 use Rattle.run_signal.specs.declared.tern.Tern.{Tern}
 use Rattle.run_signal.specs.declared.tern.Tern.TheVariants.{Zero, One, Unknown}
 use Rattle.run_waves.specs.waves.Waves.{run_of, levels_of, AreApart, ticks_of, AreRunsOf}
-use Rattle.run_waves.specs.waves.Text.{gap, item_text, items_text, level_letter, is_space, level_in}
+use Rattle.base_text.specs.lines.Lines.{is_space}
+use Rattle.run_waves.specs.waves.Text.{gap, item_text, items_text, level_letter, level_in}
 use Rattle.run_waves.specs.waves.Text.{run_with, run_in, runs_of, runs_text}
 use Rattle.run_waves.specs.declared.waves.runs.Run.{Run}
 use Rattle.run_waves.proofs.waves_lemmas.RunLaws.{new_levels}

@@ -15,7 +15,8 @@ use Rattle.base_text.specs.store.DecimalLaws.{are_digits, number_of-decimal}
 use Rattle.run_signal.specs.declared.tern.Tern.{Tern}
 use Rattle.run_signal.specs.declared.tern.Tern.TheVariants.{Zero, One, Unknown}
 use Rattle.run_waves.specs.waves.Waves.{levels_of, runs_from, AreApart, ticks_of, AreRunsOf}
-use Rattle.run_waves.specs.waves.Text.{gap, item_text, items_text, level_letter, is_space, level_in}
+use Rattle.base_text.specs.lines.Lines.{is_space}
+use Rattle.run_waves.specs.waves.Text.{gap, item_text, items_text, level_letter, level_in}
 use Rattle.run_waves.specs.waves.Text.{run_with, run_in}
 use Rattle.run_waves.specs.{declared.waves.runs.Run.Run, declared.waves.runs.Stretch.Stretch}
 use Rattle.run_waves.proofs.waves_lemmas.RunLaws.{levels_round, new_levels, length-levels, some_ticks, run_to}

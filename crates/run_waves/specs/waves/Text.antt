@@ -1,5 +1,5 @@
 -- The text of a wave: an item for each run, with one space between each two.
-use Rattle.std.specs.Prelude.{◌≡◌, ◌==◌, ℕ, zero, suc, List, [], ◌∷◌, length, map, decimal, Bool}
+use Rattle.std.specs.Prelude.{◌≡◌, ◌==◌, ℕ, zero, suc, List, [], ◌∷◌, length, map, decimal}
 use Rattle.std.specs.Prelude.{Option, Some, None, if◌then◌else◌}
 use Rattle.std.specs.List.{join_with_byte}
 use Rattle.base_text.specs.store.Number.{number_of}
@@ -46,9 +46,6 @@ pub record IsTextOf (text : List ℕ) (horizon : ℕ) (wave : List Tern) : Type 
   pub written : runs_text wave ≡ text
 
 -- ---- reading an item
-
-abbrev pub is_space : ℕ → Bool
-is_space byte = byte == 32
 
 -- what stands before the item at a place
 abbrev pub gap : ℕ → List ℕ

@@ -13,7 +13,7 @@ returns-in_err-loaded c =
     let bytes = c.args.bytes.now in
     let how = c.args.how in
     rw (p.1, p.2) (load_halts bytes
-    (answer_by (explain_of how.within how.form (given_of bytes) c.args.record.now
+    (answer_by (explain_of how.within how.form (given_of bytes) c.args.recording.now
     (option_copied c.args.script)))
     c.in_err-loaded.field-0.0 c.in_err-loaded.ensures
     (λ why. given_refused bytes _ _ _ why (refl, refl)))
@@ -24,9 +24,9 @@ returns c =
     let loaded = c.in_ok-loaded.loaded in
     let how = c.args.how in
     gives_wider
-    (answer_by (explain_of how.within how.form (as_read (studied loaded)) c.args.record.now
+    (answer_by (explain_of how.within how.form (as_read (studied loaded)) c.args.recording.now
     (option_copied c.args.script)))
-    (answer_by (explain_of how.within how.form (given_of bytes) c.args.record.now
+    (answer_by (explain_of how.within how.form (given_of bytes) c.args.recording.now
     (option_copied c.args.script)))
     c.explain_few.result
     (λ end text said. given_read bytes loaded _ _ c.in_ok-loaded.ensures.0

@@ -21,6 +21,6 @@ returns-in-None c =
     (rw c.as_slice.ensures.value at (sym c.at_most.ensures)) ∙ c.in-None.is in
     gives_wider
     (answer_by (explain_in how.within how.form loaded.study.line loaded.study.scripts.items
-    c.args.record.now script))
-    (answer_by (explain_of how.within how.form (as_read (studied loaded)) c.args.record.now script))
+    c.args.recording.now script))
+    (answer_by (explain_of how.within how.form (as_read (studied loaded)) c.args.recording.now script))
     c.explain_over.result (λ end text said. rw is said) c.explain_over.ensures

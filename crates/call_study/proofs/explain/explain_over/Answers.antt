@@ -13,7 +13,7 @@ returns-in_err-said c =
     let p = err_from_is_err_and c.from_residual.result c.from_residual.ensures.1 in
     let study = c.args.study.now in
     rw (p.1, p.2) (explain_halts c.args.how.within c.args.how.form study.line study.scripts.items
-    c.args.record.now (option_copied c.args.script) c.in-Some.which
+    c.args.recording.now (option_copied c.args.script) c.in-Some.which
     (sym (rw c.as_slice-scripts.ensures.value at c.in-Some.ensures))
     c.in_err-said.field-0.0 c.requires.few
     (rw c.as_slice-scripts.ensures.value at c.in_err-said.ensures))

@@ -7,8 +7,7 @@ use Rattle.csv.specs.Writing.{row_text, default_writer}
 use Rattle.model_line.specs.declared.line.Line.{Line}
 use Rattle.model_line.specs.declared.line.Terminal.{Terminal}
 use Rattle.model_line.specs.Parameters.{terminal_count}
-use Rattle.model_line.specs.NamesByNumber.{terminal_name}
-use Rattle.judge_report.specs.ReportText.{kind_word}
+use Rattle.model_line.specs.NamesByNumber.{kind_text, terminal_name}
 use Rattle.file_study.specs.declared.sweeps.group.Group.{Group}
 use Rattle.call_verdicts.specs.Faults.{fault_record}
 use Rattle.call_verdicts.specs.Records.{margin_text, trip_text}
@@ -22,7 +21,7 @@ use Rattle.call_verdicts.proofs.fault_table.push_verdicts.Goals as goal
 record_of : (line : Line) (group : Group) (k : ℕ) (vs : List Verdict)
     (fault name kind count held fails left place trip margin places values : List ℕ)
     → fault ≡ group.name → name ≡ terminal_name line k
-    → kind ≡ get_or (map (λ v. kind_word v.kind) vs) 0 []
+    → kind ≡ get_or (map (λ v. kind_text v.kind) vs) 0 []
     → count ≡ decimal (length vs) → held ≡ decimal (count_by is_held vs)
     → fails ≡ decimal (count_by (λ v. fails_so v.standing) vs)
     → left ≡ decimal (count_by (λ v. is_left v.standing) vs)

@@ -2,7 +2,7 @@ use Rattle.std.proofs.Common.{◌≡◌, ◌∙◌, ℕ, List, true, false, belo
 use Rattle.std.specs.Prelude.{codes}
 use Rattle.model_line.specs.NamesByNumber.{parameter_name}
 use Rattle.model_logic.specs.Boxes.{CanSplit}
-use Rattle.cert_settle.specs.Grammar.{split_line}
+use Rattle.cert_split.specs.text.Grammar.{split_line}
 use Rattle.cert_settle.proofs.{LineLaws.one_after, NodeLaws.middle_small}
 use Rattle.cert_settle.proofs.branch_line.split_in.Goals as goal
 use Rattle.cert_settle.proofs.branch_line.split_in.Goals.{in-Some+else-is_split, in_default}

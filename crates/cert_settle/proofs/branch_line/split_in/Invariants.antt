@@ -3,7 +3,7 @@ use Rattle.model_logic.specs.Choice.{Box}
 use Rattle.model_line.specs.NamesByNumber.{parameter_name}
 use Rattle.model_logic.specs.Boxes.{CanSplit}
 use Rattle.judge_split.specs.Parts.{IsPart}
-use Rattle.cert_settle.specs.Grammar.{split_line}
+use Rattle.cert_split.specs.text.Grammar.{split_line}
 use Rattle.cert_settle.proofs.branch_line.split_in.Given as goal
 
 -- none of the parameters so far

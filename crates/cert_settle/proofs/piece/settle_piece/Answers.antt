@@ -4,7 +4,8 @@ use Rattle.std.proofs.lemmas.List.{length-map}
 use Rattle.model_line.specs.Parameters.{terminal_count}
 use Rattle.cert_claims.specs.{text.Grammar.script_text, text.Grammar.terminal_names, text.Text.fed}
 use Rattle.cert_settle.specs.declared.claim.TreeClaim.{TreeClaim}
-use Rattle.cert_settle.specs.{Grammar.tree_text, Text.result_text, Text.trees_text}
+use Rattle.cert_settle.specs.Text.{result_text, trees_text}
+use Rattle.cert_split.specs.text.Grammar.{tree_text}
 use Rattle.cert_settle.specs.{Reading.result_in}
 use Rattle.cert_settle.specs.Grammar.{IsSettleResult}
 use Rattle.cert_split.specs.text.PairLaws.{pairs_more, pairs_all, two_added}

@@ -9,6 +9,6 @@ returns c =
       c.format.ensures.text,
       c.len.ensures,
       c.args.fault.now.cases.ok.0,
-      c.kind_words-kind.ensures,
+      c.kind_word-kind.ensures,
       c.as_slice.ensures.value,
     ) at c.words_of.ensures

@@ -1,5 +1,5 @@
+use Rattle.model_history.specs.EachLaws.{list_more}
 use Rattle.draw_shapes.specs.Cells.{bars_at}
-use Rattle.draw_shapes.proofs.Lists.{list_more}
 use Rattle.draw_shapes.proofs.border.put_border.Goals as goal
 
 pub loop-place-preserved : goal.loop-place-preserved

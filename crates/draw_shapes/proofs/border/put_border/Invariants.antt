@@ -1,6 +1,7 @@
 use Rattle.std.proofs.Common.{◌≡◌, ◌++◌}
+use Rattle.model_history.specs.Each.{each_below}
 use Rattle.draw_shapes.specs.Seen.{figures_seen}
-use Rattle.draw_shapes.specs.{Cells.bars_at, Numbers.each_below}
+use Rattle.draw_shapes.specs.Cells.{bars_at}
 use Rattle.draw_shapes.proofs.border.put_border.Given as goal
 
 abbrev pub invariant-loop-place : goal.invariant-loop-place

@@ -1,8 +1,10 @@
 use Rattle.std.proofs.Common.{◌≡◌, ◌+◌, ◌/◌, ◌++◌, ℕ, arith, subst}
 use Rattle.std.proofs.Math.Nat.{div-le_self}
+use Rattle.model_history.specs.Each.{each_below}
+use Rattle.model_history.specs.EachLaws.{list_more}
 use Rattle.draw_shapes.specs.Seen.{figures_seen}
-use Rattle.draw_shapes.specs.{Numbers.each_below, Numbers.column_time}
-use Rattle.draw_shapes.proofs.{Lists.list_more, Rounds.round_within}
+use Rattle.draw_shapes.specs.Numbers.{column_time}
+use Rattle.draw_shapes.proofs.Rounds.{round_within}
 use Rattle.draw_shapes.proofs.numbers.put_column_times.Goals as goal
 
 pub overflow_add-n-end : goal.overflow_add-n-end

@@ -1,6 +1,7 @@
 use Rattle.std.proofs.Common.{◌≡◌, ◌++◌}
+use Rattle.model_history.specs.Each.{each_below}
 use Rattle.draw_shapes.specs.Seen.{figures_seen}
-use Rattle.draw_shapes.specs.Numbers.{each_below, row_time}
+use Rattle.draw_shapes.specs.Numbers.{row_time}
 use Rattle.draw_shapes.proofs.numbers.put_row_times.Given as goal
 
 abbrev pub invariant-loop-n : goal.invariant-loop-n

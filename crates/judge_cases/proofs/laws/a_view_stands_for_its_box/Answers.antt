@@ -1,15 +1,8 @@
 use Rattle.std.proofs.Common.{sym, subst}
-use Rattle.model_line.specs.declared.line.Line.{Line}
-use Rattle.model_logic.specs.{Choice.Box, Boxes.IsSameBox}
+use Rattle.model_logic.specs.BoxLaws.{turned}
 use Rattle.model_settle.specs.CaseTrees.{IsShownUnder}
 use Rattle.judge_cases.specs.Views.{view_box}
 use Rattle.judge_cases.proofs.laws.a_view_stands_for_its_box.Goals as goal
-
-turned : (line : Line) (a b : Box) → IsSameBox line a b → IsSameBox line b a
-turned line a b same = record {
-  numbers = λ i lt. sym (same.numbers i lt);
-  delays = λ c t lt early. sym (same.delays c t lt early);
-}
 
 pub returns : goal.returns
 returns c = λ line script k box assumed view views. (

@@ -1,6 +1,7 @@
 use Rattle.std.proofs.Common.{◌≡◌, ℕ, ◌<◌, ◌≤◌, Some, length}
 use Rattle.std.specs.Prelude.{slice_get, slice_index}
-use Rattle.judge_cases.specs.{declared.view.View.View, Views.interval_of, Spans.view_in}
+use Rattle.model_logic.specs.Boxes.{interval_of}
+use Rattle.judge_cases.specs.{declared.view.View.View, Spans.view_in}
 use Rattle.judge_cases.proofs.spans.view_span.Given as goal
 
 -- the lanes so far have the ends of their views

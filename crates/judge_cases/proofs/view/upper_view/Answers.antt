@@ -3,7 +3,8 @@ use Rattle.std.specs.Prelude.{slice_set}
 use Rattle.model_history.specs.Rails.{Ends}
 use Rattle.model_logic.specs.Boxes.{box_with}
 use Rattle.run_signal.specs.Spans.{ends_of}
-use Rattle.judge_cases.specs.Views.{Views, interval_of}
+use Rattle.model_logic.specs.Boxes.{interval_of}
+use Rattle.judge_cases.specs.Views.{Views}
 use Rattle.judge_cases.proofs.ViewLaws.{half_views}
 use Rattle.judge_cases.proofs.view.upper_view.Goals as goal
 

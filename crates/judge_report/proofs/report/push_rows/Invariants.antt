@@ -1,5 +1,5 @@
 use Rattle.std.proofs.Common.{◌≡◌, ◌++◌}
-use Rattle.run_changes.specs.rows.PlayRows.{each_below}
+use Rattle.model_history.specs.Each.{each_below}
 use Rattle.judge_verdict.specs.verdict.PairWavesOf.{pair_history}
 use Rattle.judge_report.specs.ReportText.{row_text}
 use Rattle.judge_report.proofs.report.push_rows.Given as goal

@@ -4,7 +4,8 @@ use Rattle.std.specs.Prelude.{slice_get, option_map}
 use Rattle.model_line.specs.declared.line.Terminal.{Terminal}
 use Rattle.model_line.specs.NamesByNumber.{terminal_name}
 use Rattle.judge_report.specs.Deadlines.{deadline_of, margin_of, margin_us_of}
-use Rattle.judge_report.specs.ReportText.{field, kind_word, tick_text, margin_text}
+use Rattle.model_line.specs.NamesByNumber.{kind_text}
+use Rattle.judge_report.specs.ReportText.{field, tick_text, margin_text}
 use Rattle.judge_report.proofs.Texts.{begun, grown}
 use Rattle.judge_report.proofs.rows.push_fields.Goals as goal
 
@@ -25,7 +26,7 @@ returns c =
     ∙ ap (option_map (λ (x : Terminal). x.name)) at) in
     let one = begun text c.push_field.new.text.items _ (field c.args.script.now.name)
     c.in_ok-push_field.ensures (ap field c.bytes.ensures.same) in
-    let two = grown text _ c.push_field-2.new.text.items _ _ (field (kind_word kind)) one
+    let two = grown text _ c.push_field-2.new.text.items _ _ (field (kind_text kind)) one
     c.in_ok-push_field-2.ensures (ap field c.kind_word.ensures) in
     let three = grown text _ c.push_field-3.new.text.items _ _
     (field (terminal_name line c.args.k)) two c.in_ok-push_field-3.ensures

@@ -1,5 +1,5 @@
 use Rattle.std.proofs.Common.{◌≡◌, ◌<◌, ◌+◌, true, false, rules, subst, sym, arith}
-use Rattle.judge_split.specs.Quiet.{is_wide}
+use Rattle.model_history.specs.Recorded.{at as is_wide}
 use Rattle.model_line.specs.{declared.line.Line.Line, Parameters.param_count}
 use Rattle.judge_split.proofs.CornerLaws.{CornerSoFar, no_corner_yet, wide_more, closed_more}
 use Rattle.judge_split.proofs.corners.corner.Goals as goal

@@ -5,11 +5,11 @@ use Rattle.judge_split.proofs.halves.halves.Goals as goal
 
 pub lower_part-requires : goal.lower_part-requires
 lower_part-requires c =
-    split_at_middle c.args.line.now c.args.param c.middle-mid.result c.requires c.middle-mid.ensures
+    split_at_middle c.args.line.now c.args.param c.middle-mid.result c.requires c.middle-mid.ensures.number
 
 pub upper_part-requires : goal.upper_part-requires
 upper_part-requires c =
-    split_at_middle c.args.line.now c.args.param c.middle-mid.result c.requires c.middle-mid.ensures
+    split_at_middle c.args.line.now c.args.param c.middle-mid.result c.requires c.middle-mid.ensures.number
 
 pub returns : goal.returns
 returns c =
@@ -17,7 +17,7 @@ returns c =
     let param = c.args.param in
     let ends = declared_ends line param in (
       subst (λ (m : ℕ). IsWithBounds line param ends.least m c.in_ok-first.first)
-          c.middle-mid.ensures c.in_ok-first.ensures.line,
+          c.middle-mid.ensures.number c.in_ok-first.ensures.line,
       subst (λ (m : ℕ). IsWithBounds line param (m + 1) ends.greatest c.in_ok-second.second)
-          c.middle-mid.ensures c.in_ok-second.ensures.line,
+          c.middle-mid.ensures.number c.in_ok-second.ensures.line,
     )

@@ -41,7 +41,7 @@ returns t c =
     (c.if-not-is_narrowed.ensures refl) c.in-Some.param c.middle-mid.result first second
     (joined c.in-Some.param c.middle-mid.result nodes first second c.deref.result.now
     c.deref-2.result.now c.in_ok-split.ensures c.deref.ensures.value c.deref-2.ensures.value)
-    c.middle-mid.ensures c.if-depth-eq0.false c.in-Some.ensures (c.requires.halves i)
+    c.middle-mid.ensures.number c.if-depth-eq0.false c.in-Some.ensures (c.requires.halves i)
     (if_some_is c.in_ok-first.field-0 c.in-Some-2.first
     (λ nodes. AreNodesIfTold line wide parts held (2 * i + 2) (n - 1) nodes.items)
     c.in-Some-2.is c.in_ok-first.ensures)

@@ -1,7 +1,7 @@
 use Rattle.std.proofs.Common.{◌≡◌, ◌<◌, ℕ, false}
 use Rattle.model_history.specs.Rails.{IsPartOf}
 use Rattle.model_line.specs.Parameters.{declared_ends}
-use Rattle.judge_split.specs.Quiet.{is_wide}
+use Rattle.model_history.specs.Recorded.{at as is_wide}
 use Rattle.judge_split.proofs.quick.is_narrowed.Given as goal
 
 abbrev pub invariant-loop-param : goal.invariant-loop-param

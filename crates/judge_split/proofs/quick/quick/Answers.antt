@@ -122,7 +122,7 @@ returns c =
     first second
     (joined param mid c.in_ok-split.field-0.items first second c.deref-12.result.now
     c.deref-13.result.now c.in_ok-split.ensures c.deref-12.ensures.value c.deref-13.ensures.value)
-    c.middle-mid.ensures (λ e. absurd (omega (arith, c.requires.depth)))
+    c.middle-mid.ensures.number (λ e. absurd (omega (arith, c.requires.depth)))
     (record { undecided = c.requires.undecided; widest = c.requires.widest })
     (c.in_ok-parts.ensures.first lower.part lower.at)
     (c.in_ok-parts.ensures.second upper.part upper.at) lower.are upper.are

@@ -162,5 +162,5 @@ returns t c =
     (joined param c.middle-mid.result _ c.in-Tree.nodes.items c.in-Tree-2.nodes.items
     c.deref.result.now c.deref-2.result.now c.in_ok-nodes-4.ensures c.deref.ensures.value
     c.deref-2.ensures.value)
-    c.middle-mid.ensures c.if-depth-eq0.false at c.in_ok-lower_line.ensures.0
+    c.middle-mid.ensures.number c.if-depth-eq0.false at c.in_ok-lower_line.ensures.0
     c.in_ok-lower_line.ensures.1 below above

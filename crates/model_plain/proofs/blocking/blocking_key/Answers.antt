@@ -4,5 +4,5 @@ use Rattle.model_plain.proofs.blocking.blocking_key.Goals as goal
 pub returns : goal.returns
 unfolding blocking_key
 returns c =
-    rw c.terminal_setting-carry.ensures at (c.timer.ensures _ (c.and-behind.ensures _ _
+    rw c.terminal_time-carry.ensures.is at (c.timer.ensures _ (c.and-behind.ensures _ _
     c.seen_timed-reverse.ensures (c.not.ensures _ c.seen_timed-zone2.ensures)))

@@ -4,6 +4,6 @@ use Rattle.model_plain.proofs.blocking.blocking_pilot.Goals as goal
 pub returns : goal.returns
 unfolding blocking_pilot
 returns c =
-    rw c.terminal_setting-coordination.ensures at (c.and.ensures _ _
+    rw c.terminal_time-coordination.ensures.is at (c.and.ensures _ _
     (c.timer-ahead.ensures _ c.seen_timed-zone2.ensures)
     (c.not.ensures _ c.any_received-blocked.ensures))

@@ -6,5 +6,5 @@ pub returns-then-is_terminal_weak : goal.returns-then-is_terminal_weak
 unfolding echo_wanted
 returns-then-is_terminal_weak c =
     rw (sym c.is_terminal_weak.ensures ∙ c.if-is_terminal_weak.true)
-    (rw c.terminal_setting-pickup.ensures at (c.timer.ensures _ (c.and-permitted.ensures _ _
+    (rw c.terminal_time-pickup.ensures.is at (c.timer.ensures _ (c.and-permitted.ensures _ _
     c.permission.ensures c.quiet.ensures)))

@@ -4,5 +4,5 @@ use Rattle.model_plain.proofs.permissive.quiet.Goals as goal
 pub returns : goal.returns
 unfolding quiet
 returns c =
-    rw c.terminal_setting-block.ensures at (c.not.ensures _ (c.timer.ensures _
+    rw c.terminal_time-block.ensures.is at (c.not.ensures _ (c.timer.ensures _
     (c.or-fault.ensures _ _ c.seen_timed-zone2.ensures c.seen_timed.ensures)))

@@ -6,5 +6,5 @@ pub returns-then-is_terminal_guarded : goal.returns-then-is_terminal_guarded
 unfolding reversal_guard
 returns-then-is_terminal_guarded c =
     rw (sym c.is_terminal_guarded.ensures ∙ c.if-is_terminal_guarded.true)
-    (rw c.terminal_setting-dropout.ensures at (rw c.terminal_setting-pickup.ensures at
+    (rw c.terminal_time-dropout.ensures.is at (rw c.terminal_time-pickup.ensures.is at
     (c.timer.ensures _ c.seen_timed-reverse.ensures)))

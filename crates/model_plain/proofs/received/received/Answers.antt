@@ -5,4 +5,4 @@ use Rattle.model_plain.proofs.received.received.Goals as goal
 pub returns : goal.returns
 unfolding received
 returns c =
-    rw c.channel_to-channel.ensures at (c.and.ensures _ _ refl (c.not-safe.ensures _ refl))
+    rw c.channel_to-channel.ensures.is at (c.and.ensures _ _ refl (c.not-safe.ensures _ refl))

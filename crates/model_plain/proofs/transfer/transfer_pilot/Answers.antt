@@ -4,4 +4,4 @@ use Rattle.model_plain.proofs.transfer.transfer_pilot.Goals as goal
 pub returns : goal.returns
 unfolding transfer_pilot
 returns c =
-    rw c.terminal_setting-security.ensures at (c.timer.ensures _ c.any_received-sent.ensures)
+    rw c.terminal_time-security.ensures.is at (c.timer.ensures _ c.any_received-sent.ensures)

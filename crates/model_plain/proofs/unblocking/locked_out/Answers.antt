@@ -4,5 +4,5 @@ use Rattle.model_plain.proofs.unblocking.locked_out.Goals as goal
 pub returns : goal.returns
 unfolding locked_out
 returns c =
-    rw c.channel_setting-restore.ensures at (c.seal.ensures _ _ c.late-closed.ensures
+    rw c.channel_time-restore.ensures.is at (c.seal.ensures _ _ c.late-closed.ensures
     (c.not.ensures _ (c.timer-restored.ensures _ c.guard_seen-guard.ensures)))

@@ -5,5 +5,5 @@ use Rattle.model_plain.proofs.unblocking.unblocked.Goals as goal
 pub returns : goal.returns
 unfolding unblocked
 returns c =
-    rw c.channel_setting-pickup.ensures at (rw c.channel_to.ensures at (c.and.ensures _ _
+    rw c.channel_time-pickup.ensures.is at (rw c.channel_to.ensures.is at (c.and.ensures _ _
     (c.timer-opened.ensures _ refl) (c.not.ensures _ c.late-closed.ensures)))

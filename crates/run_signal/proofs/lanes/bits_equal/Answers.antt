@@ -1,12 +1,9 @@
-use Rattle.std.proofs.Common.{◌≡◌, Bool, true, false, refl, get_or, ◌/◌, ◌%◌, ◌^◌, cond, eqb, ap, ◌∙◌}
+use Rattle.std.proofs.Common.{false, get_or, ◌/◌, ◌%◌, ◌^◌, cond, eqb, ap, ◌∙◌}
 use Rattle.std.proofs.Common.{arith, w16}
 use lib.Lanes.{zip2, mask_l}
 use Rattle.std.proofs.lemmas.Simd.{tops_compared, length-zip2, mask_l-mod, bit_mask_l, get_or-zip2}
+use Rattle.run_signal.proofs.VectorLaws.{bit_back}
 use Rattle.run_signal.proofs.lanes.bits_equal.Goals as goal
-
-bit_back : (b : Bool) → eqb (cond b 1 0) 1 ≡ b
-bit_back true = refl
-bit_back false = refl
 
 pub returns : goal.returns
 returns c = λ i lt.

@@ -2,7 +2,7 @@ use Rattle.std.proofs.Common.{[], ◌∷◌}
 use Rattle.model_logic.specs.Choice.{declared_box}
 use Rattle.base_text.specs.lines.ReadLaws.{taken_then}
 use Rattle.cert_settle.specs.Grammar.{grammar_of, result_over, result_said, IsSettleResult}
-use Rattle.cert_settle.specs.Grammar.{tree_text}
+use Rattle.cert_split.specs.text.Grammar.{tree_text}
 use Rattle.cert_settle.specs.Reading.{result_in}
 use Rattle.cert_settle.proofs.read.TreeReaderPartReader.read.Goals as goal
 

@@ -14,9 +14,10 @@ returns c =
     let text : List ℕ = c.in_ok-text.text.now in
     let here : c.args.bytes.now ≡ named (codes "split") name text =
     c.in_ok-text.ensures ∙ ap (λ (n : List ℕ). named (codes "split") n text) c.bytes.ensures.same in
-    map_option ((n : ℕ) → n < 2 ^ 32 → text ≢ decimal n) _ (λ n. text ≡ decimal n) _
+    map_option ((n : ℕ) → n < 2 ^ 32 → text ≢ decimal n) _
+    (λ n. (n < 2 ^ 32) × (text ≡ decimal n)) _
     c.number_in.result
     (λ none mid small is. none mid small (one_text (codes "split") name text (decimal mid)
     (sym here ∙ is)))
-    (λ n is. here ∙ ap (λ (t : List ℕ). named (codes "split") name t) is)
+    (λ n is. here ∙ ap (λ (t : List ℕ). named (codes "split") name t) is.1)
     c.number_in.ensures

@@ -1,6 +1,6 @@
 use Rattle.std.proofs.Common.{◌≡◌, ◌++◌}
+use Rattle.model_history.specs.Each.{each_below}
 use Rattle.run_step.specs.Played.{is_on}
-use Rattle.run_changes.specs.rows.PlayRows.{each_below}
 use Rattle.draw_gates.specs.dump.Dump.{next_text}
 use Rattle.draw_gates.proofs.dump.changes.put_next.Given as goal
 

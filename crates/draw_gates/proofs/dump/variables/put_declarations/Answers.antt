@@ -1,7 +1,7 @@
 use Rattle.std.proofs.Common.{◌≡◌, ◌++◌, ℕ, List, length, refl, subst}
 use Rattle.std.specs.Prelude.{OnOk, codes}
+use Rattle.model_history.specs.Each.{each_below}
 use Rattle.model_line.specs.Parameters.{terminal_count}
-use Rattle.run_changes.specs.rows.PlayRows.{each_below}
 use Rattle.draw_gates.specs.dump.Variables.{variable_of, scope_text, terminal_scope, declarations}
 use Rattle.draw_gates.proofs.dump_lemmas.TextLaws.{piece_more}
 use Rattle.draw_gates.proofs.dump.variables.put_declarations.Goals as goal

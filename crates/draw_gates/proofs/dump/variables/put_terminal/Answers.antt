@@ -1,9 +1,9 @@
 use Rattle.std.proofs.Common.{◌≡◌, ◌++◌, ℕ, List, length, refl, ◌∙◌, ap, subst, sym}
 use Rattle.std.specs.Prelude.{OnOk, codes}
+use Rattle.model_history.specs.Each.{each_below}
 use Rattle.model_line.specs.ParamNames.{name_at}
 use Rattle.model_line.specs.ParamNameLaws.{name_of-got}
 use Rattle.net_gates.specs.NetOf.{key_of, trip_of}
-use Rattle.run_changes.specs.rows.PlayRows.{each_below}
 use Rattle.draw_gates.specs.dump.Variables.{variable_text, variable_at, scope_text, terminal_scope}
 use Rattle.draw_gates.proofs.dump_lemmas.TextLaws.{piece_more}
 use Rattle.draw_gates.proofs.dump.variables.put_terminal.Goals as goal

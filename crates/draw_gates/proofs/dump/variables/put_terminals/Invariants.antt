@@ -1,5 +1,5 @@
 use Rattle.std.proofs.Common.{◌≡◌, ◌++◌}
-use Rattle.run_changes.specs.rows.PlayRows.{each_below}
+use Rattle.model_history.specs.Each.{each_below}
 use Rattle.draw_gates.specs.dump.Variables.{terminal_scope}
 use Rattle.draw_gates.proofs.dump.variables.put_terminals.Given as goal
 

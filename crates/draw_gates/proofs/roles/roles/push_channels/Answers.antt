@@ -1,4 +1,5 @@
-use Rattle.draw_gates.specs.{roles.EachLaws.list_more, roles.Roles.channel_roles}
+use Rattle.model_history.specs.EachLaws.{list_more}
+use Rattle.draw_gates.specs.roles.Roles.{channel_roles}
 use Rattle.draw_gates.proofs.roles.roles.push_channels.Goals as goal
 
 pub loop-c-preserved : goal.loop-c-preserved

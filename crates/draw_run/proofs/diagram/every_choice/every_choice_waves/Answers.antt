@@ -1,12 +1,11 @@
-use Rattle.std.proofs.Common.{◌≡◌, ℕ, List, [], ◌∙◌, subst, arith}
+use Rattle.std.proofs.Common.{◌≡◌, ◌∙◌, subst, arith}
 use Rattle.std.specs.Prelude.{Result, Ok, Err, IfOk}
-use Rattle.run_signal.specs.{declared.tern.Tern.Tern, Terns.tern_rails}
-use Rattle.model_logic.specs.Choice.{Box, declared_box}
-use Rattle.run_step.specs.LaneBox.{lane_box}
+use Rattle.run_signal.specs.{Terns.tern_rails}
+use Rattle.model_logic.specs.Choice.{Box}
 use Rattle.run_step.specs.Runs.{HavePairs, IsTheHistory}
-use Rattle.run_step.specs.WavesOf.{WavesOf, waves_history}
+use Rattle.run_step.specs.WavesOf.{waves_history}
 use Rattle.judge_verdict.specs.verdict.Spans.{declared_spans}
-use Rattle.judge_verdict.specs.verdict.DeclaredLaws.{box_declared, spans_delayed, own_span}
+use Rattle.judge_verdict.specs.verdict.DeclaredLaws.{box_declared, spans_delayed}
 use Rattle.draw_run.proofs.diagram.every_choice.every_choice_waves.Goals as goal
 
 more : {T E : Type 0} (r : Result T E) (P Q : T → Type 0) → ((x : T) → P x → Q x) → IfOk r P

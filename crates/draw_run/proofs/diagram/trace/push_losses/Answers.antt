@@ -1,4 +1,4 @@
-use Rattle.draw_gates.specs.roles.EachLaws.{list_more}
+use Rattle.model_history.specs.EachLaws.{list_more}
 use Rattle.draw_run.specs.diagram.Traces.{loss_at}
 use Rattle.draw_run.proofs.diagram.trace.push_losses.Goals as goal
 

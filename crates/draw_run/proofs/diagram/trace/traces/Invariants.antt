@@ -1,8 +1,8 @@
 use Rattle.std.proofs.Common.{◌≡◌}
-use Rattle.draw_gates.specs.roles.Each.{each_of}
+use Rattle.model_history.specs.Each.{each_below}
 use Rattle.draw_run.specs.diagram.Traces.{traces_at}
 use Rattle.draw_run.proofs.diagram.trace.traces.Given as goal
 
 abbrev pub invariant-loop-k : goal.invariant-loop-k
 invariant-loop-k l = l.all.items
-    ≡ each_of l.k (traces_at l.compiled.line.now l.compiled.net.now.gates)
+    ≡ each_below l.k (traces_at l.compiled.line.now l.compiled.net.now.gates)

@@ -1,4 +1,4 @@
-use Rattle.draw_gates.specs.roles.EachLaws.{list_more}
+use Rattle.model_history.specs.EachLaws.{list_more}
 use Rattle.draw_run.specs.layout.Axis.{round_tick}
 use Rattle.draw_run.proofs.layout.axis.put_ticks.Goals as goal
 

@@ -1,5 +1,5 @@
 use Rattle.std.proofs.Common.{◌≡◌, ◌++◌}
-use Rattle.run_changes.specs.rows.PlayRows.{each_below}
+use Rattle.model_history.specs.Each.{each_below}
 use Rattle.file_records.specs.recorded.Config.{terminal_lines}
 use Rattle.file_records.proofs.recorded.config.put_terminals.Given as goal
 

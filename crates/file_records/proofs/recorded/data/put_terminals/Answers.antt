@@ -1,8 +1,8 @@
 use Rattle.std.proofs.Common.{◌≡◌, ◌++◌, ℕ, Bool, List, Some, sym, ◌∙◌, ap, arith}
 use Rattle.std.proofs.lemmas.Option.{slice_get_read}
 use Rattle.std.specs.Prelude.{slice_get}
+use Rattle.model_history.specs.EachLaws.{list_more}
 use Rattle.model_line.specs.Parameters.{terminal_count}
-use Rattle.run_changes.specs.rows.RowLaws.{texts_more}
 use Rattle.run_changes.specs.changes.PlayedTracks.{is_on, is_shown, shown_is, played}
 use Rattle.file_records.specs.recorded.Data.{all_seen, level_field, terminal_fields}
 use Rattle.file_records.proofs.recorded_lemmas.TrackLevels.{all_ticks}
@@ -41,7 +41,7 @@ loop-k-preserved c =
     slice_get_read c.args.tracks.now.trips.items (terminal_count c.args.line.now) c.loop-k.k
     c.index-in-loop-k.result.now (sym c.requires.trips.count) (omega arith)
     c.index-in-loop-k.ensures in
-    texts_more c.args.text.now.items before c.put_terminal.new.text.items fields k
+    list_more c.args.text.now.items before c.put_terminal.new.text.items fields k
     c.loop-k.invariant
     (c.in_ok-put_terminal.ensures
     ∙ ap (λ (u : ℕ → Bool). before ++ ((shown ++ level_field (u t))

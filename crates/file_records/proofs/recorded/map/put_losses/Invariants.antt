@@ -1,5 +1,5 @@
 use Rattle.std.proofs.Common.{◌≡◌, ◌++◌}
-use Rattle.run_changes.specs.rows.PlayRows.{each_below}
+use Rattle.model_history.specs.Each.{each_below}
 use Rattle.file_records.specs.recorded.Map.{loss_line}
 use Rattle.file_records.proofs.recorded.map.put_losses.Given as goal
 

@@ -27,17 +27,17 @@ loop-k-preserved c =
     (sym (c.in_ok-tracks.ensures.trips.count ∙ c.args.compiled.now.of_line.laws.same
     ∙ c.args.compiled.now.of_line.terminals)) kn c.index.ensures in
     ruled_more line scripts (lane_box span_ends line c.args.spans.now []) c.args.s k script
-    c.loop-k.ruled.items c.push.new.self.items (record { kind = script.kind; tripped = c.tripped_in-tripped.result })
+    c.loop-k.ruled.items c.push.new.self.items (record { kind = script.kind; tripped = c.tripped-tripped.result })
     (slice_get_read scripts (length scripts) c.args.s script refl c.requires.script c.index-scripts-s.is)
     kn c.in_ok-push.ensures.items refl
     (λ lane inside. record {
       history = tracks_history terns_rails lane keys trips;
       is = c.in_ok-tracks.ensures.history lane inside;
-      must = c.tripped_in-tripped.ensures.must lane inside
+      must = c.tripped-tripped.ensures.must lane inside
           ∙ ap (λ (o : Option (SentKeys Terns64)).
           some_below (λ t. (pair_of terns_rails lane t o).must) c.ticks_of-ticks.result) (sym at)
           ∙ ap (some_below (λ t. (pair_of terns_rails lane t (slice_get trips k)).must)) c.ticks_of-ticks.ensures.ticks;
-      may = c.tripped_in-tripped.ensures.may lane inside
+      may = c.tripped-tripped.ensures.may lane inside
           ∙ ap (λ (o : Option (SentKeys Terns64)).
           some_below (λ t. (pair_of terns_rails lane t o).may) c.ticks_of-ticks.result) (sym at)
           ∙ ap (some_below (λ t. (pair_of terns_rails lane t (slice_get trips k)).may)) c.ticks_of-ticks.ensures.ticks;
@@ -77,8 +77,8 @@ index-requires c =
       c.in_ok-tracks.tracks.trips.ok.0,
     )
 
-pub tripped_in-tripped-requires : goal.tripped_in-tripped-requires
-tripped_in-tripped-requires c =
+pub tripped-tripped-requires : goal.tripped-tripped-requires
+tripped-tripped-requires c =
     let k : ℕ = c.loop-k.k in
     let trips = c.in_ok-tracks.tracks.trips.items in
     let kn : k < terminal_count c.args.compiled.now.line.now =

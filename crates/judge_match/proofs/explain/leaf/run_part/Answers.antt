@@ -4,7 +4,8 @@ use Rattle.run_signal.specs.{Terns.tern_rails}
 use Rattle.run_step.specs.{LaneBox.lane_box, Runs.IsTheHistory}
 use Rattle.run_changes.specs.changes.Tracks.{tracks_history}
 use Rattle.judge_match.specs.explain.Parts.{part_box}
-use Rattle.judge_match.proofs.explain_lemmas.BoxLaws.{box_is, whole_ends}
+use Rattle.run_step.specs.LaneBox.{own_span}
+use Rattle.judge_match.proofs.explain_lemmas.BoxLaws.{box_is}
 use Rattle.judge_match.proofs.explain_lemmas.ListLaws.{ok_weaker}
 use Rattle.judge_match.proofs.explain.leaf.run_part.Goals as goal
 
@@ -19,7 +20,7 @@ returns-clause-history c =
     let script = c.args.q.now.script.now in
     let part = c.args.part.now in
     ok_weaker (λ tracks. (lane : ℕ) → lane < 1
-    → IsTheHistory line script (lane_box whole_ends line part [] lane)
+    → IsTheHistory line script (lane_box own_span line part [] lane)
     (tracks_history (λ x _. tern_rails x) lane tracks.keys.items tracks.trips.items))
     (λ tracks. IsTheHistory line script (part_box line part)
     (tracks_history (λ x _. tern_rails x) 0 tracks.keys.items tracks.trips.items))

@@ -1,7 +1,8 @@
 use Rattle.std.proofs.Common.{◌≡◌, ◌≢◌, ℕ, ◌∙◌, subst, arith}
 use Rattle.std.proofs.lemmas.Bool.Decides.{nat_tests}
 use Rattle.model_timing.specs.Timing.{TimingValues}
-use Rattle.judge_settle.specs.corner.Cuts.{number, nominal_of, least_of, with_number}
+use Rattle.model_line.specs.Parameters.{declared_middle}
+use Rattle.judge_settle.specs.corner.Cuts.{number, least_of, with_number}
 use Rattle.judge_settle.specs.corner.Obligations.{IsPassed}
 use Rattle.judge_settle.specs.corner.Rounds.{IsRound, IsTried}
 use Rattle.judge_settle.proofs.corner_lemmas.Tries.{round_none, put_to_nominal, put_to_least}
@@ -18,18 +19,18 @@ returns-then-branch-clause-round c =
     let p : ℕ = c.args.param in
     let cut : TimingValues = c.args.cut.now in
     let new : TimingValues = c.try_number.new.cut in
-    let apart : number cut p ≢ nominal_of line p =
+    let apart : number cut p ≢ declared_middle line p =
     grind (
       arith,
       nat_tests,
       c.number_of-number.ensures,
-      c.nominal-middle.ensures.is,
+      c.middle-middle.ensures.number,
       c.if-number-middle.false,
     ) in
     subst (IsRound of cut new) c.if-branch.true
     (put_to_nominal of cut new p c.in_ok-try_number.field-0 c.requires.param c.requires.fails apart
     (subst (λ (n : ℕ). IsTried of cut (with_number cut p n) new c.in_ok-try_number.field-0)
-    c.nominal-middle.ensures.is c.in_ok-try_number.ensures))
+    c.middle-middle.ensures.number c.in_ok-try_number.ensures))
 
 pub returns-then-number-least-clause-round : goal.returns-then-number-least-clause-round
 returns-then-number-least-clause-round c =
@@ -38,18 +39,18 @@ returns-then-number-least-clause-round c =
     let p : ℕ = c.args.param in
     let cut : TimingValues = c.args.cut.now in
     let new : TimingValues = c.try_number.new.cut in
-    let apart : number cut p ≢ nominal_of line p =
+    let apart : number cut p ≢ declared_middle line p =
     grind (
       arith,
       nat_tests,
       c.number_of-number.ensures,
-      c.nominal-middle.ensures.is,
+      c.middle-middle.ensures.number,
       c.if-number-middle.false,
     ) in
     subst (IsRound of cut new) c.if-branch.false
     (put_to_nominal of cut new p c.in_ok-try_number.field-0 c.requires.param c.requires.fails apart
     (subst (λ (n : ℕ). IsTried of cut (with_number cut p n) new c.in_ok-try_number.field-0)
-    c.nominal-middle.ensures.is c.in_ok-try_number.ensures))
+    c.middle-middle.ensures.number c.in_ok-try_number.ensures))
 
 pub returns-clause-round : goal.returns-clause-round
 returns-clause-round c =
@@ -59,12 +60,12 @@ returns-clause-round c =
     let cut : TimingValues = c.args.cut.now in
     let new : TimingValues = c.try_number-2.new.cut in
     let kept : c.try_number.new.cut ≡ cut = c.in_ok-try_number.ensures.kept c.if-branch.false in
-    let apart : number cut p ≢ nominal_of line p =
+    let apart : number cut p ≢ declared_middle line p =
     grind (
       arith,
       nat_tests,
       c.number_of-number.ensures,
-      c.nominal-middle.ensures.is,
+      c.middle-middle.ensures.number,
       c.if-number-middle.false,
     ) in
     let other : number cut p ≢ least_of line p =
@@ -90,8 +91,8 @@ returns-clause-matters c = λ off.
     let new : TimingValues = c.try_number-2.new.cut in
     let kept : c.try_number.new.cut ≡ cut = c.in_ok-try_number.ensures.kept c.if-branch.false in
     let same : new ≡ cut = c.in_ok-put.ensures.kept off ∙ kept in
-    let first : IsPassed of (with_number cut p (nominal_of line p)) =
-    subst (λ (n : ℕ). IsPassed of (with_number cut p n)) c.nominal-middle.ensures.is
+    let first : IsPassed of (with_number cut p (declared_middle line p)) =
+    subst (λ (n : ℕ). IsPassed of (with_number cut p n)) c.middle-middle.ensures.number
     (c.in_ok-try_number.ensures.passes c.if-branch.false) in
     let second : IsPassed of (with_number cut p (least_of line p)) =
     subst (λ (n : ℕ). IsPassed of (with_number cut p n)) c.least-least.ensures.number

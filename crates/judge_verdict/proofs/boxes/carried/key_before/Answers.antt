@@ -1,4 +1,4 @@
-use Rattle.std.proofs.Common.{◌≡◌, ◌≤◌, ◌<◌, ◌-◌, ℕ, length, sym, ◌∙◌, ap, arith}
+use Rattle.std.proofs.Common.{◌≤◌, ◌<◌, ◌-◌, ℕ, length, sym, ◌∙◌, ap, arith}
 use Rattle.model_history.specs.Rails.{must_of, may_of, rails_at}
 use Rattle.run_signal.specs.Lanes.{in_lane}
 use Rattle.judge_verdict.specs.boxes.Terns.{terns_rails}

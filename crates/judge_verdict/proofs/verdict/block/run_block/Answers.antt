@@ -1,6 +1,5 @@
-use Rattle.std.proofs.Common.{◌≡◌, ℕ, ◌<◌, Some, Option, sym, ◌∙◌, ap, subst}
-use Rattle.std.specs.Prelude.{slice_get}
-use Rattle.model_history.specs.Rails.{both, must_of}
+use Rattle.std.proofs.Common.{◌≡◌, ℕ, ◌<◌, Option, sym, ◌∙◌, ap, subst}
+use Rattle.model_history.specs.Rails.{must_of}
 use Rattle.run_signal.specs.SentKeys.{SentKeys}
 use Rattle.run_signal.specs.Bits.{bit_rails}
 use Rattle.model_timing.specs.{Choice.timing_choice, Candidates.candidate}
@@ -8,7 +7,7 @@ use Rattle.run_changes.specs.changes.Tracks.{pair_of}
 use Rattle.run_changes.specs.changes.Until.{ReachTick}
 use Rattle.model_line.specs.Parameters.{param_count, terminal_count}
 use Rattle.model_timing.specs.Blocks.{candidate_in, AreBlockSpans}
-use Rattle.judge_verdict.specs.verdict.Candidates.{looked_at, trips_in}
+use Rattle.judge_verdict.specs.verdict.Candidates.{looked_at}
 use Rattle.run_step.specs.BlockLaws.{block_point, block_delayed}
 use Rattle.judge_verdict.proofs.verdict.block.run_block.Goals as goal
 

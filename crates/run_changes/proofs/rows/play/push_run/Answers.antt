@@ -1,12 +1,13 @@
 use Rattle.std.proofs.Common.{◌≡◌, ◌<◌, ◌≤◌, ◌+◌, ◌++◌, ℕ, List, Some, sym, ◌∙◌, ap, arith, subst}
 use Rattle.std.proofs.lemmas.List.{append-nil}
 use Rattle.std.specs.Prelude.{slice_get}
+use Rattle.model_history.specs.EachLaws.{list_more}
 use Rattle.model_line.specs.Parameters.{terminal_count}
 use Rattle.run_changes.specs.rows.PlayRows.{tick_rows}
 use Rattle.run_signal.specs.SentKeys.{SentKeys}
 use Rattle.run_signal.specs.declared.level.Level.{Level}
 use Rattle.run_changes.specs.declared.rows.standing.Pair.{Pair}
-use Rattle.run_changes.specs.{rows.RowLaws.texts_more, rows.StandingLaws.AllStand, rows.StandingLaws.all_stand_at}
+use Rattle.run_changes.specs.{rows.StandingLaws.AllStand, rows.StandingLaws.all_stand_at}
 use Rattle.run_changes.specs.changes.PlayedTracks.{played}
 use Rattle.run_changes.proofs.rows_lemmas.QuietRows.{no_rows, no_more_texts}
 use Rattle.run_changes.proofs.rows.play.push_run.Goals as goal
@@ -68,7 +69,7 @@ changes-preserved c =
     tick_rows c.args.names.now.timing c.args.names.now.script line (played keys trips) in
     record {
       inside = c.next_change-t.ensures.limited;
-      rows = texts_more c.args.text.now.items c.changes.text.items c.push_tick.new.text.items rows t
+      rows = list_more c.args.text.now.items c.changes.text.items c.push_tick.new.text.items rows t
           c.changes.invariant.rows c.in_ok-push_tick.ensures.rows
           ∙ ap (λ (l : List ℕ). c.args.text.now.items ++ l)
           (no_more_texts (t + 1) end rows (omega (arith, later))

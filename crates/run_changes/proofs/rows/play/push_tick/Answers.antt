@@ -2,10 +2,11 @@ use Rattle.std.proofs.Common.{◌≡◌, ◌+◌, Some, sym, ◌∙◌, arith, l
 use Rattle.std.proofs.lemmas.List.{append-nil}
 use Rattle.std.proofs.lemmas.Option.{slice_get_read, slice_get_within}
 use Rattle.std.specs.Prelude.{slice_get}
+use Rattle.model_history.specs.EachLaws.{list_done, list_more}
 use Rattle.model_line.specs.Parameters.{terminal_count}
 use Rattle.run_step.specs.LoopLaws.{part_more}
 use Rattle.run_changes.specs.changes.PlayedTracks.{played}
-use Rattle.run_changes.specs.{rows.PlayRows.terminal_rows, rows.RowLaws.texts_done, rows.RowLaws.texts_more}
+use Rattle.run_changes.specs.rows.PlayRows.{terminal_rows}
 use Rattle.run_changes.specs.rows.StandingLaws.{PairStands}
 use Rattle.run_changes.proofs.rows.play.push_tick.Goals as goal
 
@@ -42,7 +43,7 @@ loop-k-preserved c =
     slice_get_read pairs (terminal_count c.args.line.now) k old (sym c.loop-k.invariant.count)
     (omega arith) c.index_mut.ensures.value in
     record {
-      rows = texts_more c.args.text.now.items c.loop-k.text.items c.push_terminal.new.text.items
+      rows = list_more c.args.text.now.items c.loop-k.text.items c.push_terminal.new.text.items
           (terminal_rows c.args.names.now.timing c.args.names.now.script c.args.line.now
           (played keys trips) t)
           k c.loop-k.invariant.rows c.in_ok-push_terminal.ensures.rows;
@@ -65,7 +66,7 @@ returns-clause-rows c =
     let line = c.args.line.now in
     let keys = c.args.tracks.now.keys.items in
     let trips = c.args.tracks.now.trips.items in
-    texts_done c.args.text.now.items c.loop-k.text.items
+    list_done c.args.text.now.items c.loop-k.text.items
     (terminal_rows c.args.names.now.timing c.args.names.now.script line (played keys trips) c.args.t)
     c.loop-k.k (terminal_count line) (omega (arith, c.loop-k-test.false, c.len-k-end.ensures))
     (omega (arith, c.loop-k.auto.k-end, c.len-k-end.ensures)) c.loop-k.invariant.rows

@@ -1,6 +1,7 @@
 use Rattle.std.proofs.Common.{◌≡◌, ◌+◌, ◌++◌, length}
+use Rattle.model_history.specs.Each.{each_below}
 use Rattle.model_line.specs.Parameters.{terminal_count}
-use Rattle.run_changes.specs.{rows.PlayRows.each_below, rows.PlayRows.terminal_rows, rows.StandingLaws.PairStands}
+use Rattle.run_changes.specs.{rows.PlayRows.terminal_rows, rows.StandingLaws.PairStands}
 use Rattle.run_changes.specs.changes.PlayedTracks.{played}
 use Rattle.run_step.specs.Ticks.{PartDone}
 use Rattle.run_changes.proofs.rows.play.push_tick.Given as goal

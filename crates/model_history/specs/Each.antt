@@ -2,6 +2,6 @@
 use Rattle.std.specs.Prelude.{◌++◌, ℕ, zero, suc, List, []}
 
 -- the lists of all numbers below n, one after another
-abbrev pub each_of : {A : Type 0} → ℕ → (ℕ → List A) → List A
-each_of zero list = []
-each_of (suc n) list = each_of n list ++ list n
+abbrev pub each_below : {A : Type 0} → ℕ → (ℕ → List A) → List A
+each_below zero list = []
+each_below (suc n) list = each_below n list ++ list n

@@ -1,8 +1,8 @@
 use Rattle.std.proofs.Common.{◌≡◌, ℕ, ◌<◌, subst, sym}
 use Rattle.model_line.specs.Channels.{from_of, to_of}
 use Rattle.model_line.specs.Parameters.{channel_count}
-use Rattle.net_compile.proofs.OwnNames.{channel_there}
-use Rattle.net_compile.proofs.times.channel_to.Goals as goal
+use Rattle.model_logic.proofs.OwnNames.{channel_there}
+use Rattle.model_logic.proofs.times.channel_to.Goals as goal
 
 pub returns-clause-exists : goal.returns-clause-exists
 returns-clause-exists c =

@@ -1,8 +1,8 @@
 use Rattle.std.proofs.Common.{ℕ, ◌<◌, ◌∙◌, ap, subst, sym}
 use Rattle.std.specs.Prelude.{unwrap_or}
 use Rattle.model_line.specs.Parameters.{param_count}
-use Rattle.net_compile.proofs.OwnNames.{param_there}
-use Rattle.net_compile.proofs.times.time_of.Goals as goal
+use Rattle.model_logic.proofs.OwnNames.{param_there}
+use Rattle.model_logic.proofs.times.time_of.Goals as goal
 
 pub returns-clause-has : goal.returns-clause-has
 returns-clause-has c =

@@ -1,4 +1,4 @@
-//! The line's parameters and channels, as gates name them.
+//! The line's parameters and channels, as trees name them.
 
 ghost use Rattle.std.specs.Prelude.{◌≡◌, ◌<◌};
 ghost use Rattle.model_line.specs.Parameters.{terminal_count, channel_count, IsOwner};
@@ -6,12 +6,12 @@ ghost use Rattle.model_logic.specs.Received.{channel_to as channel_number_to};
 ghost use Rattle.model_logic.specs.{Unblocking.channel_setting, Names.HasTime, Elements.setting_of};
 ghost use Rattle.model_logic.specs.Permissive.{terminal_setting};
 
+use crate::time::Time;
 use model_line::laws::parameters_are_numbered;
 use model_line::{Line, Owner, Setting};
-use model_logic::Time;
 
 /// A setting of a terminal, as a time.
-#[tactic(auto, unfolding(model_logic::specs::Permissive::terminal_setting))]
+#[tactic(auto, unfolding(crate::specs::Permissive::terminal_setting))]
 pub fn terminal_time(line: &Line, terminal: u32, setting: Setting) -> Time
     requires exists { terminal < terminal_count line.now }
     ensures is { result ≡ terminal_setting line.now terminal setting }
@@ -21,7 +21,7 @@ pub fn terminal_time(line: &Line, terminal: u32, setting: Setting) -> Time
 }
 
 /// A setting of the channel to a terminal from another, as a time.
-#[tactic(auto, unfolding(model_logic::specs::Unblocking::channel_setting))]
+#[tactic(auto, unfolding(crate::specs::Unblocking::channel_setting))]
 pub fn channel_time(line: &Line, terminal: u32, from: u32, setting: Setting) -> Time
     ensures is { result ≡ channel_setting line.now terminal from setting }
     ensures has { HasTime line.now result }
@@ -34,7 +34,7 @@ pub fn channel_time(line: &Line, terminal: u32, from: u32, setting: Setting) -> 
 }
 
 /// The number of the channel to a terminal from another. It is 0 where there is none.
-#[tactic(auto, unfolding(model_logic::specs::Received::channel_to))]
+#[tactic(auto, unfolding(crate::specs::Received::channel_to))]
 pub fn channel_to(line: &Line, terminal: u32, from: u32) -> u32
     ensures is { result ≡ channel_number_to line.now terminal from }
     ensures exists { result < channel_count line.now }
@@ -42,8 +42,9 @@ pub fn channel_to(line: &Line, terminal: u32, from: u32) -> u32
     line.channel_of(from, terminal).unwrap_or(0)
 }
 
-#[tactic(auto, unfolding(model_logic::specs::Elements::setting_of))]
-pub(crate) fn time_of(line: &Line, owner: Owner, setting: Setting) -> Time
+/// A setting of a terminal or a channel, as a time.
+#[tactic(auto, unfolding(crate::specs::Elements::setting_of))]
+pub fn time_of(line: &Line, owner: Owner, setting: Setting) -> Time
     requires exists { IsOwner line.now owner }
     ensures is { result ≡ setting_of line.now owner setting }
     ensures has { HasTime line.now result }

@@ -1,7 +1,7 @@
 use Rattle.std.proofs.Common.{◌≡◌, true, false, sym, ◌∙◌, ap, decimal}
 use Rattle.std.proofs.lemmas.Option.{same_Some, none-some}
 use Rattle.base_text.specs.{store.Number.number_of, store.DecimalLaws.number_of-decimal}
-use Rattle.cert_split.proofs.text.node_line.number_in.Goals as goal
+use Rattle.base_text.proofs.lines.numbers.number_in.Goals as goal
 
 pub returns-in_err-n : goal.returns-in_err-n
 returns-in_err-n c =
