@@ -9,7 +9,7 @@ ghost use Rattle.model_logic.specs.Logic.{blocking_pilot as blocking_pilot_tree}
 use crate::build::{and, not, timer};
 use crate::formula::Formula;
 use crate::received::any_received;
-use crate::seen_elements::seen_timed;
+use crate::seen_elements::element_formula;
 use base_memory::Memory;
 use model_line::{Element, Line, Setting};
 use model_logic::{Time, terminal_time};
@@ -19,8 +19,8 @@ pub fn blocking_key(alloc: Global, line: &Line, k: u32) -> Result<Formula, Memor
     requires { k < terminal_count line.now }
     ensures { IfOk result (λ f. tree_of f ≡ blocking_key_tree line.now k) }
 {
-    let zone2 = seen_timed(alloc, line, k, Element::Z2);
-    let reverse = seen_timed(alloc, line, k, Element::Rv);
+    let zone2 = element_formula(alloc, line, k, Element::Z2);
+    let reverse = element_formula(alloc, line, k, Element::Rv);
     let behind = and(alloc, reverse, not(alloc, zone2));
     let carry = terminal_time(line, k, Setting::BlockCarry);
     timer(alloc, behind, Time::Zero, carry)
@@ -31,7 +31,7 @@ pub fn blocking_pilot(alloc: Global, line: &Line, k: u32) -> Result<Formula, Mem
     ensures { IfOk result (λ f. tree_of f ≡ blocking_pilot_tree line.now k) }
 {
     let coordination = terminal_time(line, k, Setting::BlockCoord);
-    let zone2 = seen_timed(alloc, line, k, Element::Z2);
+    let zone2 = element_formula(alloc, line, k, Element::Z2);
     let ahead = timer(alloc, zone2, coordination, Time::Zero);
     let blocked = any_received(alloc, line, k);
     and(alloc, ahead, not(alloc, blocked))

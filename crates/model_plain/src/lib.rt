@@ -1,5 +1,5 @@
-//! The plain, slow way to say the logic: formulas that stand for its trees, and their values tick by
-//! tick. No command uses it: what a command answers comes from the net.
+//! The logic as formulas, which stand for its trees: nets are compiled of them. And the plain, slow
+//! way to say what they mean, tick by tick, which no command uses.
 //!
 //! - `formula` and `build` make formulas; `seen_elements`, and `received` over `others`, are what a
 //!   terminal sees and hears.
@@ -21,3 +21,5 @@ mod unblocking;
 
 pub use formula::Formula;
 pub use logic::{key_formula, trip_formula};
+pub use permissive::guard_formula;
+pub use seen_elements::element_formula;

@@ -9,7 +9,7 @@ use crate::blocking::{blocking_key, blocking_pilot};
 use crate::build::{or, seal};
 use crate::formula::Formula;
 use crate::permissive::{permissive_key, permissive_pilot};
-use crate::seen_elements::seen_timed;
+use crate::seen_elements::element_formula;
 use crate::transfer::{transfer_pilot, underreach_pilot};
 use base_memory::Memory;
 use model_line::{Channel, Element, Line, Scheme};
@@ -23,7 +23,7 @@ pub fn key_formula(alloc: Global, line: &Line, terminal: u32) -> Result<Formula,
 {
     match line.scheme {
         Scheme::Pott | Scheme::Dcub => permissive_key(alloc, line, terminal),
-        Scheme::Putt | Scheme::Dtt => seen_timed(alloc, line, terminal, Element::Z1),
+        Scheme::Putt | Scheme::Dtt => element_formula(alloc, line, terminal, Element::Z1),
         Scheme::Dcb => blocking_key(alloc, line, terminal),
     }
 }
@@ -34,7 +34,11 @@ pub fn trip_formula(alloc: Global, line: &Line, terminal: u32) -> Result<Formula
     ensures { IfOk result (λ f. tree_of f ≡ trip_tree line.now terminal) }
 {
     let set = set(alloc, line, terminal);
-    seal(alloc, set, seen_timed(alloc, line, terminal, Element::Cur))
+    seal(
+        alloc,
+        set,
+        element_formula(alloc, line, terminal, Element::Cur),
+    )
 }
 
 // What sets the trip.
@@ -45,7 +49,11 @@ fn set(alloc: Global, line: &Line, terminal: u32) -> Result<Formula, Memory>
 {
     let pilot = pilot(alloc, line, terminal);
     if line.zone1_trip {
-        or(alloc, pilot, seen_timed(alloc, line, terminal, Element::Z1))
+        or(
+            alloc,
+            pilot,
+            element_formula(alloc, line, terminal, Element::Z1),
+        )
     } else {
         pilot
     }

@@ -3,7 +3,7 @@
 ghost use Rattle.std.specs.Prelude.{◌≡◌, ◌<◌, IfOk};
 ghost use Rattle.model_plain.specs.Formulas.{tree_of};
 ghost use Rattle.model_line.specs.Parameters.{terminal_count};
-ghost use Rattle.model_logic.specs.Permissive.{permission as permission_tree};
+ghost use Rattle.model_logic.specs.{Names.Names, Permissive.permission as permission_tree};
 ghost use Rattle.model_logic.specs.Permissive.{reversal_guard as reversal_guard_tree};
 ghost use Rattle.model_logic.specs.Permissive.{quiet as quiet_tree};
 ghost use Rattle.model_logic.specs.Permissive.{echo_wanted as echo_wanted_tree};
@@ -15,7 +15,7 @@ ghost use Rattle.model_logic.specs.Permissive.{permissive_pilot as permissive_pi
 use crate::build::{and, not, or, timer};
 use crate::formula::Formula;
 use crate::received::all_received;
-use crate::seen_elements::seen_timed;
+use crate::seen_elements::element_formula;
 use crate::unblocking::all_open;
 use base_memory::Memory;
 use model_line::{Element, Line, Scheme, Setting};
@@ -34,15 +34,17 @@ fn permission(alloc: Global, line: &Line, k: u32) -> Result<Formula, Memory>
     }
 }
 
-#[tactic(auto, unfolding(model_logic::specs::Permissive::reversal_guard))]
-fn reversal_guard(alloc: Global, line: &Line, k: u32) -> Result<Formula, Memory>
+/// The formula of a terminal's guard against current reversal.
+#[tactic(auto, unfolding(model_logic::specs::Permissive::reversal_guard, model_logic::specs::Names::Names))]
+pub fn guard_formula(alloc: Global, line: &Line, k: u32) -> Result<Formula, Memory>
     requires { k < terminal_count line.now }
-    ensures { IfOk result (λ f. tree_of f ≡ reversal_guard_tree line.now k) }
+    ensures is { IfOk result (λ f. tree_of f ≡ reversal_guard_tree line.now k) }
+    ensures named { IfOk result (λ f. Names line.now (tree_of f)) }
 {
     if is_terminal_guarded(line, k) {
         let pickup = terminal_time(line, k, Setting::ReversalPickup);
         let dropout = terminal_time(line, k, Setting::ReversalDropout);
-        let reverse = seen_timed(alloc, line, k, Element::Rv);
+        let reverse = element_formula(alloc, line, k, Element::Rv);
         timer(alloc, reverse, pickup, dropout)
     } else {
         Ok(Formula::Const(false))
@@ -53,8 +55,8 @@ fn quiet(alloc: Global, line: &Line, k: u32) -> Result<Formula, Memory>
     requires { k < terminal_count line.now }
     ensures { IfOk result (λ f. tree_of f ≡ quiet_tree line.now k) }
 {
-    let zone2 = seen_timed(alloc, line, k, Element::Z2);
-    let fault = or(alloc, zone2, seen_timed(alloc, line, k, Element::Rv));
+    let zone2 = element_formula(alloc, line, k, Element::Z2);
+    let fault = or(alloc, zone2, element_formula(alloc, line, k, Element::Rv));
     let block = terminal_time(line, k, Setting::EchoBlock);
     not(alloc, timer(alloc, fault, Time::Zero, block))
 }
@@ -97,7 +99,7 @@ fn weak_infeed_trip(alloc: Global, line: &Line, k: u32) -> Result<Formula, Memor
 {
     if is_terminal_weak(line, k) {
         let wanted = echo_wanted(alloc, line, k);
-        and(alloc, wanted, seen_timed(alloc, line, k, Element::Uv))
+        and(alloc, wanted, element_formula(alloc, line, k, Element::Uv))
     } else {
         Ok(Formula::Const(false))
     }
@@ -108,8 +110,8 @@ pub fn permissive_key(alloc: Global, line: &Line, k: u32) -> Result<Formula, Mem
     ensures { IfOk result (λ f. tree_of f
         ≡ permissive_key_tree line.now k (permission_tree line.now k)) }
 {
-    let zone2 = seen_timed(alloc, line, k, Element::Z2);
-    let ahead = and(alloc, zone2, not(alloc, reversal_guard(alloc, line, k)));
+    let zone2 = element_formula(alloc, line, k, Element::Z2);
+    let ahead = and(alloc, zone2, not(alloc, guard_formula(alloc, line, k)));
     or(alloc, ahead, echo(alloc, line, k))
 }
 
@@ -118,9 +120,9 @@ pub fn permissive_pilot(alloc: Global, line: &Line, k: u32) -> Result<Formula, M
     ensures { IfOk result (λ f. tree_of f
         ≡ permissive_pilot_tree line.now k (permission_tree line.now k)) }
 {
-    let zone2 = seen_timed(alloc, line, k, Element::Z2);
+    let zone2 = element_formula(alloc, line, k, Element::Z2);
     let permitted = and(alloc, zone2, permission(alloc, line, k));
-    let steady = not(alloc, reversal_guard(alloc, line, k));
+    let steady = not(alloc, guard_formula(alloc, line, k));
     let ahead = and(alloc, permitted, steady);
     or(alloc, ahead, weak_infeed_trip(alloc, line, k))
 }

@@ -3,7 +3,7 @@
 ghost use Rattle.std.specs.Prelude.{◌≡◌, ◌<◌, IfOk};
 ghost use Rattle.model_plain.specs.Formulas.{tree_of};
 ghost use Rattle.model_line.specs.Parameters.{terminal_count};
-ghost use Rattle.model_logic.specs.Elements.{seen_timed as seen_timed_tree};
+ghost use Rattle.model_logic.specs.{Names.Names, Elements.seen_timed as seen_timed_tree};
 
 use crate::build::timer;
 use crate::formula::Formula;
@@ -12,11 +12,17 @@ use model_line::{Element, Line, Owner, Place};
 use model_logic::{pickup_and_dropout, time_of};
 use std::alloc::Global;
 
-// What the terminal's relay sees of an element.
-#[tactic(auto, unfolding(model_logic::specs::Elements::seen_timed))]
-pub fn seen_timed(alloc: Global, line: &Line, k: u32, element: Element) -> Result<Formula, Memory>
+/// The formula of what a terminal sees of an element.
+#[tactic(auto, unfolding(model_logic::specs::Elements::seen_timed, model_logic::specs::Names::Names))]
+pub fn element_formula(
+    alloc: Global,
+    line: &Line,
+    k: u32,
+    element: Element,
+) -> Result<Formula, Memory>
     requires { k < terminal_count line.now }
-    ensures { IfOk result (λ f. tree_of f ≡ seen_timed_tree line.now k element) }
+    ensures is { IfOk result (λ f. tree_of f ≡ seen_timed_tree line.now k element) }
+    ensures named { IfOk result (λ f. Names line.now (tree_of f)) }
 {
     let seen = Formula::Seen(Place {
         element,

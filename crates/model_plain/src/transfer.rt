@@ -9,7 +9,7 @@ ghost use Rattle.model_logic.specs.Logic.{transfer_pilot as transfer_pilot_tree}
 use crate::build::{and, timer};
 use crate::formula::Formula;
 use crate::received::any_received;
-use crate::seen_elements::seen_timed;
+use crate::seen_elements::element_formula;
 use base_memory::Memory;
 use model_line::{Element, Line, Setting};
 use model_logic::{Time, terminal_time};
@@ -19,7 +19,7 @@ pub fn underreach_pilot(alloc: Global, line: &Line, k: u32) -> Result<Formula, M
     requires { k < terminal_count line.now }
     ensures { IfOk result (λ f. tree_of f ≡ underreach_pilot_tree line.now k) }
 {
-    let ahead = seen_timed(alloc, line, k, Element::Z2);
+    let ahead = element_formula(alloc, line, k, Element::Z2);
     and(alloc, ahead, any_received(alloc, line, k))
 }
 

@@ -43,13 +43,13 @@ not_found g (k ∷ ks) h i e =
           let u : true ≡ false = sym t ∙ f in cc
       by false f (suc j) e rest = rest f j e
 
-grows_none : (ks : List Gate) → Grows ks ks 1
-grows_none ks = grows_from ks ks 1 (take-length ks) (omega arith) (omega arith)
+grows_none : (ks : List Gate) → Grows ks ks
+grows_none ks = grows_from ks ks (take-length ks) (omega arith)
 
-grows_one : (ks : List Gate) (g : Gate) → Grows ks (ks ++ g ∷ []) 1
+grows_one : (ks : List Gate) (g : Gate) → Grows ks (ks ++ g ∷ [])
 grows_one ks g =
-    grows_from ks (ks ++ g ∷ []) 1 (take-append_seam ks (g ∷ []))
-    (omega (arith, length-append ks (g ∷ []))) (omega (arith, length-append ks (g ∷ [])))
+    grows_from ks (ks ++ g ∷ []) (take-append_seam ks (g ∷ []))
+    (omega (arith, length-append ks (g ∷ [])))
 
 gates_push : (ks : List Gate) (g : Gate) → AreGates ks → length ks < 512
     → HasArguments (length ks) g → ((i : ℕ) → slice_get ks i ≢ Some g) → AreGates (ks ++ g ∷ [])
@@ -93,8 +93,8 @@ module _ (ks new : List Gate) (g : Gate) (ins : Inserts ks new g) where
   pub gates_more : AreGates ks → length ks < 512 → HasArguments (length ks) g → AreGates new
   gates_more net room args = inserted AreGates net (gates_push ks g net room args)
 
-  pub grows_more : Grows ks new 1
-  grows_more = inserted (λ l. Grows ks l 1) (grows_none ks) (λ none. grows_one ks g)
+  pub grows_more : Grows ks new
+  grows_more = inserted (λ l. Grows ks l) (grows_none ks) (λ none. grows_one ks g)
 
   pub names_more : (line : Line) → GateNames line g → KeepsNames line ks new
   names_more line named = inserted (KeepsNames line ks) (λ n all. all)

@@ -1,5 +1,5 @@
 -- The keys and trips of the terminals below some number.
-use Rattle.std.proofs.Common.{◌≡◌, ◌⊎◌, ℕ, zero, suc, ◌*◌, ◌<◌, ◌≤◌, List, [], ◌∷◌, ◌++◌, length}
+use Rattle.std.proofs.Common.{◌≡◌, ◌⊎◌, ℕ, zero, suc, ◌<◌, List, [], ◌∷◌, ◌++◌, length}
 use Rattle.std.proofs.Common.{refl, sym, ◌∙◌, subst, arith, inl, inr, ⊎_elim, length-append}
 use Rattle.std.specs.Prelude.{Result, Ok, Err, IfOk}
 use Rattle.model_line.specs.{declared.line.Line.Line, Parameters.terminal_count}
@@ -8,7 +8,7 @@ use Rattle.model_logic.specs.Tree.{Tree}
 use Rattle.net_gates.specs.Named.{NamedFrom}
 use Rattle.net_gates.specs.{declared.gate.Gate.Gate, declared.gate.GateId.GateId, Formulas.Stands}
 use Rattle.net_gates.specs.NetOf.{NetOf, AreGatesOf, IsNet, IsNetOf, id_at}
-use Rattle.net_compile.specs.Growing.{Grows, Extends}
+use Rattle.net_compile.specs.Growing.{Grows, ExtendsFor}
 use Rattle.net_compile.specs.{declared.terminal_gates.Ends.Ends, Compiled.AreEnds}
 
 -- one gate for each terminal below j, which stands for the terminal's tree
@@ -20,14 +20,13 @@ pub record StandInOrder (gates : List Gate) (ids : List GateId) (tree : ℕ → 
 -- the terminals below j have their gates
 pub record HaveEnds (line : Line) (gates : List Gate) (keys trips : List GateId) (j : ℕ)
     : Type 0 where
-  pub few : length gates ≤ 114 * j
   pub named : NamedFrom line 0 gates
   pub key_gates : StandInOrder gates keys (key_tree line) j
   pub trip_gates : StandInOrder gates trips (trip_tree line) j
 
-stands_kept : (old new : List Gate) (n id : ℕ) (tree : Tree) → Grows old new n → Stands old id tree
+pub stands_kept : (old new : List Gate) (id : ℕ) (tree : Tree) → Grows old new → Stands old id tree
     → Stands new id tree
-stands_kept old new n id tree grows s = record {
+stands_kept old new id tree grows s = record {
   within = omega (arith, s.within, grows.longer);
   is = grows.same id s.within ∙ s.is;
 }
@@ -46,15 +45,15 @@ at_push (id ∷ ids) last (suc k) lt =
     (λ p. let same : suc k ≡ length (id ∷ ids) = omega (arith, p.0) in inr (same, p.1))
     (at_push ids last k (omega arith))
 
-pub in_order_more : (old new : List Gate) (n : ℕ) (ids : List GateId) (last : GateId)
-    (tree : ℕ → Tree) (j : ℕ) → Grows old new n → StandInOrder old ids tree j
+pub in_order_more : (old new : List Gate) (ids : List GateId) (last : GateId)
+    (tree : ℕ → Tree) (j : ℕ) → Grows old new → StandInOrder old ids tree j
     → Stands new last.0 (tree j) → StandInOrder new (ids ++ last ∷ []) tree (suc j)
-in_order_more old new n ids last tree j grows sofar next = record {
+in_order_more old new ids last tree j grows sofar next = record {
   count = omega (arith, length-append ids (last ∷ []), sofar.count);
   each = λ k lt.
       ⊎_elim
       (λ p. subst (λ id. Stands new id (tree k)) (sym p.1)
-      (stands_kept old new n (id_at ids k) (tree k) grows
+      (stands_kept old new (id_at ids k) (tree k) grows
       (sofar.each k (omega (arith, p.0, sofar.count)))))
       (λ p.
       let here : j ≡ k = omega (arith, p.0, sofar.count) in
@@ -65,7 +64,6 @@ in_order_more old new n ids last tree j grows sofar next = record {
 
 pub have_none : (line : Line) → HaveEnds line [] [] [] 0
 have_none line = record {
-  few = omega arith;
   named = record { each = λ i g le at. absurd (cc) };
   key_gates = record { count = refl; each = λ k lt. absurd (omega arith) };
   trip_gates = record { count = refl; each = λ k lt. absurd (omega arith) };
@@ -73,16 +71,15 @@ have_none line = record {
 
 -- and one terminal more
 pub have_more : (line : Line) (old new : List Gate) (keys trips : List GateId) (ends : Ends) (j : ℕ)
-    → HaveEnds line old keys trips j → Extends line old new 114 → AreEnds line j new ends
+    → HaveEnds line old keys trips j → ExtendsFor line old new → AreEnds line j new ends
     → HaveEnds line new (keys ++ ends.key ∷ []) (trips ++ ends.trip ∷ []) (suc j)
 have_more line old new keys trips ends j sofar adds next = record {
-  few = omega (arith, sofar.few, adds.grows.few);
   named = adds.named 0 sofar.named;
   key_gates =
-      in_order_more old new 114 keys ends.key (key_tree line) j adds.grows sofar.key_gates
+      in_order_more old new keys ends.key (key_tree line) j adds.grows sofar.key_gates
       next.key_gate;
   trip_gates =
-      in_order_more old new 114 trips ends.trip (trip_tree line) j adds.grows sofar.trip_gates
+      in_order_more old new trips ends.trip (trip_tree line) j adds.grows sofar.trip_gates
       next.trip_gate;
 }
 

@@ -39,7 +39,7 @@ formula_of-kept old new i kept lt =
 
 -- a gate that is added stands for its kind over the trees of its arguments
 pub stands : (old new : List Gate) (g : Gate) (id : ℕ) → AreGates new → HasArguments (length old) g
-    → Grows old new 1 → Adds old new g id → Stands new id (kind_over old g)
+    → Grows old new → Adds old new g id → Stands new id (kind_over old g)
 stands old new g id net args grows adds = record {
   within = slice_get_within new id g adds.at;
   is = formula_of-gate new id g net adds.at
@@ -54,11 +54,10 @@ slice_get-take (x ∷ xs) (suc n) zero lt = refl
 slice_get-take (x ∷ xs) (suc n) (suc i) lt = slice_get-take xs n i (omega arith)
 
 -- a longer list of gates that begins with the old ones
-pub grows_from : (old new : List Gate) (n : ℕ) → take (length old) new ≡ old
-    → length old ≤ length new → length new ≤ length old + n → Grows old new n
-grows_from old new n kept longer few = record {
+pub grows_from : (old new : List Gate) → take (length old) new ≡ old
+    → length old ≤ length new → Grows old new
+grows_from old new kept longer = record {
   kept = λ i lt. sym (slice_get-take new (length old) i lt) ∙ ap (λ l. slice_get l i) kept;
   longer = longer;
   same = λ i lt. formula_of-kept old new i kept lt;
-  few = few;
 }

@@ -1,22 +1,17 @@
 -- How a list of gates grows.
-use Rattle.std.specs.Prelude.{◌≡◌, ◌≢◌, ◌<◌, ◌≤◌, ◌+◌, ◌++◌, ℕ, List, [], ◌∷◌, Some, length}
+use Rattle.std.specs.Prelude.{◌≡◌, ◌≢◌, ◌<◌, ◌≤◌, ◌++◌, ℕ, List, [], ◌∷◌, Some, length}
 use Rattle.std.specs.Prelude.{slice_get, Result, IfOk, OnErr}
 use Rattle.model_line.specs.declared.line.Line.{Line}
+use Rattle.model_logic.specs.{Tree.Tree, Names.Names}
 use Rattle.net_gates.specs.{declared.gate.Gate.Gate, declared.gate.GateId.GateId}
 use Rattle.net_gates.specs.Formulas.{formula_of, kind_over, Stands}
 use Rattle.net_gates.specs.Named.{GateNames, KeepsNames}
 
--- n gates more are still few enough
-abbrev pub HasRoom : List Gate → ℕ → Type 0
-HasRoom gates n = length gates + n ≤ 512
-
--- the old gates stand under their numbers, for the trees that they stood for, and at most n gates
--- are added
-pub record Grows (old new : List Gate) (n : ℕ) : Type 0 where
+-- the old gates stand under their numbers, for the trees that they stood for
+pub record Grows (old new : List Gate) : Type 0 where
   pub kept : (i : ℕ) → i < length old → slice_get new i ≡ slice_get old i
   pub longer : length old ≤ length new
   pub same : (i : ℕ) → i < length old → formula_of new i ≡ formula_of old i
-  pub few : length new ≤ length old + n
 
 -- the gate has this number. One that stood already has its old number and nothing changed, a new
 -- one goes last.
@@ -30,11 +25,17 @@ pub record Makes {E : Type 0} (old new : List Gate) (gate : Gate) (result : Resu
     : Type 0 where
   pub ok : IfOk result (λ id. Adds old new gate id.0)
   pub made : IfOk result (λ id. Stands new id.0 (kind_over old gate))
-  pub grows : Grows old new 1
+  pub grows : Grows old new
   pub named : (line : Line) → GateNames line gate → KeepsNames line old new
   pub err : OnErr result (new ≡ old)
 
--- the old gates stand under their numbers, and at most n are added, which name what the line has
-pub record Extends (line : Line) (old new : List Gate) (n : ℕ) : Type 0 where
-  pub grows : Grows old new n
+-- the old gates stand under their numbers, and where this tree names only what a line has, so do
+-- the gates that were added
+pub record Extends (tree : Tree) (old new : List Gate) : Type 0 where
+  pub grows : Grows old new
+  pub named : (line : Line) → Names line tree → KeepsNames line old new
+
+-- the old gates stand under their numbers, and those that were added name only what the line has
+pub record ExtendsFor (line : Line) (old new : List Gate) : Type 0 where
+  pub grows : Grows old new
   pub named : KeepsNames line old new

@@ -1,22 +1,21 @@
 //! The gates of one terminal.
 
-ghost use Rattle.std.specs.Prelude.{◌<◌, IfOk};
+ghost use Rattle.std.specs.Prelude.{◌≡◌, ◌<◌, IfOk};
 ghost use Rattle.model_line.specs.Parameters.{terminal_count};
-ghost use Rattle.model_logic.specs.Logic.{pilot_by, key_tree, set_tree, trip_tree};
+ghost use Rattle.model_logic.specs.{Names.Names, Tree.Tree};
+ghost use Rattle.model_logic.specs.Logic.{key_tree, trip_tree};
+ghost use Rattle.model_plain.specs.Formulas.{tree_of};
 ghost use Rattle.net_gates.specs.Formulas.{Stands};
-ghost use Rattle.net_compile.specs.Growing.{HasRoom, Extends};
-ghost use Rattle.net_compile.specs.{LocalGates.AreLocal, Outputs.CanMake, Outputs.MakesOutputs};
+ghost use Rattle.net_compile.specs.Growing.{ExtendsFor};
 ghost use Rattle.net_compile.specs.Compiled.{AreEnds};
 
-use crate::blocking::dcb;
 use crate::builder::NetBuilder;
-use crate::elements::{Local, local_elements};
-use crate::outputs::Out;
-use crate::pott_putt::{pott, putt};
-use crate::transfer_trip::dtt;
-use crate::unblocking::dcub;
-use model_line::{Line, Memory, Scheme};
+use crate::formula_gates::compile_formula;
+use model_line::{Element, Line, Memory};
+use model_logic::laws::trees_name_the_line;
+use model_plain::{Formula, element_formula, guard_formula, key_formula, trip_formula};
 use net_gates::GateId;
+use std::alloc::Global;
 
 /// The gates of what a terminal sends and of its trip.
 #[derive(Clone, Copy)]
@@ -25,54 +24,52 @@ pub struct Ends {
     pub trip: GateId,
 }
 
-/// The gates of a terminal. It adds at most 114 gates.
-#[tactic(auto, unfolding(model_logic::specs::Logic::key_tree, model_logic::specs::Logic::trip_tree))]
-pub fn terminal_gates(net: &mut NetBuilder, line: &Line, terminal: u32) -> Result<Ends, Memory>
-    requires exists { terminal < terminal_count line.now }
-    requires room { HasRoom net.old 114 }
-    ensures adds { Extends line.now net.old net.new 114 }
-    ensures made { IfOk result (λ ends. AreEnds line.now terminal net.new ends) }
-{
-    let local = local_elements(net, line, terminal)?;
-    let out = scheme(net, line, terminal, &local)?;
-    let set = set(net, line, terminal, &local, out.pilot)?;
-    let trip = net.seal(set, local.cur)?;
-    Ok(Ends { key: out.key, trip })
-}
-
-// By the line's scheme.
-fn scheme(net: &mut NetBuilder, line: &Line, terminal: u32, local: &Local) -> Result<Out, Memory>
-    requires { CanMake line.now.scheme line.now terminal net.old local.now }
-    ensures { MakesOutputs line.now.scheme line.now terminal net.old net.new result }
-{
-    match line.scheme {
-        Scheme::Pott => pott(net, line, terminal, local),
-        Scheme::Putt => putt(net, line, terminal, local),
-        Scheme::Dcb => dcb(net, line, terminal, local),
-        Scheme::Dcub => dcub(net, line, terminal, local),
-        Scheme::Dtt => dtt(net, line, terminal, local),
-    }
-}
-
-// What sets the trip: the pilot scheme, and zone 1 where that trips by itself.
-#[tactic(auto, unfolding(model_logic::specs::Logic::set_tree))]
-fn set(
+/// The gates of a terminal: what it sees, its guard, its key and its trip.
+pub fn terminal_gates(
+    alloc: Global,
     net: &mut NetBuilder,
     line: &Line,
     terminal: u32,
-    local: &Local,
-    pilot: GateId,
-) -> Result<GateId, Memory>
-    requires room { HasRoom net.old 1 }
-    requires local { AreLocal line.now terminal net.old local.now }
-    requires pilot { Stands net.old pilot.0 (pilot_by line.now.scheme line.now terminal) }
-    ensures adds { Extends line.now net.old net.new 1 }
-    ensures made { IfOk result (λ id. Stands net.new id.0 (set_tree line.now terminal)) }
+) -> Result<Ends, Memory>
+    requires exists { terminal < terminal_count line.now }
+    ensures adds { ExtendsFor line.now net.old net.new }
+    ensures made { IfOk result (λ ends. AreEnds line.now terminal net.new ends) }
 {
-    if line.zone1_trip {
-        let either = net.or(pilot, local.z1)?;
-        Ok(either)
-    } else {
-        Ok(pilot)
+    local_gates(alloc, net, line, terminal)?;
+    trees_name_the_line();
+    let key = gate_of(net, line, key_formula(alloc, line, terminal))?;
+    let trip = gate_of(net, line, trip_formula(alloc, line, terminal))?;
+    Ok(Ends { key, trip })
+}
+
+// Each element of a terminal and its guard, whether its scheme looks at them or not.
+fn local_gates(alloc: Global, net: &mut NetBuilder, line: &Line, k: u32) -> Result<(), Memory>
+    requires exists { k < terminal_count line.now }
+    ensures adds { ExtendsFor line.now net.old net.new }
+{
+    for element in [
+        Element::Z1,
+        Element::Z2,
+        Element::Rv,
+        Element::Uv,
+        Element::Cur,
+    ] {
+        gate_of(net, line, element_formula(alloc, line, k, element))?;
     }
+    gate_of(net, line, guard_formula(alloc, line, k))?;
+    Ok(())
+}
+
+// The gate of a formula that names only what the line has.
+fn gate_of(
+    net: &mut NetBuilder,
+    line: &Line,
+    formula: Result<Formula, Memory>,
+) -> Result<GateId, Memory>
+    requires named { IfOk formula (λ f. Names line.now (tree_of f)) }
+    ensures adds { ExtendsFor line.now net.old net.new }
+    ensures made { (t : Tree) → IfOk formula (λ f. tree_of f ≡ t)
+        → IfOk result (λ id. Stands net.new id.0 t) }
+{
+    compile_formula(net, &formula?)
 }

@@ -17,7 +17,7 @@ pub fn compile(alloc: Global, line: &Line) -> Result<Net, Memory>
     let mut keys = Vec::new(alloc);
     let mut trips = Vec::new(alloc);
     for terminal in 0..line.terminals.len() as u32 {
-        let ends = terminal_gates(&mut net, line, terminal)?;
+        let ends = terminal_gates(alloc, &mut net, line, terminal)?;
         keys.push(ends.key)?;
         trips.push(ends.trip)?;
     }

@@ -5,4 +5,4 @@ pub returns : goal.returns
 unfolding blocking_key
 returns c =
     rw c.terminal_time-carry.ensures.is at (c.timer.ensures _ (c.and-behind.ensures _ _
-    c.seen_timed-reverse.ensures (c.not.ensures _ c.seen_timed-zone2.ensures)))
+    c.element_formula-reverse.ensures.is (c.not.ensures _ c.element_formula-zone2.ensures.is)))

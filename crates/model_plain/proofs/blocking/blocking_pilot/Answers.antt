@@ -5,5 +5,5 @@ pub returns : goal.returns
 unfolding blocking_pilot
 returns c =
     rw c.terminal_time-coordination.ensures.is at (c.and.ensures _ _
-    (c.timer-ahead.ensures _ c.seen_timed-zone2.ensures)
+    (c.timer-ahead.ensures _ c.element_formula-zone2.ensures.is)
     (c.not.ensures _ c.any_received-blocked.ensures))

@@ -14,4 +14,4 @@ returns-then-line c =
     subst
     (λ (b : Bool). IfOk c.or.result (λ f. tree_of f
     ≡ if b then Or pilot (zone1 line c.args.terminal) else pilot))
-    (sym c.if-line.true) (c.or.ensures _ _ c.pilot-pilot.ensures c.seen_timed.ensures)
+    (sym c.if-line.true) (c.or.ensures _ _ c.pilot-pilot.ensures c.element_formula.ensures.is)

@@ -4,5 +4,5 @@ use Rattle.model_plain.proofs.permissive.permissive_key.Goals as goal
 pub returns : goal.returns
 unfolding permissive_key
 returns c =
-    c.or.ensures _ _ (c.and-ahead.ensures _ _ c.seen_timed-zone2.ensures
-    (c.not.ensures _ c.reversal_guard.ensures)) c.echo.ensures
+    c.or.ensures _ _ (c.and-ahead.ensures _ _ c.element_formula-zone2.ensures.is
+    (c.not.ensures _ c.guard_formula.ensures.is)) c.echo.ensures

@@ -5,5 +5,5 @@ pub returns : goal.returns
 unfolding permissive_pilot
 returns c =
     c.or.ensures _ _ (c.and-ahead.ensures _ _
-    (c.and-permitted.ensures _ _ c.seen_timed-zone2.ensures c.permission.ensures)
-    (c.not-steady.ensures _ c.reversal_guard.ensures)) c.weak_infeed_trip.ensures
+    (c.and-permitted.ensures _ _ c.element_formula-zone2.ensures.is c.permission.ensures)
+    (c.not-steady.ensures _ c.guard_formula.ensures.is)) c.weak_infeed_trip.ensures

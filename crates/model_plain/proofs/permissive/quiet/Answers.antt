@@ -5,4 +5,4 @@ pub returns : goal.returns
 unfolding quiet
 returns c =
     rw c.terminal_time-block.ensures.is at (c.not.ensures _ (c.timer.ensures _
-    (c.or-fault.ensures _ _ c.seen_timed-zone2.ensures c.seen_timed.ensures)))
+    (c.or-fault.ensures _ _ c.element_formula-zone2.ensures.is c.element_formula.ensures.is)))

@@ -6,4 +6,4 @@ pub returns-then-is_terminal_weak : goal.returns-then-is_terminal_weak
 unfolding weak_infeed_trip
 returns-then-is_terminal_weak c =
     rw (sym c.is_terminal_weak.ensures ∙ c.if-is_terminal_weak.true)
-    (c.and.ensures _ _ c.echo_wanted-wanted.ensures c.seen_timed.ensures)
+    (c.and.ensures _ _ c.echo_wanted-wanted.ensures c.element_formula.ensures.is)

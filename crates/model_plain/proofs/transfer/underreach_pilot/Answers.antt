@@ -4,4 +4,4 @@ use Rattle.model_plain.proofs.transfer.underreach_pilot.Goals as goal
 pub returns : goal.returns
 unfolding underreach_pilot
 returns c =
-    c.and.ensures _ _ c.seen_timed-ahead.ensures c.any_received.ensures
+    c.and.ensures _ _ c.element_formula-ahead.ensures.is c.any_received.ensures

@@ -13,7 +13,9 @@ inserts c =
     c.in_ok-at.ensures.keys
 
 room : (c : goal.In_ok-at) → length c.args.self.now < 512
-room c = omega (arith, c.requires.room)
+room c =
+    subst (λ l. length l < 512) c.self.view_is
+    (omega (arith, c.len.ensures.len, c.if-len-ge-MOST.false))
 
 gates : (c : goal.In_ok-at) → AreGates c.insert_full.new.self.keys
 gates c =
@@ -35,7 +37,7 @@ returns c =
     adds old new c.args.gate (inserts c)
     (subst AreGates c.self.view_is c.self.invariant) (room c) c.requires.arguments
     c.in_ok-at.at at in
-    let grows : Grows old new 1 = grows_more old new c.args.gate (inserts c) in
+    let grows : Grows old new = grows_more old new c.args.gate (inserts c) in
     record {
       ok = there;
       made = stands old new c.args.gate c.in_ok-at.at (gates c) c.requires.arguments grows there;
