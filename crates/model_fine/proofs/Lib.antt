@@ -1,0 +1,13 @@
+pub mod Floors
+pub mod CutElements
+pub mod CutRails
+pub mod CutTrees
+pub mod CutHistories
+pub mod FineCovers
+pub mod FineRules
+pub mod FineChoices
+pub mod WholeTicks
+pub mod WorstFine
+pub mod FineHistories
+pub mod SharedEnds
+pub mod Between

@@ -1,0 +1,5 @@
+pub mod Cut
+pub mod Fine
+pub mod Halves
+pub mod Laws
+pub mod Limits

@@ -1,0 +1,12 @@
+//! Whole ticks are no approximation: what the interval rules hold over whole ticks is met by every
+//! choice whose times are fractions of a tick.
+//!
+//! The definitions stand in `specs/`: what it is to cut each tick into n fine ticks (`Cut`), and the
+//! histories and the obligations of choices that are counted in fine ticks (`Fine`). Times are whole
+//! ticks everywhere else.
+//!
+//! - `fine_laws`: what is cut keeps its values, the interval history covers every fine history, and so
+//!   a rule speaks for every fine choice.
+#![tactic(auto)]
+
+pub mod fine_laws;
