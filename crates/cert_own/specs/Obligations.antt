@@ -5,6 +5,7 @@ use Rattle.model_line.specs.{declared.line.Line.Line, declared.script.Script.Scr
 use Rattle.model_logic.specs.Choice.{IsInside, declared_box, steady_choice}
 use Rattle.model_logic.specs.Histories.{History, IsLineHistory, Meets, PairHistory, IsPairHistory}
 use Rattle.model_logic.specs.Obligations.{EveryChoiceMeets}
+use Rattle.model_fine.specs.Fine.{EveryFineChoiceMeets}
 use Rattle.model_logic.specs.Rule.{Unknown, rule_of}
 use Rattle.model_timing.specs.Candidates.{candidate, candidate_count}
 use Rattle.cert_claims.specs.text.Grammar.{Verdict, yes, no, undecided}
@@ -38,6 +39,12 @@ abbrev pub HoldsAsAccepted : Verdict → Line → Script → ℕ → Type 0
 HoldsAsAccepted yes line script k = EveryChoiceMeets line script k
 HoldsAsAccepted (no values) line script k = IsFailedBy line script k values
 HoldsAsAccepted undecided line script k = Unit {0}
+
+-- what a verdict says of every choice of fractions: a `yes`, that each meets the obligation
+abbrev pub HoldsBetweenTicks : Verdict → Line → Script → ℕ → Type 0
+HoldsBetweenTicks yes line script k = EveryFineChoiceMeets line script k
+HoldsBetweenTicks (no values) line script k = Unit {0}
+HoldsBetweenTicks undecided line script k = Unit {0}
 
 -- ---- of all obligations
 
