@@ -42,7 +42,7 @@ module _ (n : ℕ) (some : 1 ≤ n) where
   pub first : (q : ℕ) → q * n / n ≡ q
   first q = let e : q * n ≡ q * n + 0 = omega arith in ap (λ (t : ℕ). t / n) e ∙ within q 0 some
 
-  sum : (a p q : ℕ) → a + p ≡ q → a * n + p * n ≡ q * n
+  pub sum : (a p q : ℕ) → a + p ≡ q → a * n + p * n ≡ q * n
   sum a p q e = let scaled : (a + p) * n ≡ q * n = ap (λ (x : ℕ). x * n) e in omega arith
 
   -- p ticks before a fine tick lies the tick that is p before its own

@@ -11,3 +11,7 @@ pub mod WorstFine
 pub mod FineHistories
 pub mod SharedEnds
 pub mod Between
+pub mod PulseNamed
+pub mod SpanLevels
+pub mod SpanCovers
+pub mod SpanTreesMeet

@@ -14,8 +14,7 @@ use Rattle.model_logic.specs.Mean.{World, Signals, mean}
 use Rattle.model_logic.specs.PairMean.{PairWorld, PairSignals, pair_mean}
 use Rattle.model_settle.specs.{Schemes.IsOneRailedBy, Choices.SomeChoiceFails}
 use Rattle.model_logic.specs.Boxes.{lower_half}
-use Rattle.model_settle.specs.CaseTrees.{CaseTree}
-use Rattle.model_fine.specs.Halves.{upper_from, IsShownBetween}
+use Rattle.model_fine.specs.Halves.{upper_from}
 use Rattle.model_fine.specs.Cut.{cut, cut_each, cut_ends, cut_world, cut_pair_world, cut_choice}
 use Rattle.model_fine.specs.Cut.{cut_history}
 use Rattle.model_fine.specs.Fine.{IsFineWithin, FineDelaysFromOne, IsFineHistory}
@@ -152,13 +151,10 @@ WholeTicksDecide = (line : Line) (script : Script) (k : ℕ) → script.deadline
 
 -- ---- parts of a box
 
--- where the halves of a box share their end, each fine choice of the box lies in one of them; so a tree
--- of such splits, each leaf of which is held, says that every choice of fractions meets the obligation
-pub record PartsThatShareTheirEnds : Type 0 where
-  pub halves : (n : ℕ) (line : Line) (choice : Choice) (box : Box) (param mid : ℕ)
-      → IsFineWithin n line choice box
-      → IsFineWithin n line choice (lower_half box param mid)
-      ⊎ IsFineWithin n line choice (upper_from box param mid)
-  pub trees : (line : Line) (script : Script) (k : ℕ) (tree : CaseTree)
-      → script.deadline < line.horizon → k < terminal_count line
-      → IsShownBetween line script k (declared_box line) tree → EveryFineChoiceMeets line script k
+-- where the halves of a box share their end, each fine choice of the box lies in one of them
+abbrev pub PartsThatShareTheirEnds : Type 0
+PartsThatShareTheirEnds =
+    (n : ℕ) (line : Line) (choice : Choice) (box : Box) (param mid : ℕ)
+    → IsFineWithin n line choice box
+    → IsFineWithin n line choice (lower_half box param mid)
+    ⊎ IsFineWithin n line choice (upper_from box param mid)

@@ -103,15 +103,10 @@ pub fn whole_ticks_decide()
     the_worst_choice_decides();
 }
 
-/// Where the halves of a box share their end, each fine choice of the box lies in one of them. So a
-/// tree of such splits, each leaf of which is held, says that every choice of fractions meets the
-/// obligation.
+/// Where the halves of a box share their end, each fine choice of the box lies in one of them.
 pub fn parts_that_share_their_ends()
     ensures { PartsThatShareTheirEnds }
-{
-    history_laws();
-    line_laws();
-}
+{}
 
 /// What is so at two whole numbers that follow one another need not be so between them.
 pub fn numbers_say_nothing_between()

@@ -7,6 +7,9 @@
 //!
 //! - `fine_laws`: what is cut keeps its values, the interval history covers every fine history, and so
 //!   a rule speaks for every fine choice.
+//! - `span_laws`: trees of parts that share their ends, and of cases of an echo over spans of ticks,
+//!   speak for every fine choice too.
 #![tactic(auto)]
 
 pub mod fine_laws;
+pub mod span_laws;
