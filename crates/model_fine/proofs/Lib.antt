@@ -11,3 +11,4 @@ pub mod WorstFine
 pub mod FineHistories
 pub mod SharedEnds
 pub mod Between
+pub mod FinerTicks
