@@ -3,12 +3,12 @@ use Rattle.std.proofs.Common.{◌≡◌, ◌<◌, ◌≤◌, ℕ}
 use Rattle.model_history.specs.Laws.{HistoryLaws}
 use Rattle.model_line.specs.{declared.line.Line.Line, declared.script.Script.Script}
 use Rattle.model_line.specs.Parameters.{terminal_count}
-use Rattle.model_logic.specs.Choice.{Choice, Box, LeastFromOne, declared_box}
+use Rattle.model_logic.specs.Choice.{Choice, Box, LeastFromOne}
 use Rattle.model_logic.specs.Histories.{History, PairHistory, IsPairHistory}
 use Rattle.model_logic.specs.{HeldOver.IsHeldOver, Laws.LineLaws, Rule.Held, Rule.Broken}
 use Rattle.model_logic.specs.Rule.{rule_of}
 use Rattle.model_fine.specs.Fine.{IsFineWithin, IsFineHistory, FineMeets, CoversFineHistory}
-use Rattle.model_fine.specs.Fine.{EveryFineChoiceMeets}
+use Rattle.model_fine.specs.Fine.{EachFineChoiceMeets}
 use Rattle.model_fine.proofs.{FineRules.held_met, FineRules.broken_failed, FineCovers.fine_covered}
 
 module _ (laws : HistoryLaws) (line_laws : LineLaws) where
@@ -44,12 +44,9 @@ module _ (laws : HistoryLaws) (line_laws : LineLaws) where
     pub broken_fine : rule_of line script (w.trip k) ≡ Broken → FineMeets n line script k h → ⊥
     broken_fine rule = broken_covered n some line script w h k early covered kn rule
 
-  pub held_between : (line : Line) (script : Script) (k : ℕ) → script.deadline < line.horizon
-      → k < terminal_count line → IsHeldOver line script k (declared_box line)
-      → EveryFineChoiceMeets line script k
-  held_between line script k early kn held n choice h some within is_h =
-      let (w, is_w) =
-      line_laws.interval_histories.exists line script (declared_box line)
-      (line_laws.inside.declared line) in
-      held_fine n some line script (declared_box line) w k early (line_laws.inside.declared line) is_w
-      kn choice h within is_h (held.held w is_w)
+  pub held_between : (line : Line) (script : Script) (k : ℕ) (box : Box)
+      → script.deadline < line.horizon → LeastFromOne line box → k < terminal_count line
+      → IsHeldOver line script k box → EachFineChoiceMeets line script k box
+  held_between line script k box early d kn held n choice h some within is_h =
+      let (w, is_w) = line_laws.interval_histories.exists line script box d in
+      held_fine n some line script box w k early d is_w kn choice h within is_h (held.held w is_w)

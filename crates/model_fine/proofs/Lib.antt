@@ -15,3 +15,4 @@ pub mod PulseNamed
 pub mod SpanLevels
 pub mod SpanCovers
 pub mod SpanTreesMeet
+pub mod FinerTicks

@@ -71,9 +71,17 @@ pub record CoversFineHistory (n : ℕ) (line : Line) (w : PairHistory) (h : Hist
   pub keys : AtFineTicks n line (λ k t. Covers (w.key k (t / n)) (h.key k t))
   pub trips : AtFineTicks n line (λ k t. Covers (w.trip k (t / n)) (h.trip k t))
 
--- every history of every choice of fractions inside the declared intervals, whatever the ticks are cut
--- into, meets the obligation of terminal k
+-- of every history of every choice of fractions within the box, whatever the ticks are cut into
+abbrev pub ForEachFineHistory : Line → Script → Box → (ℕ → History → Type 0) → Type 0
+ForEachFineHistory line script box Fact =
+    (n : ℕ) (choice : Choice) (h : History) → 1 ≤ n → IsFineWithin n line choice box
+    → IsFineHistory n line script choice h → Fact n h
+
+-- each within the box meets the obligation of terminal k
+abbrev pub EachFineChoiceMeets : Line → Script → ℕ → Box → Type 0
+EachFineChoiceMeets line script k box =
+    ForEachFineHistory line script box (λ n h. FineMeets n line script k h)
+
+-- each inside the declared intervals does
 abbrev pub EveryFineChoiceMeets : Line → Script → ℕ → Type 0
-EveryFineChoiceMeets line script k =
-    (n : ℕ) (choice : Choice) (h : History) → 1 ≤ n → IsFineInside n line choice
-    → IsFineHistory n line script choice h → FineMeets n line script k h
+EveryFineChoiceMeets line script k = EachFineChoiceMeets line script k (declared_box line)

@@ -14,12 +14,13 @@ use Rattle.model_logic.specs.Mean.{World, Signals, mean}
 use Rattle.model_logic.specs.PairMean.{PairWorld, PairSignals, pair_mean}
 use Rattle.model_settle.specs.{Schemes.IsOneRailedBy, Choices.SomeChoiceFails}
 use Rattle.model_logic.specs.Boxes.{lower_half}
+use Rattle.model_fine.specs.Finer.{IsLineInFinerTicks, IsScriptInFinerTicks}
 use Rattle.model_fine.specs.Halves.{upper_from}
 use Rattle.model_fine.specs.Cut.{cut, cut_each, cut_ends, cut_world, cut_pair_world, cut_choice}
 use Rattle.model_fine.specs.Cut.{cut_history}
 use Rattle.model_fine.specs.Fine.{IsFineWithin, FineDelaysFromOne, IsFineHistory}
 use Rattle.model_fine.specs.Fine.{IsSameFineHistory, FineMeets, CoversFineHistory, fine_world_of}
-use Rattle.model_fine.specs.Fine.{EveryFineChoiceMeets}
+use Rattle.model_fine.specs.Fine.{EachFineChoiceMeets, EveryFineChoiceMeets}
 
 -- ---- what is cut
 
@@ -119,11 +120,15 @@ pub record TheRuleSpeaksForEveryFineChoice : Type 0 where
       → (choice : Choice) (h : History) → IsFineWithin n line choice box
       → IsFineHistory n line script choice h → ¬ (FineMeets n line script k h)
 
--- what is held over the declared intervals in whole ticks is met by every choice of fractions
-abbrev pub WhatIsHeldIsMetBetweenTicks : Type 0
-WhatIsHeldIsMetBetweenTicks = (line : Line) (script : Script) (k : ℕ)
-    → script.deadline < line.horizon → k < terminal_count line
-    → IsHeldOver line script k (declared_box line) → EveryFineChoiceMeets line script k
+-- what is held over a box in whole ticks is met by every choice of fractions within, and so what is held
+-- over the declared intervals by every one inside
+pub record WhatIsHeldIsMetBetweenTicks : Type 0 where
+  pub over : (line : Line) (script : Script) (k : ℕ) (box : Box) → script.deadline < line.horizon
+      → LeastFromOne line box → k < terminal_count line → IsHeldOver line script k box
+      → EachFineChoiceMeets line script k box
+  pub declared : (line : Line) (script : Script) (k : ℕ) → script.deadline < line.horizon
+      → k < terminal_count line → IsHeldOver line script k (declared_box line)
+      → EveryFineChoiceMeets line script k
 
 -- ---- whole ticks
 
@@ -148,6 +153,13 @@ abbrev pub WholeTicksDecide : Type 0
 WholeTicksDecide = (line : Line) (script : Script) (k : ℕ) → script.deadline < line.horizon
     → IsOneRailedBy line.scheme line → k < terminal_count line
     → EveryChoiceMeets line script k ↔ EveryFineChoiceMeets line script k
+
+-- what every choice of fractions meets, every choice of fractions meets in finer ticks, where the intervals
+-- are the same or narrower: which tick is chosen is no question of truth
+abbrev pub FinerTicksKeepWhatIsMet : Type 0
+FinerTicksKeepWhatIsMet = (n : ℕ) (line finer : Line) (script other : Script) (k : ℕ) → 1 ≤ n
+    → IsLineInFinerTicks n line finer → IsScriptInFinerTicks n script other
+    → EveryFineChoiceMeets line script k → EveryFineChoiceMeets finer other k
 
 -- ---- parts of a box
 

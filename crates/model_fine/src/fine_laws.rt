@@ -5,9 +5,12 @@ ghost use Rattle.model_fine.specs.Laws.{FineHistoriesAreCovered, TheRuleSpeaksFo
 ghost use Rattle.model_fine.specs.Laws.{TheRuleSpeaksForCoveredFineHistories};
 ghost use Rattle.model_fine.specs.Laws.{WhatIsHeldIsMetBetweenTicks, WholeTicksAreTheCaseOfOne};
 ghost use Rattle.model_fine.specs.Laws.{WholeTicksDecide, EachFineChoiceHasOneHistory};
+ghost use Rattle.model_fine.specs.Laws.{FinerTicksKeepWhatIsMet};
 ghost use Rattle.model_fine.specs.{Laws.PartsThatShareTheirEnds, Limits.NumbersSayNothingBetween};
 
 use model_history::laws::history_laws;
+use model_line::laws::counts_do_not_rest_on_the_intervals;
+use model_logic::interval_laws::trees_do_not_rest_on_the_intervals;
 use model_logic::laws::line_laws;
 use model_settle::polarity_laws::the_worst_choice_decides;
 
@@ -78,7 +81,8 @@ pub fn the_rule_speaks_for_every_fine_choice()
     line_laws();
 }
 
-/// What is held over the declared intervals in whole ticks is met by every choice of fractions.
+/// What is held over a box in whole ticks, as over the declared intervals, is met by every choice of
+/// fractions within.
 pub fn what_is_held_is_met_between_ticks()
     ensures { WhatIsHeldIsMetBetweenTicks }
 {
@@ -101,6 +105,16 @@ pub fn whole_ticks_decide()
     history_laws();
     line_laws();
     the_worst_choice_decides();
+}
+
+/// What every choice of fractions meets, every choice of fractions meets in finer ticks, where the
+/// intervals are the same or narrower.
+pub fn finer_ticks_keep_what_is_met()
+    ensures { FinerTicksKeepWhatIsMet }
+{
+    counts_do_not_rest_on_the_intervals();
+    trees_do_not_rest_on_the_intervals();
+    line_laws();
 }
 
 /// Where the halves of a box share their end, each fine choice of the box lies in one of them.

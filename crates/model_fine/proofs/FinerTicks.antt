@@ -1,0 +1,195 @@
+-- What every choice of fractions meets, every choice of fractions of finer ticks meets.
+use Rattle.std.proofs.Common.{◌≡◌, ◌≤◌, ◌*◌, ◌/◌, ◌<◌, ℕ, List, refl, sym, ◌∙◌, ap, subst, arith}
+use Rattle.std.proofs.Math.Nat.{div-div-eq-div-mul, mul_assoc, mul_comm, mul-le-mul, mul-le-mul_right}
+use Rattle.std.proofs.Math.Path.{fun_ext}
+use Rattle.std.specs.Prelude.{Bool, length, if◌then◌else◌}
+use Rattle.model_history.specs.Rails.{Ends, IsPartOf}
+use Rattle.model_line.specs.{declared.line.Line.Line, declared.script.Script.Script}
+use Rattle.model_line.specs.{declared.line.Channel.Channel, declared.line.Scheme.Scheme}
+use Rattle.model_line.specs.declared.line.Scheme.TheVariants.{Pott, Putt, Dcb, Dcub, Dtt}
+use Rattle.model_line.specs.{declared.script.Kind.Kind, declared.script.Place.Place}
+use Rattle.model_line.specs.{Channels.from_of, SetBounds.SameButParams}
+use Rattle.model_line.specs.Laws.{CountsRestOnNoInterval, DelaysAreParameters}
+use Rattle.model_line.specs.Seen.{is_lost, is_seen}
+use Rattle.model_line.specs.Parameters.{declared_ends, delay_param}
+use Rattle.model_logic.specs.Choice.{Choice, IsIn, declared_box, time_by}
+use Rattle.model_logic.specs.Histories.{History, MeetsBy}
+use Rattle.model_logic.specs.IntervalLaws.{TreesRestOnNoInterval}
+use Rattle.model_logic.specs.{Mean.World, Mean.mean, Tree.Tree, Tree.Or, Tree.Seal}
+use Rattle.model_logic.specs.Elements.{current, setting_of, seen_timed, zone1}
+use Rattle.model_logic.specs.Received.{channel_to, received, all_others, any_received, all_received}
+use Rattle.model_logic.specs.Unblocking.{channel_setting, guard_seen, late, unblocked, locked_out}
+use Rattle.model_logic.specs.Unblocking.{open_from, all_open}
+use Rattle.model_logic.specs.Permissive.{terminal_setting, reversal_guard, quiet, echo_wanted, echo}
+use Rattle.model_logic.specs.Permissive.{weak_infeed_trip, permissive_key, permissive_pilot}
+use Rattle.model_logic.specs.Logic.{blocking_key, blocking_pilot, underreach_pilot, transfer_pilot}
+use Rattle.model_logic.specs.Logic.{key_by, pilot_by, key_tree, set_tree, trip_tree}
+use Rattle.model_fine.specs.Cut.{cut_ends}
+use Rattle.model_fine.specs.Fine.{EveryFineChoiceMeets, FineMeets, IsFineHistory, IsFineInside}
+use Rattle.model_fine.specs.Fine.{fine_world_of}
+use Rattle.model_fine.specs.Finer.{IsLineInFinerTicks, IsScriptInFinerTicks}
+
+-- the line in ticks of another length, to another horizon
+abbrev in_ticks_of : Line → Line → Line
+in_ticks_of line other = record line {
+  tick_us = other.tick_us;
+  tick_in_range = other.tick_in_range;
+  horizon = other.horizon;
+  horizon_in_range = other.horizon_in_range;
+}
+
+-- the trees know no tick
+key_of_scheme : (s : Scheme) (line other : Line) (k : ℕ)
+    → key_by s (in_ticks_of line other) k ≡ key_by s line k
+unfolding setting_of seen_timed channel_to received all_others any_received all_received channel_setting guard_seen late unblocked locked_out open_from all_open terminal_setting reversal_guard quiet echo_wanted echo permissive_key blocking_key
+key_of_scheme Pott line other k = refl
+key_of_scheme Putt line other k = refl
+key_of_scheme Dcb line other k = refl
+key_of_scheme Dcub line other k = refl
+key_of_scheme Dtt line other k = refl
+
+key_timeless : (line other : Line) (k : ℕ) → key_tree (in_ticks_of line other) k ≡ key_tree line k
+unfolding key_tree
+key_timeless line other k = key_of_scheme line.scheme line other k
+
+pilot_of_scheme : (s : Scheme) (line other : Line) (k : ℕ)
+    → pilot_by s (in_ticks_of line other) k ≡ pilot_by s line k
+unfolding setting_of seen_timed channel_to received all_others any_received all_received channel_setting guard_seen late unblocked locked_out open_from all_open terminal_setting reversal_guard quiet echo_wanted weak_infeed_trip permissive_pilot blocking_pilot underreach_pilot transfer_pilot
+pilot_of_scheme Pott line other k = refl
+pilot_of_scheme Putt line other k = refl
+pilot_of_scheme Dcb line other k = refl
+pilot_of_scheme Dcub line other k = refl
+pilot_of_scheme Dtt line other k = refl
+
+set_timeless : (line other : Line) (k : ℕ) → set_tree (in_ticks_of line other) k ≡ set_tree line k
+unfolding set_tree seen_timed setting_of
+set_timeless line other k =
+    ap (λ (pilot : Tree). if line.zone1_trip then Or pilot (zone1 line k) else pilot)
+    (pilot_of_scheme line.scheme line other k)
+
+trip_timeless : (line other : Line) (k : ℕ) → trip_tree (in_ticks_of line other) k ≡ trip_tree line k
+unfolding trip_tree seen_timed setting_of
+trip_timeless line other k =
+    ap (λ (set : Tree). Seal set (current line k)) (set_timeless line other k)
+
+module _ (counts : CountsRestOnNoInterval) (logic : TreesRestOnNoInterval)
+    (delays : DelaysAreParameters) (n : ℕ) (line finer : Line)
+    (cut : IsLineInFinerTicks n line finer) where
+  same : SameButParams line (in_ticks_of finer line)
+  same = record {
+    tick_us = refl;
+    horizon = refl;
+    scheme = cut.scheme;
+    zone1_trip = cut.zone1_trip;
+    terminals = cut.terminals;
+    channels = cut.channels;
+  }
+
+  same_key : (k : ℕ) → key_tree finer k ≡ key_tree line k
+  same_key k =
+      sym (key_timeless finer line k) ∙ logic.keys line (in_ticks_of finer line) k same
+
+  same_trip : (k : ℕ) → trip_tree finer k ≡ trip_tree line k
+  same_trip k =
+      sym (trip_timeless finer line k) ∙ logic.trips line (in_ticks_of finer line) k same
+
+  -- m of its parts to a tick are m * n to one of the other
+  module _ (m : ℕ) where
+    same_end : (horizon end : ℕ) → end ≡ horizon * n → end * m ≡ horizon * (m * n)
+    same_end horizon end is =
+        ap (λ (x : ℕ). x * m) is ∙ mul_assoc horizon n m
+        ∙ ap (λ (x : ℕ). horizon * x) (mul_comm n m)
+
+    early_in : (t : ℕ) → t < line.horizon * (m * n) → t < finer.horizon * m
+    early_in t =
+        subst (λ (x : ℕ). t < x) (sym (same_end line.horizon finer.horizon cut.horizon))
+
+    wider : (ends inner : Ends) (x : ℕ) → IsPartOf inner (cut_ends n ends)
+        → IsIn x (cut_ends m inner) → IsIn x (cut_ends (m * n) ends)
+    wider ends inner x part is =
+        let low : ends.least * n * m ≤ inner.least * m = mul-le-mul_right m part.least in
+        let high : inner.greatest * m ≤ ends.greatest * n * m = mul-le-mul_right m part.greatest in
+        let low_is = same_end ends.least (ends.least * n) refl in
+        let high_is = same_end ends.greatest (ends.greatest * n) refl in
+        record {
+          least = omega (arith, low, low_is, is.least);
+          greatest = omega (arith, high, high_is, is.greatest);
+        }
+
+    in_line : (choice : Choice) → IsFineInside m finer choice → IsFineInside (m * n) line choice
+    unfolding declared_box
+    in_line choice inside = record {
+      numbers = λ i lt.
+          wider (declared_ends line i) (declared_ends finer i) (choice.number i) (cut.intervals i lt)
+          (inside.numbers i
+          (subst (λ (count : ℕ). i < count) (sym (counts.params line (in_ticks_of finer line) same)) lt));
+      delays = λ c t lt early.
+          let i : ℕ = delay_param line c in
+          wider (declared_ends line i) (declared_ends finer i) (choice.delay c t)
+          (cut.intervals i (delays.exists line i (delays.told line c lt)))
+          (subst (λ (j : ℕ). IsIn (choice.delay c t) (cut_ends m (declared_ends finer j)))
+          (counts.delays line (in_ticks_of finer line) c same)
+          (inside.delays c t
+          (subst (λ (count : ℕ). c < count) (sym (counts.channels line (in_ticks_of finer line) same)) lt)
+          (early_in t early)));
+    }
+
+    module _ (script other : Script) (cut_script : IsScriptInFinerTicks n script other) where
+      same_world : (choice : Choice)
+          → fine_world_of m finer other choice ≡ fine_world_of (m * n) line script choice
+      unfolding fine_world_of
+      same_world choice =
+          let made : (Place → ℕ → Bool) → (ℕ → ℕ → Bool) → List Channel → World =
+          λ seen lost channels. record {
+            seen = seen;
+            lost = lost;
+            from = from_of channels;
+            delay = choice.delay;
+            time = time_by choice.number;
+          } in
+          let ticks : (t : ℕ) → t / m / n ≡ t / (m * n) = λ t. div-div-eq-div-mul t m n in
+          let seen : (λ (p : Place) (t : ℕ). is_seen other.spans.items p (t / m))
+          ≡ (λ (p : Place) (t : ℕ). is_seen script.spans.items p (t / (m * n))) =
+          fun_ext (λ (p : Place). fun_ext (λ (t : ℕ).
+          cut_script.seen p (t / m) ∙ ap (is_seen script.spans.items p) (ticks t))) in
+          let lost : (λ (c t : ℕ). is_lost other.spans.items c (t / m))
+          ≡ (λ (c t : ℕ). is_lost script.spans.items c (t / (m * n))) =
+          fun_ext (λ (c : ℕ). fun_ext (λ (t : ℕ).
+          cut_script.lost c (t / m) ∙ ap (is_lost script.spans.items c) (ticks t))) in
+          ap (λ (s : Place → ℕ → Bool). made s (λ c t. is_lost other.spans.items c (t / m)) finer.channels.items) seen
+          ∙ ap (λ (l : ℕ → ℕ → Bool). made (λ p t. is_seen script.spans.items p (t / (m * n))) l finer.channels.items) lost
+          ∙ ap (made (λ p t. is_seen script.spans.items p (t / (m * n)))
+          (λ c t. is_lost script.spans.items c (t / (m * n)))) cut.channels
+
+      of_line : (choice : Choice) (h : History) → IsFineHistory m finer other choice h
+          → IsFineHistory (m * n) line script choice h
+      of_line choice h is = record {
+        keys = λ k t kn early.
+            is.keys k t (subst (λ (count : ℕ). k < count) (sym (ap length cut.terminals)) kn)
+            (early_in t early)
+            ∙ ap (λ (w : World). mean w h.key (key_tree finer k) t) (same_world choice)
+            ∙ ap (λ (x : Tree). mean (fine_world_of (m * n) line script choice) h.key x t) (same_key k);
+        trips = λ k t kn early.
+            is.trips k t (subst (λ (count : ℕ). k < count) (sym (ap length cut.terminals)) kn)
+            (early_in t early)
+            ∙ ap (λ (w : World). mean w h.key (trip_tree finer k) t) (same_world choice)
+            ∙ ap (λ (x : Tree). mean (fine_world_of (m * n) line script choice) h.key x t) (same_trip k);
+      }
+
+      same_meets : (k : ℕ) (h : History)
+          → FineMeets (m * n) line script k h ≡ FineMeets m finer other k h
+      same_meets k h =
+          ap (λ (end : ℕ). MeetsBy script.kind (script.deadline * (m * n)) end (h.trip k))
+          (sym (same_end line.horizon finer.horizon cut.horizon))
+          ∙ ap (λ (end : ℕ). MeetsBy script.kind end (finer.horizon * m) (h.trip k))
+          (sym (same_end script.deadline other.deadline cut_script.deadline))
+          ∙ ap (λ (kind : Kind). MeetsBy kind (other.deadline * m) (finer.horizon * m) (h.trip k))
+          (sym cut_script.kind)
+
+  pub finer_meets : (script other : Script) (k : ℕ) → 1 ≤ n → IsScriptInFinerTicks n script other
+      → EveryFineChoiceMeets line script k → EveryFineChoiceMeets finer other k
+  finer_meets script other k some cut_script every m choice h some_m inside is =
+      let parts : 1 ≤ m * n = mul-le-mul some_m some in
+      subst (λ (X : Type 0). X) (same_meets m script other cut_script k h)
+      (every (m * n) choice h parts (in_line m choice inside)
+      (of_line m script other cut_script choice h is))
