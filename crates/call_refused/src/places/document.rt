@@ -1,30 +1,32 @@
-//! Where in a document a fault stands.
+//! Where bytes cease to be a TOML document.
 
 ghost use Rattle.std.specs.Prelude.{◌≤◌, IfOk, length};
 
-use crate::places::keys::place_of_key;
 use base_memory::Memory;
 use std::alloc::Global;
 
-/// Where the key of this path stands in a document; with no path, where it ceases to be TOML.
-pub fn document_place(alloc: Global, bytes: &[u8], path: Option<&[u8]>) -> Result<usize, Memory>
-    ensures { IfOk result (λ at. at ≤ length bytes.now) }
-{
-    match path {
-        Some(path) => place_of_key(alloc, bytes, path),
-        None => toml_place(alloc, bytes),
-    }
+/// Where bytes cease to be TOML, and whether a key or a table stands there that stands before.
+#[derive(Clone, Copy, Drop)]
+pub struct TomlPlace {
+    pub at: usize,
+    pub is_twice: bool,
 }
 
-fn toml_place(alloc: Global, bytes: &[u8]) -> Result<usize, Memory>
-    ensures { IfOk result (λ at. at ≤ length bytes.now) }
+/// Where these bytes cease to be TOML; the beginning where they don't.
+pub fn toml_place(alloc: Global, bytes: &[u8]) -> Result<TomlPlace, Memory>
+    ensures { IfOk result (λ place. place.at ≤ length bytes.now) }
 {
-    let start = match toml::table_from_slice(alloc, bytes) {
-        Ok(_) => 0,
+    match toml::table_from_slice(alloc, bytes) {
+        Ok(_) => Ok(TomlPlace {
+            at: 0,
+            is_twice: false,
+        }),
         Err(error) => match error.span() {
-            Some(span) => span.start,
-            None => return Err(Memory),
+            Some(span) => Ok(TomlPlace {
+                at: span.start.min(bytes.len()),
+                is_twice: error.message() == "duplicate key",
+            }),
+            None => Err(Memory),
         },
-    };
-    Ok(start.min(bytes.len()))
+    }
 }

@@ -1,64 +1,25 @@
 //! Paths of tables and keys, as bytes.
 
-use crate::places::pieces::joint;
 use base_memory::Memory;
 use base_text::pieces::push_pieces;
 use itoa::Buffer;
-use std::alloc::Global;
 
-/// The bytes without the blanks before them.
-pub fn trimmed(line: &[u8]) -> &[u8] {
-    for start in 0..line.len() {
-        if !matches!(line[start], b' ' | b'\t') {
-            return &line[start..];
-        }
-    }
-    &[]
-}
-
-/// The name that stands before a byte, without brackets, blanks and quotes.
-pub fn plain(alloc: Global, line: &[u8], end: u8) -> Result<Vec<u8>, Memory> {
-    let mut name = Vec::new(alloc);
-    for b in line {
-        if *b == end {
-            break;
-        }
-        if !matches!(*b, b' ' | b'\t' | b'[' | b'"' | b'\'') {
-            name.push(*b)?;
-        }
-    }
-    Ok(name)
-}
-
-/// Whether a line has a key: an equals sign, and no `#` before its first byte.
-pub fn has_key(line: &[u8]) -> bool {
-    !line.starts_with(b"#") && line.contains(&b'=')
-}
-
-/// All keys of a name but the last, and the last.
-pub fn parent_and_key(name: &[u8]) -> (&[u8], &[u8]) {
-    let mut parted: (&[u8], &[u8]) = (b"", name);
-    for dot in 0..name.len() {
-        if name[dot] == b'.' {
-            parted = (&name[..dot], &name[dot + 1..]);
-        }
-    }
-    parted
-}
-
-/// Appends a key of the table at the path; no key is none.
-pub fn push_key(path: &mut Vec<u8>, key: &[u8]) -> Result<(), Memory> {
-    let dot: &[u8] = if path.is_empty() { b"" } else { b"." };
-    push_pieces(path, &[joint(dot, key), key])
-}
-
-/// Appends the number of a table of an array.
+/// Appends the number of an item of an array.
 pub fn push_index(path: &mut Vec<u8>, number: u32) -> Result<(), Memory> {
     let mut digits = Buffer::new();
     push_pieces(path, &[b"[", digits.format(number).as_bytes(), b"]"])
 }
 
-/// Whether one path is the other, or a table in which the other stands.
+/// A byte of a key as a path shows it.
+pub fn shown(byte: u8) -> u8 {
+    if (0x21..=0x7e).contains(&byte) {
+        byte
+    } else {
+        b'?'
+    }
+}
+
+/// Whether one path is the other, or a table or an array in which the other stands.
 pub fn leads_to(own: &[u8], path: &[u8]) -> bool {
     if !path.starts_with(own) {
         return false;
@@ -67,4 +28,36 @@ pub fn leads_to(own: &[u8], path: &[u8]) -> bool {
         None => true,
         Some(b) => *b == b'.' || *b == b'[',
     }
+}
+
+/// The last key of a path, without the number of an item.
+pub fn last_key(path: &[u8]) -> &[u8] {
+    let mut key = path;
+    for dot in 0..path.len() {
+        if path[dot] == b'.' {
+            key = &path[dot + 1..];
+        }
+    }
+    before_number(key)
+}
+
+/// The path of the table in which the last key stands.
+pub fn table_of(path: &[u8]) -> &[u8] {
+    let mut table: &[u8] = b"";
+    for dot in 0..path.len() {
+        if path[dot] == b'.' {
+            table = &path[..dot];
+        }
+    }
+    table
+}
+
+/// What stands before the number of an item.
+pub fn before_number(key: &[u8]) -> &[u8] {
+    for bracket in 0..key.len() {
+        if key[bracket] == b'[' {
+            return &key[..bracket];
+        }
+    }
+    key
 }

@@ -3,12 +3,14 @@
 ghost use Rattle.std.specs.Prelude.{IfOk};
 ghost use Rattle.call_refused.specs.told.Told.{IsToldAt};
 
-use crate::places::document_place;
-use crate::told::one_line::told;
-use crate::words::rules::{key_rule, line_rule};
-use crate::words::{Wanted, wrong_at};
+use crate::places::place_of_key;
+use crate::told::document::{at_key, refused_toml, unknown_key};
+use crate::words::lines::line_said;
+use crate::words::near::line_keys;
 use base_memory::Memory;
-use file_line::LineFault;
+use base_text::pieces::text_of;
+use file_line::{LineFault, Path};
+use model_line::Name;
 use std::alloc::Global;
 
 /// The line of a fault of a line file.
@@ -20,25 +22,47 @@ pub fn refused_line(
 ) -> Result<Vec<u8>, Memory>
     ensures { IfOk result (λ text. IsToldAt name.now bytes.now text.items) }
 {
-    let path = path_of(fault);
-    let at = document_place(alloc, bytes, path)?;
-    let more: [&[u8]; 2] = [
-        key_rule(fault, path.unwrap_or(b"")).as_bytes(),
-        wrong_at(Wanted::Document, bytes, at).as_bytes(),
-    ];
-    told(alloc, name, bytes, at, line_rule(fault), &more)
-}
-
-// The path that a fault tells; a file that is no TOML has none.
-fn path_of(fault: &LineFault) -> Option<&[u8]> {
     match fault {
+        LineFault::NotToml => refused_toml(alloc, name, bytes),
+        LineFault::Channels(from, to) => no_channel(alloc, name, bytes, from, to),
         LineFault::Unknown(path)
         | LineFault::Missing(path)
         | LineFault::WrongKind(path)
         | LineFault::Range(path)
         | LineFault::BadName(path)
-        | LineFault::Twice(path) => Some(path.bytes()),
-        LineFault::Channels(_, _) => Some(b""),
-        LineFault::NotToml => None,
+        | LineFault::Twice(path) => refused_key(alloc, name, bytes, fault, path),
     }
+}
+
+fn refused_key(
+    alloc: Global,
+    name: &str,
+    bytes: &[u8],
+    fault: &LineFault,
+    path: &Path,
+) -> Result<Vec<u8>, Memory>
+    ensures { IfOk result (λ text. IsToldAt name.now bytes.now text.items) }
+{
+    let path = path.bytes();
+    let at = place_of_key(alloc, bytes, path)?;
+    match fault {
+        LineFault::Unknown(_) => unknown_key(alloc, name, bytes, at, path, line_keys(path), ""),
+        _ => at_key(alloc, name, bytes, at, path, line_said(fault, path)),
+    }
+}
+
+// The line of two terminals without a channel, at the first channel that there is.
+fn no_channel(
+    alloc: Global,
+    name: &str,
+    bytes: &[u8],
+    from: &Name,
+    to: &Name,
+) -> Result<Vec<u8>, Memory>
+    ensures { IfOk result (λ text. IsToldAt name.now bytes.now text.items) }
+{
+    let at = place_of_key(alloc, bytes, b"channel[0]")?;
+    let path = text_of(alloc, &[from.bytes(), b">", to.bytes()])?;
+    let said = line_said(&LineFault::Channels(*from, *to), b"channel");
+    at_key(alloc, name, bytes, at, &path, said)
 }

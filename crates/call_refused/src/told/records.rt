@@ -5,8 +5,8 @@ ghost use Rattle.call_refused.specs.told.Told.{IsToldAt};
 
 use crate::places::place_of_record;
 use crate::told::one_line::told;
-use crate::words::rules::{script_rule, timing_rule};
-use crate::words::{Wanted, wrong_at};
+use crate::words::record_words;
+use crate::words::records::{script_rule, timing_rule};
 use base_memory::Memory;
 use file_tables::script::ScriptFault;
 use file_tables::timing::TimingFault;
@@ -48,6 +48,6 @@ pub fn at_record(
     ensures { IfOk result (λ text. IsToldAt name.now bytes.now text.items) }
 {
     let at = place_of_record(alloc, bytes, number.unwrap_or(1))?;
-    let more = wrong_at(Wanted::Records, bytes, at);
+    let more = record_words(bytes, at);
     told(alloc, name, bytes, at, rule, &[more.as_bytes()])
 }

@@ -1,12 +1,14 @@
-//! Of a study that is refused.
+//! Of a study that is refused, and of a map of recorders.
 
 ghost use Rattle.std.specs.Prelude.{◌≤◌, IfOk, length};
 ghost use Rattle.call_refused.specs.told.Told.{IsToldAt};
 
-use crate::places::{document_place, place_of_key};
-use crate::told::one_line::told;
-use crate::words::rules::study_rule;
-use crate::words::{Wanted, wrong_at};
+use crate::places::place_of_key;
+use crate::told::document::{at_key, refused_toml, unknown_key};
+use crate::words::near::study_keys;
+use crate::words::said::words;
+use crate::words::studies::study_said;
+use crate::words::value::value_at;
 use base_memory::Memory;
 use base_text::pieces::text_of;
 use file_document::DocumentFault;
@@ -22,21 +24,59 @@ pub fn refused_study(
 ) -> Result<Vec<u8>, Memory>
     ensures { IfOk result (λ text. IsToldAt name.now bytes.now text.items) }
 {
-    let place = fault.place();
-    let path = match &place {
-        Some(path) => Some(path.bytes()),
-        None => None,
-    };
-    let at = document_place(alloc, bytes, path)?;
-    let more = wrong_at(Wanted::Document, bytes, at);
-    told(
-        alloc,
-        name,
-        bytes,
-        at,
-        study_rule(fault),
-        &[more.as_bytes()],
-    )
+    match fault.place() {
+        Some(path) => refused_key(alloc, name, bytes, fault, path.bytes()),
+        None => refused_toml(alloc, name, bytes),
+    }
+}
+
+fn refused_key(
+    alloc: Global,
+    name: &str,
+    bytes: &[u8],
+    fault: &DocumentFault,
+    path: &[u8],
+) -> Result<Vec<u8>, Memory>
+    ensures { IfOk result (λ text. IsToldAt name.now bytes.now text.items) }
+{
+    let at = place_of_key(alloc, bytes, path)?;
+    match fault {
+        DocumentFault::Unknown(_) => {
+            unknown_key(alloc, name, bytes, at, path, study_keys(path), others(path))
+        }
+        _ => {
+            let said = study_said(fault, path, value_at(bytes, at));
+            at_key(alloc, name, bytes, at, path, said)
+        }
+    }
+}
+
+// What may stand in a table beside its keys.
+fn others(path: &[u8]) -> &'static str {
+    if path.starts_with(b"fault") {
+        ", or the name of a terminal"
+    } else {
+        ""
+    }
+}
+
+/// The line of a fault of a map of recorders.
+pub fn refused_map(
+    alloc: Global,
+    name: &str,
+    bytes: &[u8],
+    fault: &DocumentFault,
+) -> Result<Vec<u8>, Memory>
+    ensures { IfOk result (λ text. IsToldAt name.now bytes.now text.items) }
+{
+    match fault.place() {
+        Some(path) => {
+            let path = path.bytes();
+            let at = place_of_key(alloc, bytes, path)?;
+            at_key(alloc, name, bytes, at, path, words(fault.words(), ""))
+        }
+        None => refused_toml(alloc, name, bytes),
+    }
 }
 
 /// Where the key of an array's item stands, as `terminal[0].name`.

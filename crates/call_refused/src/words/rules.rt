@@ -1,161 +1,246 @@
-//! The rules that a refused file breaks, in words.
+//! What each key of a line file and of a study may be, and what to write: one table of rules for
+//! either.
 
-ghost use Rattle.std.specs.Prelude.{◌<◌, length};
+use crate::places::{last_key, table_of};
 
-use file_document::DocumentFault;
-use file_line::LineFault;
-use file_tables::script::ScriptFault;
-use file_tables::timing::TimingFault;
+/// The rule of a key: what it may be, and what to write.
+#[derive(Clone, Copy)]
+pub struct Rule {
+    pub key: &'static str,
+    pub what: &'static str,
+    pub write: &'static str,
+}
 
-/// The rule of a line file that is broken.
-pub fn line_rule(fault: &LineFault) -> &'static str
-    ensures { 0 < length result.now }
-{
-    match fault {
-        LineFault::NotToml => "this is no TOML",
-        LineFault::Unknown(_) => "this key does not belong here",
-        LineFault::Missing(_) => "a key is missing",
-        LineFault::WrongKind(_) => "this key has values of another type",
-        LineFault::Range(_) => "this is outside the limits",
-        LineFault::BadName(_) => "this is no name that may stand here",
-        LineFault::Twice(_) => "this stands before already",
-        LineFault::Channels(_, _) => "each ordered pair of terminals needs a channel",
+// The keys at the top of both.
+const COMMON: &[Rule] = &[
+    Rule {
+        key: "tick_us",
+        what: "a tick has a whole number of microseconds, 1 to 1000000",
+        write: "tick_us = 1000",
+    },
+    Rule {
+        key: "scheme",
+        what: "a scheme is \"pott\", \"putt\", \"dcb\", \"dcub\" or \"dtt\", in small letters",
+        write: "scheme = \"pott\"",
+    },
+    Rule {
+        key: "zone1_trip",
+        what: "whether zone 1 trips by itself is true or false, at the top, before the first table",
+        write: "zone1_trip = true",
+    },
+];
+
+const LINE: &[Rule] = &[
+    Rule {
+        key: "version",
+        what: "the version is 1, with times in ticks, or 2, with times in microseconds",
+        write: "version = 1",
+    },
+    Rule {
+        key: "horizon",
+        what: "the horizon is a whole number of ticks, 1 to 4000",
+        write: "horizon = 200, and a longer tick_us where that is too short",
+    },
+    Rule {
+        key: "terminal",
+        what: "a line has two or three terminals, each a table of a list",
+        write: "[[terminal]] before each",
+    },
+    Rule {
+        key: "channel",
+        what: "a line has a channel for each ordered pair of terminals, each a table of a list",
+        write: "[[channel]] before each",
+    },
+    Rule {
+        key: "name",
+        what: "a terminal has a name of its own, of 1 to 16 letters A to Z, a to z, digits, `_` and `-`",
+        write: "name = \"A\"",
+    },
+    Rule {
+        key: "from",
+        what: "a channel comes from a terminal of the line",
+        write: "the name of that terminal in quotes",
+    },
+    Rule {
+        key: "to",
+        what: "a channel goes to another terminal of the line than it comes from",
+        write: "the name of that terminal in quotes",
+    },
+    Rule {
+        key: "delay",
+        what: "a delay is [least, greatest], of whole numbers, at least one tick and at most 4000",
+        write: "delay = [3, 5] where version = 1 has ticks, [3000, 5000] where version = 2 has microseconds",
+    },
+];
+
+const LINE_GROUP: Rule = Rule {
+    key: "",
+    what: "the times of an element or of a logic are a table",
+    write: "{ pickup = [2, 4], dropout = [1, 3] }, with the keys that belong there",
+};
+
+const LINE_TIME: Rule = Rule {
+    key: "",
+    what: "a time is a whole number or [least, greatest], at most 4000 ticks, without a point, a unit or quotes",
+    write: "[2, 4] where version = 1 has ticks, [2000, 4000] where version = 2 has microseconds",
+};
+
+const STUDY: &[Rule] = &[
+    Rule {
+        key: "study",
+        what: "a study begins with the number of its form, which is 1; a line file is given with its scripts",
+        write: "study = 1",
+    },
+    Rule {
+        key: "title",
+        what: "a title is a text",
+        write: "title = \"East - West\"",
+    },
+    Rule {
+        key: "frequency_hz",
+        what: "a frequency is a whole number of hertz, 1 to 1000",
+        write: "frequency_hz = 50",
+    },
+    Rule {
+        key: "horizon",
+        what: "the horizon is one time with a unit, from one tick to 4000",
+        write: "horizon = \"200 ms\", and a longer tick_us where that is too short",
+    },
+    Rule {
+        key: "terminals",
+        what: "a line has two or three terminals, each by a name of its own, of 1 to 16 letters A to Z, a to z, digits, `_` and `-`",
+        write: "terminals = [\"east\", \"west\"]",
+    },
+    Rule {
+        key: "default",
+        what: "what terminals and channels have by default are tables",
+        write: "[default.terminal] and [default.channel]",
+    },
+    Rule {
+        key: "terminal",
+        what: "what a terminal has is a table, and what it has of its own is under its name",
+        write: "[default.terminal], or [terminal.NAME]",
+    },
+    Rule {
+        key: "channel",
+        what: "what a channel has is a table, and what it has of its own is under its name",
+        write: "[default.channel], or [channel.\"FROM>TO\"]",
+    },
+    Rule {
+        key: "delay",
+        what: "a delay is a time with a unit, from one tick to 4000",
+        write: "delay = \"3 .. 5 ms\"",
+    },
+    Rule {
+        key: "fault",
+        what: "a study has 1 to 1000 faults, each a table of a list",
+        write: "[[fault]] before each",
+    },
+];
+
+const FAULT: &[Rule] = &[
+    Rule {
+        key: "fault",
+        what: "a fault is a table of a list",
+        write: "[[fault]] before each",
+    },
+    Rule {
+        key: "name",
+        what: "a fault has a name of its own, of 1 to 16 letters A to Z, a to z, digits, `_` and `-`",
+        write: "name = \"F1\"",
+    },
+    Rule {
+        key: "kind",
+        what: "a fault is \"internal\" or \"external\", in small letters",
+        write: "kind = \"internal\"",
+    },
+    Rule {
+        key: "start",
+        what: "a start is one time with a unit, or a sweep of at most 1000, up to 4000 ticks",
+        write: "start = \"50 ms\", or \"8 .. 40 ms by 1 ms\"",
+    },
+    Rule {
+        key: "lasts",
+        what: "how long it lasts is one time with a unit, or a sweep of at most 1000, up to 4000 ticks",
+        write: "lasts = \"80 ms\", or \"8 .. 40 ms by 1 ms\"",
+    },
+    Rule {
+        key: "trip_within",
+        what: "an internal fault has the time from its start within which it has to be tripped, up to 4000 ticks",
+        write: "trip_within = \"40 ms\"",
+    },
+    Rule {
+        key: "lost",
+        what: "what is lost is a list of channels, each by the names of its terminals",
+        write: "lost = [\"FROM>TO\"]",
+    },
+    Rule {
+        key: "stage",
+        what: "a fault has 1 to 20 stages, each a table of a list",
+        write: "[[fault.stage]] before each",
+    },
+];
+
+const ELEMENTS: Rule = Rule {
+    key: "",
+    what: "what a terminal sees is a list of z1, z2, rv, uv and cur, each with how much later than its stage it comes",
+    write: "[\"z2\", \"cur +20 ms\"]",
+};
+
+const STUDY_GROUP: Rule = Rule {
+    key: "",
+    what: "the times of an element or of a logic are a table",
+    write: "{ pickup = \"2 .. 4 ms\", dropout = \"1 .. 3 ms\" }, with the keys that belong there",
+};
+
+const STUDY_TIME: Rule = Rule {
+    key: "",
+    what: "a time is a text with a unit, up to 4000 ticks",
+    write: "\"2 .. 4 ms\"",
+};
+
+/// What the key at this path of a line file may be.
+pub fn line_rule(path: &[u8]) -> Rule {
+    let key = last_key(path);
+    match rule_in(LINE, key) {
+        Some(rule) => rule,
+        None => common_rule(path, LINE_GROUP, LINE_TIME),
     }
 }
 
-/// What the key at this path may have.
-pub fn key_rule(fault: &LineFault, path: &[u8]) -> &'static str {
-    match fault {
-        LineFault::Unknown(_) if ends_with(path, b"zone1_trip") => {
-            ": it stands at the top of the file, before the first `[[`"
-        }
-        LineFault::WrongKind(_) | LineFault::Range(_) | LineFault::Missing(_) => value_rule(path),
-        LineFault::BadName(_) if ends_with(path, b".name") => {
-            ": 1 to 16 letters A to Z, a to z, digits, `_` and `-`, and no blank"
-        }
-        LineFault::BadName(_) => ": the name of a terminal, and `to` is another than `from`",
-        _ => "",
+/// What the key at this path of a study may be.
+pub fn study_rule(path: &[u8]) -> Rule {
+    let key = last_key(path);
+    if path.starts_with(b"fault") {
+        return rule_in(FAULT, key).unwrap_or(ELEMENTS);
+    }
+    match rule_in(STUDY, key) {
+        Some(rule) => rule,
+        None => common_rule(path, STUDY_GROUP, STUDY_TIME),
     }
 }
 
-fn is(path: &[u8], key: &[u8]) -> bool {
-    path == key
-}
-
-fn ends_with(path: &[u8], end: &[u8]) -> bool {
-    path.ends_with(end)
-}
-
-// What a key has.
-fn value_rule(path: &[u8]) -> &'static str {
-    if is(path, b"version") {
-        ": version = 1 has times in ticks, version = 2 in microseconds"
-    } else if is(path, b"tick_us") {
-        ": tick_us is the number of microseconds in a tick, 1 to 1000000"
-    } else if is(path, b"horizon") {
-        ": horizon is a number of ticks, 1 to 4000; longer ticks reach further"
-    } else if is(path, b"scheme") {
-        ": scheme is \"pott\", \"putt\", \"dcb\", \"dcub\" or \"dtt\", in small letters"
-    } else if is(path, b"terminal") {
-        ": two or three tables [[terminal]]"
-    } else if is(path, b"channel") {
-        ": a table [[channel]] for each ordered pair of terminals"
-    } else {
-        time_rule(path)
+fn common_rule(path: &[u8], group: Rule, time: Rule) -> Rule {
+    match rule_in(COMMON, last_key(path)) {
+        Some(rule) => rule,
+        None => { if is_group(path) { group } else { time } }
     }
 }
 
-fn time_rule(path: &[u8]) -> &'static str {
-    if ends_with(path, b"zone1_trip") {
-        ": true or false"
-    } else if ends_with(path, b".delay") {
-        ": a delay is [least, greatest], each at least one tick and at most 4000; version = 2 has microseconds, so that 3 ms are 3000"
-    } else if ends_with(path, b".name") || ends_with(path, b".from") || ends_with(path, b".to") {
-        ": the name of a terminal, in quotes"
-    } else {
-        ": a time is a whole number or [least, greatest], at most 4000 ticks; version = 1 has ticks and version = 2 microseconds, without a point, a unit or quotes"
-    }
-}
-
-/// The rule of a file of scripts that is broken.
-pub fn script_rule(fault: &ScriptFault) -> &'static str
-    ensures { 0 < length result.now }
-{
-    match fault {
-        ScriptFault::Header => "the first record is `script,item,place,from,to`",
-        ScriptFault::Fields(_) => "a record has five fields, so four commas",
-        ScriptFault::Item(_) => "an item is internal, external, z1, z2, rv, uv, cur or loss",
-        ScriptFault::BadPlace(_) => {
-            "the place is the name of a terminal of the line, of a loss that of a channel, as A>B, and of a head nothing; capital and small letters differ"
-        }
-        ScriptFault::Ticks(_) => {
-            "a span has two whole numbers of ticks, the first below the second, within the horizon; an internal fault has its deadline, a number below the horizon, in the field behind the place and nothing behind it"
-        }
-        ScriptFault::Order(_) =>
-            "a record stands behind the head of its script, which has the same name",
-        ScriptFault::BadName(_) => {
-            "a name has 1 to 16 letters A to Z, a to z, digits, `_` and `-`, and a script one of its own"
-        }
-        ScriptFault::TooMany => "at most 64 scripts, of at most 200 records each",
-        ScriptFault::Empty => "records of scripts follow the header",
-    }
-}
-
-/// The rule of a file of timings that is broken.
-pub fn timing_rule(fault: &TimingFault) -> &'static str
-    ensures { 0 < length result.now }
-{
-    match fault {
-        TimingFault::Header => "the first record is `timing,parameter,value`",
-        TimingFault::Fields(_) => "a record has three fields, so two commas",
-        TimingFault::Parameter(_) => {
-            "a parameter is the name of a time, as A.z2.pickup or A>B.delay, and only a delay has steps, as A>B.delay@40 from tick 40 on; a timing at its least values has an empty one"
-        }
-        TimingFault::Value(_) => {
-            "a value is a whole number of ticks within the interval of its parameter, and is empty where no parameter stands"
-        }
-        TimingFault::Twice(_) => "this parameter has a value in this timing already",
-        TimingFault::Order(_) => "the records of a timing stand one behind another",
-        TimingFault::TooMany => "at most 16 timings",
-        TimingFault::Empty => "records of timings follow the header",
-        TimingFault::BadName(_) => {
-            "a name has 1 to 16 letters A to Z, a to z, digits, `_` and `-`"
+fn rule_in(rules: &[Rule], key: &[u8]) -> Option<Rule> {
+    for rule in rules {
+        if rule.key.as_bytes() == key {
+            return Some(*rule);
         }
     }
+    None
 }
 
-/// The rule of a study that is broken.
-pub fn study_rule(fault: &DocumentFault) -> &'static str
-    ensures { 0 < length result.now }
-{
-    match fault {
-        DocumentFault::NotToml => "this is no TOML",
-        DocumentFault::Unknown(_) => "this key does not belong here",
-        DocumentFault::Missing(path) => missing_rule(path.bytes()),
-        DocumentFault::WrongKind(_) => "a time is text with a unit, as \"8 .. 16 ms\"",
-        DocumentFault::Range(_) => "a time is at most 4000 ticks, and a delay at least one",
-        DocumentFault::BadName(_) =>
-            "names have 1 to 16 letters, digits, `_` and `-`; elements are z1, z2, rv, uv and cur",
-        DocumentFault::Twice(_) => "this stands before already",
-        DocumentFault::BadTime(_, _) =>
-            "a time is \"8 ms\", \"250 us\", \"1.25 cycles\", \"8 .. 16 ms\" or \"30 ms +- 2 ms\", with a decimal point",
-        DocumentFault::Swept(_) => "only the times of a fault are swept",
-        DocumentFault::NoInstant(_) => "one time stands here, and no interval",
-        DocumentFault::TooMany(_) => "a sweep has at most 1000 values, and a fault 4096 scripts",
-        DocumentFault::BadDate(_) | DocumentFault::OneFile(_) =>
-            "this stands in maps of recorders alone",
-    }
-}
-
-// What a study has.
-fn missing_rule(path: &[u8]) -> &'static str
-    ensures { 0 < length result.now }
-{
-    if is(path, b"study") {
-        "a key is missing: a study begins with `study = 1`, and a line file is given with its scripts"
-    } else if ends_with(path, b".trip_within") {
-        "a key is missing: of an internal fault the time from its start within which it has to be tripped"
-    } else {
-        "a key is missing"
+/// Whether the key at this path has a table of times.
+pub fn is_group(path: &[u8]) -> bool {
+    match last_key(path) {
+        b"z1" | b"z2" | b"rv" | b"uv" | b"reversal" | b"echo" | b"transfer" | b"unblock" => true,
+        b"block" => last_key(table_of(path)) != b"echo".as_slice(),
+        _ => false,
     }
 }

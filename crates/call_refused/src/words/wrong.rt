@@ -6,17 +6,38 @@ use crate::places::line_text;
 use crate::words::mistake::{Mistake, Wanted, mistake_of};
 use crate::words::slip::{Slip, document_slip, record_slip};
 
-/// The mistake that the whole file shows, or else one of the line in which the place is.
-pub fn wrong_at(wanted: Wanted, bytes: &[u8], at: usize) -> &'static str
+/// What is wrong with bytes that are no TOML document from this place on, and what to write.
+pub fn toml_words(bytes: &[u8], at: usize, is_twice: bool) -> &'static str
     requires { at ≤ length bytes.now }
 {
-    if let Some(mistake) = mistake_of(wanted, bytes) {
+    if let Some(mistake) = mistake_of(Wanted::Document, bytes) {
         return mistake_words(mistake);
     }
-    let line = line_text(bytes, at);
-    match wanted {
-        Wanted::Document => slip_words(document_slip(line)),
-        Wanted::Records => slip_words(record_slip(line)),
+    if is_twice {
+        return twice_words(&bytes[at..]);
+    }
+    match document_slip(line_text(bytes, at)) {
+        None => "; write KEY = VALUE, with texts in quotes",
+        slip => slip_words(slip),
+    }
+}
+
+// What is wrong with a key or a table that stands before.
+fn twice_words(rest: &[u8]) -> &'static str {
+    if rest.starts_with(b"[") {
+        ": this table stands before; write [[ ]] around the name of each table of a list, as [[fault]]"
+    } else {
+        ": this key stands before; write each key of a table once, and [[ ]] around the name of each table of a list"
+    }
+}
+
+/// The mistake that a file of records shows, or else one of the record at the place.
+pub fn record_words(bytes: &[u8], at: usize) -> &'static str
+    requires { at ≤ length bytes.now }
+{
+    match mistake_of(Wanted::Records, bytes) {
+        Some(mistake) => mistake_words(mistake),
+        None => slip_words(record_slip(line_text(bytes, at))),
     }
 }
 
@@ -41,7 +62,7 @@ fn slip_words(slip: Option<Slip>) -> &'static str {
         Some(Slip::Point) => "; a point stands in it: ticks are whole numbers",
         Some(Slip::Semicolon) => "; a semicolon stands in it: write a comma",
         Some(Slip::DecimalComma) =>
-            "; a comma stands between two digits: a study has a decimal point, and a line file [2, 4] of an interval, and whole numbers",
+            "; a comma stands between two digits: write a decimal point in a study, and in a line file whole numbers, of an interval as [2, 4]",
         None => "",
     }
 }

@@ -1,0 +1,157 @@
+//! What is said of a fault of a study.
+
+use crate::words::near::{ELEMENTS, nearest};
+use crate::words::rules::{Rule, study_rule};
+use crate::words::said::{Said, missing, quoted, words};
+use crate::words::value::{Habit, habit_of, is_digit};
+use file_document::{DocumentFault, TimeFault};
+
+/// What is wrong at this path, where this value stands, and what to write.
+pub fn study_said<'a>(fault: &DocumentFault, path: &[u8], value: &'a [u8]) -> Said<'a> {
+    match fault {
+        DocumentFault::WrongKind(_) => return kind_said(study_rule(path), value),
+        DocumentFault::BadTime(_, why) => return time_said(*why, value),
+        _ => {}
+    }
+    key_said(fault, path, value)
+}
+
+fn key_said(fault: &DocumentFault, path: &[u8], value: &[u8]) -> Said<'static> {
+    let rule = study_rule(path);
+    match fault {
+        DocumentFault::Missing(_) => missing(rule.what, rule.write),
+        DocumentFault::Range(_) => range_said(path, rule),
+        DocumentFault::BadName(_) => name_said(path, rule, value),
+        DocumentFault::Twice(_) => twice_said(path),
+        DocumentFault::Swept(_) => words(
+            "only the times of a fault are swept",
+            "an interval, as \"2 .. 4 ms\"",
+        ),
+        DocumentFault::NoInstant(_) => words(
+            "one time stands here, without a tolerance",
+            "one time, as \"50 ms\", or of a fault a sweep, as \"8 .. 16 ms by 1 ms\"",
+        ),
+        DocumentFault::TooMany(_) => words("a sweep has at most 1000 values", "a longer step"),
+        DocumentFault::NotToml
+        | DocumentFault::Unknown(_)
+        | DocumentFault::WrongKind(_)
+        | DocumentFault::BadTime(_, _)
+        | DocumentFault::BadDate(_)
+        | DocumentFault::OneFile(_) => words(rule.what, rule.write),
+    }
+}
+
+fn kind_said<'a>(rule: Rule, value: &'a [u8]) -> Said<'a> {
+    if is_time(rule) && is_digit(value) {
+        return quoted("a time is a text with a unit", value, " ms\"");
+    }
+    words(rule.what, rule.write)
+}
+
+fn range_said(path: &[u8], rule: Rule) -> Said<'static> {
+    if is_of_elements(path, rule) {
+        return words(
+            "it comes only when its stage is over, in each script of the fault, so that none shows it",
+            "less behind +, or a longer stage",
+        );
+    }
+    words(rule.what, rule.write)
+}
+
+fn name_said(path: &[u8], rule: Rule, value: &[u8]) -> Said<'static> {
+    if is_of_elements(path, rule) {
+        return element_said(rule, value);
+    }
+    words(rule.what, rule.write)
+}
+
+fn twice_said(path: &[u8]) -> Said<'static> {
+    if path.starts_with(b"terminals") {
+        return words("a terminal before it has this name", "another name");
+    }
+    words("a fault before it has this name", "another name")
+}
+
+// Whether the rule is that of a time.
+fn is_time(rule: Rule) -> bool {
+    rule.what.contains("with a unit")
+}
+
+// Whether the path is that of an element that a terminal sees.
+fn is_of_elements(path: &[u8], rule: Rule) -> bool {
+    path.starts_with(b"fault") && rule.key.is_empty()
+}
+
+fn element_said(rule: Rule, value: &[u8]) -> Said<'static> {
+    let name = first_word(value);
+    for element in ELEMENTS {
+        if element.as_bytes() == name {
+            return words(
+                "behind an element stands + and how much later than its stage it comes",
+                "\"z2 +20 ms\"",
+            );
+        }
+    }
+    match nearest(ELEMENTS, name) {
+        Some(element) => quoted(rule.what, element.as_bytes(), "\""),
+        None => words(rule.what, rule.write),
+    }
+}
+
+fn first_word(text: &[u8]) -> &[u8] {
+    for end in 0..text.len() {
+        if text[end] == b' ' {
+            return &text[..end];
+        }
+    }
+    text
+}
+
+// What is wrong with the text of a time.
+fn time_said<'a>(why: TimeFault, value: &'a [u8]) -> Said<'a> {
+    if let Some(habit) = habit_of(value) {
+        return habit_said(habit);
+    }
+    if let TimeFault::NoUnit(_) = why {
+        return quoted("a unit is missing: us, ms, s or cycles", value, " ms\"");
+    }
+    plain_said(why)
+}
+
+fn habit_said(habit: Habit) -> Said<'static> {
+    match habit {
+        Habit::PlusMinus => words("a tolerance stands behind +-", "\"30 ms +- 2 ms\""),
+        Habit::Dash => words(
+            "the ends of an interval have .. between them",
+            "\"5 .. 8 ms\"",
+        ),
+        Habit::Comma => words("a number has a decimal point", "\"2.5 ms\""),
+        Habit::Cycle => words("the unit is cycles, of one too", "\"1 cycles\""),
+        Habit::Capitals => words(
+            "units are us, ms, s and cycles, in small letters",
+            "\"30 ms\"",
+        ),
+    }
+}
+
+fn plain_said(why: TimeFault) -> Said<'static> {
+    match why {
+        TimeFault::NoValue(_) => words("a tolerance has no time before it", "\"30 ms +- 2 ms\""),
+        TimeFault::NoNumber(_) => words("a number is missing", "\"8 ms\" or \"8 .. 16 ms\""),
+        TimeFault::TooManyDigits(_) => words("a number has more than nine digits", "fewer digits"),
+        TimeFault::NoUnit(_) | TimeFault::UnknownUnit(_) => words(
+            "units are us, ms, s and cycles",
+            "\"30 ms\"",
+        ),
+        TimeFault::NoFrequency(_) => words(
+            "cycles need the frequency of the system",
+            "frequency_hz = 50 at the top",
+        ),
+        TimeFault::Order(_) => words("the second end is below the first", "the lesser end first"),
+        TimeFault::NoStep(_) => words("the step of a sweep is 0", "\"8 .. 16 ms by 1 ms\""),
+        TimeFault::Surplus(_) => words(
+            "something stands behind the time",
+            "the time alone, as \"8 .. 16 ms\"",
+        ),
+    }
+}
