@@ -7,6 +7,7 @@ pub mod Told
 pub mod Matched
 pub mod Played
 pub mod Headlines
+pub mod Raised
 pub mod Reported
 pub mod SameFiles
 pub mod PrintedTrees

@@ -18,6 +18,7 @@ pub mod Words
 pub mod Work
 pub mod PrintedLaws
 pub mod SameFactLaws
+pub mod SameFineLaws
 pub mod SameHeldLaws
 pub mod SameMatchLaws
 pub mod SamePlayLaws

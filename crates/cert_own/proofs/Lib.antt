@@ -19,4 +19,3 @@ pub mod CertificateLines
 pub mod Statuses
 pub mod MatchLines
 pub mod MatchStatuses
-pub mod Between

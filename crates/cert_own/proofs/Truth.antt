@@ -11,6 +11,7 @@ use Rattle.model_logic.specs.Histories.{IsLineHistory, with_derived_trips}
 use Rattle.model_logic.specs.Rule.{rule_of}
 use Rattle.model_logic.specs.Laws.{LineLaws}
 use Rattle.model_logic.specs.RuleLaws.{only_unknown}
+use Rattle.model_fine.specs.Laws.{FineHistoriesAreCovered, TheRuleSpeaksForCoveredFineHistories}
 use Rattle.model_timing.specs.Laws.{CandidatesAreInside, TimingsInsideAreChoicesInside}
 use Rattle.model_timing.specs.{Candidates.candidate, Candidates.candidate_count}
 use Rattle.model_timing.specs.Choice.{timing_choice}
@@ -49,22 +50,23 @@ module _ (laws : LineLaws) (timings : TimingsInsideAreChoicesInside) where
         fails = is.fails h is_h;
       }
 
-  pub accepted_is_true : (line : Line) (script : Script) (said : Claims) (k : ℕ)
-      (verdict : Written) → Fits line script → HasOneEach line said → AreAccepted line script said
+  pub accepted_is_true : FineHistoriesAreCovered → TheRuleSpeaksForCoveredFineHistories
+      → (line : Line) (script : Script) (said : Claims) (k : ℕ) (verdict : Written)
+      → Fits line script → HasOneEach line said → AreAccepted line script said
       → slice_get said.verdicts k ≡ Some verdict → HoldsAsAccepted verdict line script k
-  accepted_is_true line script said k yes fits whole accepted at =
-      λ choice h inside is_h.
+  accepted_is_true fine rule line script said k yes fits whole accepted at =
+      λ n choice h some inside is_h.
       let within = slice_get_within said.verdicts k yes at in
       let many = whole.verdicts in
-      laws.covered_rule.held line script
-      (with_derived_trips line script (declared_box line) (pairs_of said.keys)) h k
+      rule.held n line script
+      (with_derived_trips line script (declared_box line) (pairs_of said.keys)) h k some
       (laws.deadlines line script fits)
-      (laws.claims line script (declared_box line) choice (pairs_of said.keys) h
+      (fine.claims n line script (declared_box line) choice (pairs_of said.keys) h some
       (laws.inside.declared line) inside accepted.covered is_h)
       (omega arith) (accepted.supported k yes at)
-  accepted_is_true line script said k (no values) fits whole accepted at =
+  accepted_is_true fine rule line script said k (no values) fits whole accepted at =
       refuted line script k values (accepted.supported k (no values) at)
-  accepted_is_true line script said k undecided fits whole accepted at = tt
+  accepted_is_true fine rule line script said k undecided fits whole accepted at = tt
 
 by_verdict : (line : Line) (script : Script) (said : Claims) (k : ℕ)
     (is : IsCertified line script said) (v : Verdict) → written_as v ≡ undecided
@@ -74,6 +76,7 @@ by_verdict line script said k is (No timing) same has = absurd (cc)
 by_verdict line script said k is Undecided same has = has
 
 module _ (laws : LineLaws) (timings : TimingsInsideAreChoicesInside)
+    (fine : FineHistoriesAreCovered) (rule : TheRuleSpeaksForCoveredFineHistories)
     (candidates : CandidatesAreInside) where
   open_is_unknown : (line : Line) (script : Script) (said : Claims) (k : ℕ) → Fits line script
       → (is : IsCertified line script said) → k < terminal_count line
@@ -105,10 +108,10 @@ module _ (laws : LineLaws) (timings : TimingsInsideAreChoicesInside)
         (verdict : Written) → Fits line script → IsCertified line script said
         → slice_get said.verdicts k ≡ Some verdict → HoldsAsCertified verdict line script k
     certified_is_true line script said k yes fits is at =
-        accepted_is_true laws timings line script said k yes fits (whole line script said is)
-        (accepted line script said fits is) at
+        accepted_is_true laws timings fine rule line script said k yes fits
+        (whole line script said is) (accepted line script said fits is) at
     certified_is_true line script said k (no values) fits is at =
-        accepted_is_true laws timings line script said k (no values) fits
+        accepted_is_true laws timings fine rule line script said k (no values) fits
         (whole line script said is) (accepted line script said fits is) at
     certified_is_true line script said k undecided fits is at =
         let many = (whole line script said is).verdicts in

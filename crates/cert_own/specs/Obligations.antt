@@ -1,10 +1,9 @@
--- What is said of an obligation, for every choice of delays.
+-- What is said of an obligation, for every choice of times, whole ticks or fractions of them.
 use Rattle.std.specs.Prelude.{◌≡◌, ◌<◌, ℕ, List, Some, length, slice_get}
 use Rattle.model_line.specs.Parameters.{param_count, terminal_count}
 use Rattle.model_line.specs.{declared.line.Line.Line, declared.script.Script.Script}
 use Rattle.model_logic.specs.Choice.{IsInside, declared_box, steady_choice}
 use Rattle.model_logic.specs.Histories.{History, IsLineHistory, Meets, PairHistory, IsPairHistory}
-use Rattle.model_logic.specs.Obligations.{EveryChoiceMeets}
 use Rattle.model_fine.specs.Fine.{EveryFineChoiceMeets}
 use Rattle.model_logic.specs.Rule.{Unknown, rule_of}
 use Rattle.model_timing.specs.Candidates.{candidate, candidate_count}
@@ -28,31 +27,25 @@ pub record IsUnknown (line : Line) (script : Script) (k : ℕ) : Type 0 where
   pub unknown : rule_of line script (history.trip k) ≡ Unknown
   pub passes : (i : ℕ) → i < candidate_count line → PassesAt line script k (candidate line i)
 
--- what is true where `certify` prints a verdict
+-- what is true where `certify` prints a verdict: of a `yes`, that every choice of fractions meets it
 abbrev pub HoldsAsCertified : Verdict → Line → Script → ℕ → Type 0
-HoldsAsCertified yes line script k = EveryChoiceMeets line script k
+HoldsAsCertified yes line script k = EveryFineChoiceMeets line script k
 HoldsAsCertified (no values) line script k = IsFailedBy line script k values
 HoldsAsCertified undecided line script k = IsUnknown line script k
 
 -- what is true where a certificate that is accepted has it: an `undecided` promises nothing
 abbrev pub HoldsAsAccepted : Verdict → Line → Script → ℕ → Type 0
-HoldsAsAccepted yes line script k = EveryChoiceMeets line script k
+HoldsAsAccepted yes line script k = EveryFineChoiceMeets line script k
 HoldsAsAccepted (no values) line script k = IsFailedBy line script k values
 HoldsAsAccepted undecided line script k = Unit {0}
 
--- what a verdict says of every choice of fractions: a `yes`, that each meets the obligation
-abbrev pub HoldsBetweenTicks : Verdict → Line → Script → ℕ → Type 0
-HoldsBetweenTicks yes line script k = EveryFineChoiceMeets line script k
-HoldsBetweenTicks (no values) line script k = Unit {0}
-HoldsBetweenTicks undecided line script k = Unit {0}
-
 -- ---- of all obligations
 
--- every history of every choice inside meets the obligation of each script at each terminal
+-- every choice of fractions inside meets the obligation of each script at each terminal
 abbrev pub AllMet : Line → List Script → Type 0
 AllMet line scripts =
     (i k : ℕ) (script : Script) → slice_get scripts i ≡ Some script → k < terminal_count line
-    → EveryChoiceMeets line script k
+    → EveryFineChoiceMeets line script k
 
 -- some obligation is such
 pub record HoldsSomewhere (line : Line) (scripts : List Script)

@@ -21,12 +21,15 @@ ghost use Rattle.cert_own.specs.Printed.{HasVerdict, HoldsOf};
 
 use crate::laws::what_is_certified_is_accepted;
 use judge_match::matching::what_a_choice_gives_is_allowed;
+use model_fine::fine_laws::{
+    fine_histories_are_covered, the_rule_speaks_for_covered_fine_histories,
+};
 use model_line::laws::declared_intervals_are_in_order;
 use model_logic::laws::line_laws;
 use model_timing::{candidates_are_inside, timings_inside_are_choices_inside};
 
-/// Where claims are accepted, what their verdicts say is true: of a script, and of each whole line
-/// of a certificate, whoever wrote it.
+/// Where claims are accepted, what their verdicts say is true, a `yes` of every choice of fractions: of
+/// a script, and of each whole line of a certificate, whoever wrote it.
 pub fn what_is_accepted_is_true()
     ensures script { (line : Line) (script : Script) (said : Claims) (k : ℕ) (verdict : Verdict) →
         Fits line script → HasOneEach line said → AreAccepted line script said →
@@ -37,6 +40,8 @@ pub fn what_is_accepted_is_true()
         HoldsOf line scripts name terminal (HoldsAsAccepted verdict) }
 {
     line_laws();
+    fine_histories_are_covered();
+    the_rule_speaks_for_covered_fine_histories();
     timings_inside_are_choices_inside();
 }
 
@@ -50,8 +55,8 @@ pub fn what_is_certified_is_true()
         AreCertified line scripts claims → front ++ rest ≡ certificate_text line scripts claims →
         HasVerdict front name terminal verdict →
         HoldsOf line scripts name terminal (HoldsAsCertified verdict) }
-    // Where no verdict is no or undecided, all obligations are met; where some is no, some choice
-    // inside fails one; where some is undecided, one is unknown.
+    // Where no verdict is no or undecided, every choice of fractions meets all obligations; where
+    // some is no, some choice inside fails one; where some is undecided, one is unknown.
     ensures all { (line : Line) (scripts : List Script) (claims : List Claims) →
         All (Fits line) scripts → AreCertified line scripts claims →
         list_any is_no (all_verdicts claims) ≡ false →
@@ -66,6 +71,8 @@ pub fn what_is_certified_is_true()
         HoldsSomewhere line scripts IsUnknown }
 {
     line_laws();
+    fine_histories_are_covered();
+    the_rule_speaks_for_covered_fine_histories();
     candidates_are_inside();
     timings_inside_are_choices_inside();
     what_is_accepted_is_true();

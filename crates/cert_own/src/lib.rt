@@ -3,21 +3,16 @@
 //! - `piece`: a script's part of a certificate: the keys that show its verdicts, and the verdicts.
 //! - `laws`, `split_laws`: what is certified of scripts is one list of claims, what is searched of
 //!   them one list of results, and each as a text is accepted, with the counts of its verdicts.
-//! - `headline_laws`: each verdict that stands in a whole line of a text that is accepted is true
-//!   of every choice of delays.
-//! - `between_laws`: and so is each `yes` of every choice whose times are fractions of a tick.
+//! - `headline_laws`: each verdict that stands in a whole line of a text that is accepted is true,
+//!   a `yes` of every choice whose times are fractions of a tick.
 #![tactic(auto)]
 
-mod between_laws;
 mod headline_laws;
 mod known;
 mod laws;
 mod piece;
 mod split_laws;
 
-pub use between_laws::{
-    what_is_accepted_holds_between_ticks, what_is_certified_holds_between_ticks,
-};
 pub use headline_laws::{
     what_is_accepted_is_true, what_is_certified_is_true, what_is_matched_is_true,
 };

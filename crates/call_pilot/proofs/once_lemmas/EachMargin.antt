@@ -22,13 +22,9 @@ use Rattle.judge_report.specs.Lost.{IsScriptHeld}
 use Rattle.judge_report.specs.Margin.{IsHeldTo, IsLostAbove, IsUpperEnd}
 use Rattle.judge_report.specs.{Margin.IsLostAt, MarginText.margin_line, Raised.raised}
 use Rattle.call_pilot.specs.commands.Margin.{margin_answer}
+use Rattle.call_pilot.proofs.top_lemmas.Raised.{raised_late}
 use Rattle.call_answer.specs.declared.done.Done.{Done}
 use Rattle.call_answer.specs.declared.done.Done.TheVariants as done
-
-by_bool : (b : Bool) (x y : Ends) → (b ≡ true → 1 ≤ x.least) → 1 ≤ y.least
-    → 1 ≤ (cond b x y).least
-by_bool true x y one other = one refl
-by_bool false x y one other = other
 
 module _ (lines : LineLaws) (rules : TheRuleOverABox) (line : Line) (scripts : List Script)
     (early : (s : ℕ) (script : Script) → slice_get scripts s ≡ Some script
@@ -108,21 +104,6 @@ module _ (lines : LineLaws) (rules : TheRuleOverABox) (line : Line) (scripts : L
     abbrev least : ℕ
     least = (declared_ends line param).least
 
-    abbrev new_ends : ℕ → Ends
-    new_ends v = record { least = least; greatest = v }
-
-    late_at : (v i : ℕ) → 1 ≤ (declared_ends line i).least
-        → 1 ≤ (ends_with (declared_ends line) param (new_ends v) i).least
-    late_at v i late =
-        by_bool (i == param) (new_ends v) (declared_ends line i)
-        (λ told. subst (λ (n : ℕ). 1 ≤ (declared_ends line n).least) (eqb-true i param told) late)
-        late
-
-    raised_late : (v : ℕ) → LeastFromOne line (raised line param v)
-    raised_late v c t lt soon =
-        late_at v (delay_param line c)
-        (lines.delays.from_one line (delay_param line c) (lines.delays.told line c lt))
-
     abbrev Ends' : Type 0
     Ends' = (end : UpperEnd) × IsUpperEnd line scripts param end
 
@@ -137,7 +118,7 @@ module _ (lines : LineLaws) (rules : TheRuleOverABox) (line : Line) (scripts : L
         record {
           never = λ u low high. elim (cases_eq u v) [
             | inl here ↦
-                λ held. lost_or_held (raised line param v) (raised_late v) lost is
+                λ held. lost_or_held (raised line param v) (raised_late line param v) lost is
                 (subst (IsHeldTo line scripts param) here held)
             | inr other ↦ never u (omega (arith, low, same, other)) high
           ];
@@ -159,7 +140,7 @@ module _ (lines : LineLaws) (rules : TheRuleOverABox) (line : Line) (scripts : L
     none_from : (v : ℕ) (l : Lost) → IsLostAt line scripts param (suc v) l → NoneAbove (suc v)
         → NoneAbove v
     none_from v l is never u lt le = elim (cases_eq u (suc v)) [
-      | inl same ↦ λ held. lost_or_held (raised line param (suc v)) (raised_late (suc v)) l is
+      | inl same ↦ λ held. lost_or_held (raised line param (suc v)) (raised_late line param (suc v)) l is
           (subst (IsHeldTo line scripts param) same held)
       | inr other ↦ never u (omega (arith, lt, other)) le
     ]
@@ -168,11 +149,11 @@ module _ (lines : LineLaws) (rules : TheRuleOverABox) (line : Line) (scripts : L
     down : (v : ℕ) (lost : Option Lost) → least ≤ v → v ≤ 4000
         → IsLostAbove line scripts param v lost → NoneAbove v → Ends'
     down zero lost low high above never =
-        let (here, is) = each_loss (raised line param zero) (raised_late zero) in
+        let (here, is) = each_loss (raised line param zero) (raised_late line param zero) in
         at_loss zero lost low high above never here is
         (λ l lost_at. none_at zero (omega (arith, low)) l lost_at never)
     down (suc v) lost low high above never =
-        let (here, is) = each_loss (raised line param (suc v)) (raised_late (suc v)) in
+        let (here, is) = each_loss (raised line param (suc v)) (raised_late line param (suc v)) in
         at_loss (suc v) lost low high above never here is
         (λ l lost_at. elim (cases_lt v least) [
           | inl less ↦ none_at (suc v) (omega (arith, less, low)) l lost_at never

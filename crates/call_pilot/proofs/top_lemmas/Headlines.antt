@@ -11,6 +11,7 @@ use Rattle.cert_claims.specs.check.Check.{IsCheckFault}
 use Rattle.model_history.specs.ZipLaws.{zip_each}
 use Rattle.judge_report.specs.Answer.{IsMarginAnswer}
 use Rattle.judge_report.specs.Margin.{HasNoMargin, IsLostAbove, IsLostAtLeast, IsMargin}
+use Rattle.judge_report.specs.Raised.{raised}
 use Rattle.cert_split.specs.{text.Piece.written_as, text.Text.split_text}
 use Rattle.cert_split.specs.check.Check as split_check
 use Rattle.cert_own.specs.Searched.{AreSearched}
@@ -66,7 +67,7 @@ use Rattle.call_files.specs.declared.stop.Status.TheVariants as status
 use Rattle.call_files.specs.declared.stop.Stop.{Stop}
 use Rattle.call_files.specs.declared.stop.Stop.TheVariants as stop
 use Rattle.call_pilot.specs.declared.top.words.ThreeFiles.TheVariants as three
-use Rattle.call_pilot.proofs.top_lemmas.Reported.{report_true}
+use Rattle.call_pilot.proofs.{top_lemmas.Raised.raised_late, top_lemmas.Reported.report_true}
 use Rattle.call_pilot.proofs.top_lemmas.SameFiles.{Moves, accepted_in, certified_in, in_files, margin_on}
 use Rattle.call_pilot.proofs.top_lemmas.SameFiles.{report_on, split_on, told_by_on}
 
@@ -138,7 +139,7 @@ certified_front known files line scripts line_bytes scripts_bytes line_told
     in_files known.one_file line_bytes scripts_bytes
     (λ line scripts. HoldsOf line scripts name terminal (HoldsAsCertified verdict))
     (λ a b lines xs ys both.
-    certified_in known.counts known.histories a b lines xs ys both verdict name terminal)
+    certified_in known.counts known.histories known.logic a b lines xs ys both verdict name terminal)
     of all line_is scripts_are
     (known.certified_true of all is.claims put front.front.rest name terminal verdict fit
     is.certified (front.front.is ∙ is.text_is) has))
@@ -167,7 +168,7 @@ status_told known files line scripts line_bytes scripts_bytes line_told scripts_
     (λ why refused. absurd (subst IsDone refused.0 is_done))
     (λ of all line_is scripts_are fit d same is.
     in_files known.one_file line_bytes scripts_bytes (IsToldBy s)
-    (λ a b lines xs ys both. told_by_on known.counts known.histories a b lines xs ys both s)
+    (λ a b lines xs ys both. told_by_on known.counts known.histories known.logic a b lines xs ys both s)
     of all line_is scripts_are
     (subst (λ (t : Status). IsToldBy t of all) (sym (same ∙ ap status_of_done is.status_is))
     (told_by known of all is.claims fit is.certified
@@ -254,7 +255,9 @@ module _ (known : HeadlineLaws) (of : Line) (all : List Script) (fit : All (Fits
         subst (λ (o : Option ℕ). MatchOption o
         (HasNoMargin of all param × IsLostAtLeast of all param is.end.lost)
         (λ w. IsMargin of all param w × IsLostAbove of all param w is.end.lost)) greatest is.is in
-        known.margins of all param v i k script fit end_is.0.held at there;
+        known.held.over of script k (raised of param v)
+        (known.deadlines of script (all_at (Fits of) all i script fit at)) (raised_late of param v)
+        there ((end_is.0.held.held i script at).held k there);
   }
 
   margin_true : (name text : List ℕ) (param : ℕ) (d : Done) → param_named of name ≡ Some param
@@ -387,7 +390,7 @@ module _ {K : Type 0} (view : K → SinkView) (old new : K) (files : List ℕ �
       in_files known.one_file line scripts
       (λ a xs. HoldsOf a xs name terminal (HoldsAsAccepted verdict))
       (λ a b lines xs ys both.
-      accepted_in known.counts known.histories a b lines xs ys both verdict name terminal)
+      accepted_in known.counts known.histories known.logic a b lines xs ys both verdict name terminal)
       of all line_is scripts_are
       (known.accepted_true of all cert counts name terminal verdict fit accepted verdict_there))
       answered
@@ -405,7 +408,7 @@ module _ {K : Type 0} (view : K → SinkView) (old new : K) (files : List ℕ �
       over.line_told over.scripts_told over.own_told text []
       (λ of all line_is scripts_are fit counts accepted.
       in_files known.one_file line scripts (λ of all. SplitIsTrue of all trees)
-      (λ a b lines xs ys both. split_on known.counts known.histories a b lines xs ys both trees)
+      (λ a b lines xs ys both. split_on known.counts known.histories known.logic a b lines xs ys both trees)
       of all line_is scripts_are
       (accepted_split known of all fit trees counts accepted))
       answered
@@ -423,7 +426,7 @@ module _ {K : Type 0} (view : K → SinkView) (old new : K) (files : List ℕ �
     reported = λ line scripts put over has.
         two_put report command r e line scripts put over has (λ text of all. ReportIsTrue of all text)
         (λ text a b lines xs ys both.
-        report_on known.counts known.histories a b lines xs ys both text)
+        report_on known.counts known.histories known.logic a b lines xs ys both text)
         (λ s text message of all fit said stopped then.
         then (report_true known of all (λ i script at. all_at (Fits of) all i script fit at) text
         said.2.1));
@@ -431,7 +434,7 @@ module _ {K : Type 0} (view : K → SinkView) (old new : K) (files : List ℕ �
         two_put (margin name) command r e line scripts put over has
         (λ text of all. MarginIsTrue of all name text)
         (λ text a b lines xs ys both.
-        margin_on known.counts known.histories a b lines xs ys both name text)
+        margin_on known.counts known.histories known.logic a b lines xs ys both name text)
         (λ s text message of all fit said stopped then.
         of_name (param_named of name) (λ why. refuses why s text message)
         (λ param. done_with (margin_answer of all param) s text message) said stopped
@@ -440,7 +443,7 @@ module _ {K : Type 0} (view : K → SinkView) (old new : K) (files : List ℕ �
     split_put = λ line scripts n put over has.
         two_put (split n) command r e line scripts put over has
         (λ text of all. SplitIsTrue of all text)
-        (λ text a b lines xs ys both. split_on known.counts known.histories a b lines xs ys both text)
+        (λ text a b lines xs ys both. split_on known.counts known.histories known.logic a b lines xs ys both text)
         (λ s text message of all fit said stopped then.
         then (split_true known of all fit n said.0 text said.2));
     trees_accepted = recheck_true command r e;

@@ -1,16 +1,17 @@
 -- What is reported is true of every choice of delays, row by row.
-use Rattle.std.proofs.Common.{◌≡◌, ◌<◌, ◌++◌, ℕ, zero, suc, Bool, true, false, List, [], ◌∷◌}
+use Rattle.std.proofs.Common.{◌≡◌, ◌≤◌, ◌<◌, ◌*◌, ◌/◌, ◌++◌, ℕ, zero, suc, Bool, true, false, List, [], ◌∷◌}
 use Rattle.std.proofs.Common.{Option}
 use Rattle.std.proofs.Common.{None, Some, map, length, refl, sym, ◌∙◌, ap, subst, append_assoc}
 use Rattle.std.proofs.lemmas.List.{append-nil}
+use Rattle.std.proofs.lemmas.Nat.{div_below}
 use Rattle.std.specs.Prelude.{IsFalse, IsTrue, slice_get}
 use Rattle.std.specs.List.{concat}
 use Rattle.model_history.specs.Each.{each_below}
 use Rattle.model_line.specs.{declared.line.Line.Line, declared.script.Script.Script, Fits.Fits}
 use Rattle.model_line.specs.Parameters.{terminal_count}
-use Rattle.model_logic.specs.Histories.{CoversHistory, History, IsLineHistory, IsPairHistory}
-use Rattle.model_logic.specs.Histories.{PairHistory}
-use Rattle.model_logic.specs.Choice.{Choice, IsInside, declared_box}
+use Rattle.model_logic.specs.Histories.{History, IsPairHistory, PairHistory}
+use Rattle.model_logic.specs.Choice.{Choice, declared_box}
+use Rattle.model_fine.specs.Fine.{CoversFineHistory, IsFineHistory, IsFineInside}
 use Rattle.model_logic.specs.Rule.{rule_of}
 use Rattle.run_waves.specs.waves.FirstTick.{first_on}
 use Rattle.judge_report.specs.ReportText.{IsReportText, report_header, row_text, script_rows}
@@ -60,11 +61,11 @@ module _ (known : HeadlineLaws) where
   module _ (line : Line) (script : Script) (fits : Fits line script) (w : PairHistory)
       (is_w : IsPairHistory line script (declared_box line) w) (k : ℕ)
       (there : k < terminal_count line) where
-    covers : (choice : Choice) (h : History) → IsInside line choice
-        → IsLineHistory line script choice h → CoversHistory line w h
-    covers choice h inside is =
-        known.covers.choices line script (declared_box line) choice w h (known.inside.declared line)
-        inside is_w is
+    covers : (n : ℕ) (choice : Choice) (h : History) → 1 ≤ n → IsFineInside n line choice
+        → IsFineHistory n line script choice h → CoversFineHistory n line w h
+    covers n choice h some inside is =
+        known.covers.histories n line script (declared_box line) choice w h some
+        (known.inside.declared line) inside is_w is
 
     row_true : RowIsTrue line script k (row_text line script k (w.trip k))
     row_true = record {
@@ -72,19 +73,23 @@ module _ (known : HeadlineLaws) where
       first_must = first_on (λ t. (w.trip k t).must) line.horizon;
       rule = rule_of line script (w.trip k);
       row_is = refl;
-      may = λ t early before choice h inside is.
-          off_too (h.trip k t) (w.trip k t).may ((covers choice h inside is).trips k t there early).may
-          (before_first (λ t. (w.trip k t).may) line.horizon t
-          (first_on (λ t. (w.trip k t).may) line.horizon) refl early before);
-      must = λ t first choice h inside is.
-          let on = (known.first_some (λ t. (w.trip k t).must) line.horizon t).0 first in
-          ((covers choice h inside is).trips k t there on.0).must on.1;
-      held = λ held.
-          known.rules.held line script (declared_box line) w k (known.deadlines line script fits)
-          (known.inside.declared line) is_w there held;
-      broken = λ broken.
-          known.rules.broken line script (declared_box line) w k (known.deadlines line script fits)
-          (known.inside.declared line) is_w there broken;
+      may = λ n choice h some inside is t early before.
+          off_too (h.trip k t) (w.trip k (t / n)).may
+          ((covers n choice h some inside is).trips k t there early).may
+          (before_first (λ t. (w.trip k t).may) line.horizon (t / n)
+          (first_on (λ t. (w.trip k t).may) line.horizon) refl (div_below t n line.horizon some early)
+          before);
+      must = λ n choice h some inside is t early first.
+          let on = (known.first_some (λ t. (w.trip k t).must) line.horizon (t / n)).0 first in
+          ((covers n choice h some inside is).trips k t there early).must on.1;
+      held = λ held n choice h some inside is.
+          known.rules.held n line script (declared_box line) w k some
+          (known.deadlines line script fits) (known.inside.declared line) is_w there held choice h
+          inside is;
+      broken = λ broken n choice h some inside is.
+          known.rules.broken n line script (declared_box line) w k some
+          (known.deadlines line script fits) (known.inside.declared line) is_w there broken choice h
+          inside is;
     }
 
   -- the report is true

@@ -1,14 +1,15 @@
 -- What is so of one line and scripts that two files say is so of all that they say.
-use Rattle.std.proofs.Common.{◌≡◌, ◌<◌, ℕ, List, ◌++◌, Ok, Result, map}
+use Rattle.std.proofs.Common.{◌≡◌, ◌<◌, ◌*◌, ◌/◌, ℕ, List, ◌++◌, Some, Ok, Result, map}
 use Rattle.std.proofs.Common.{length, sym, ◌∙◌, ap, subst}
 use Rattle.std.proofs.lemmas.List.{length-map}
-use Rattle.std.specs.Prelude.{codes}
+use Rattle.std.specs.Prelude.{IsFalse, IsTrue, codes}
 use Rattle.std.specs.{List.position_from, Str.bytes_eq}
 use Rattle.model_history.specs.Each.{each_below}
 use Rattle.model_line.specs.{declared.line.Line.Line, declared.line.Param.Param}
 use Rattle.model_line.specs.{declared.script.Script.Script, Parameters.terminal_count}
 use Rattle.model_line.specs.{SetBounds.SameButParams, Laws.CountsRestOnNoInterval}
-use Rattle.model_logic.specs.{Choice.IsWithin, IntervalLaws.HistoriesRestOnNoInterval}
+use Rattle.model_logic.specs.IntervalLaws.{HistoriesRestOnNoInterval, TreesRestOnNoInterval}
+use Rattle.model_fine.specs.Fine.{EachFineChoiceMeets}
 use Rattle.file_line.specs.{LineFiles.line_of, Lines.line_values}
 use Rattle.file_tables.specs.{script.Scripts.scripts_of, script.Values.AreOfOneFile, script.Values.ScriptValues}
 use Rattle.file_tables.specs.script.Values.{values_of}
@@ -20,22 +21,23 @@ use Rattle.cert_own.specs.Obligations.{HoldsSomewhere}
 use Rattle.cert_own.specs.Obligations.{IsFailedBySome, IsUnknown}
 use Rattle.cert_own.specs.Printed.{HoldsOf}
 use Rattle.call_pilot.specs.{top.SaidByFiles.InFiles, top.Truths.IsToldBy}
-use Rattle.call_pilot.specs.top.Truths.{MarginIsTrue, ReportIsTrue, RowIsTrue, SplitIsTrue}
+use Rattle.call_pilot.specs.top.Truths.{IsBefore, MarginIsTrue, ReportIsTrue, RowIsTrue, SplitIsTrue}
 use Rattle.call_files.specs.declared.stop.Status.{Status}
 use Rattle.call_files.specs.declared.stop.Status.TheVariants as status
-use Rattle.call_pilot.specs.top.SameFactLaws.{accepted_on, are_told_on, certified_on, failed_by_all}
-use Rattle.call_pilot.specs.top.SameFactLaws.{failed_on, raised_same, same_params, unknown_by}
-use Rattle.call_pilot.specs.top.SameFactLaws.{within_back}
+use Rattle.call_pilot.specs.top.SameFactLaws.{are_told_on, failed_on, raised_same, same_params}
+use Rattle.call_pilot.specs.top.SameFactLaws.{unknown_by}
+use Rattle.call_pilot.specs.top.SameFineLaws.{accepted_on, certified_on, each_inside_on, each_meets_on}
+use Rattle.call_pilot.specs.top.SameFineLaws.{failed_by_all, met_by_fractions}
 use Rattle.call_pilot.specs.top.SameScriptLaws.{scripts_same}
 use Rattle.call_pilot.specs.{top.SameHeldLaws.upper_end_on, top.SameTextLaws.fields_same}
 use Rattle.call_pilot.specs.top.SameTextLaws.{margin_same, split_same, terminal_same}
 use Rattle.call_pilot.specs.top.TwinLaws.{twin}
-use Rattle.call_pilot.specs.top.SameValueLaws.{history_back, inside_back, meets_on, met_by_all}
 use Rattle.call_pilot.specs.top.SameValueLaws.{same_but_params}
 
 -- two lines and lists of scripts of the same values
-module _ (counts : CountsRestOnNoInterval) (histories : HistoriesRestOnNoInterval) (a b : Line)
-    (lines : line_values b ≡ line_values a) (xs ys : List Script)
+module _ (counts : CountsRestOnNoInterval) (histories : HistoriesRestOnNoInterval)
+    (logic : TreesRestOnNoInterval) (a b : Line) (lines : line_values b ≡ line_values a)
+    (xs ys : List Script)
     (scripts : map values_of ys ≡ map values_of xs) where
   others : SameButParams a b
   others = same_but_params a b lines
@@ -76,7 +78,7 @@ module _ (counts : CountsRestOnNoInterval) (histories : HistoriesRestOnNoInterva
   all_met_on : AllMet a xs → AllMet b ys
   all_met_on met = λ i k script at there.
       let other = twin ys xs scripts i script at in
-      met_by_all counts histories a b lines other.script script other.values k
+      met_by_fractions counts histories logic a b lines other.script script other.values k
       (met i k other.script other.at (there_in k there))
 
   pub told_by_on : (s : Status) → IsToldBy s a xs → IsToldBy s b ys
@@ -104,15 +106,18 @@ module _ (counts : CountsRestOnNoInterval) (histories : HistoriesRestOnNoInterva
         ∙ ap (λ (t : List ℕ). t ++ rule_word is.rule ++ codes "\n")
         (sym (fields_same a b others (same_params a b lines) s r values k is.first_may
         is.first_must));
-    may = λ t early before choice h inside history.
-        is.may t (subst (λ (n : ℕ). t < n) others.horizon early) before choice h
-        (inside_back counts histories a b lines choice inside)
-        (history_back counts histories a b lines s r values choice h history);
-    must = λ t first choice h inside history.
-        is.must t first choice h (inside_back counts histories a b lines choice inside)
-        (history_back counts histories a b lines s r values choice h history);
-    held = λ rule. met_by_all counts histories a b lines s r values k (is.held rule);
-    broken = λ rule. failed_by_all counts histories a b lines s r values k (is.broken rule);
+    may = each_inside_on counts histories logic a b lines s r values
+        (λ n h. (t : ℕ) → t < b.horizon * n → IsBefore (t / n) is.first_may → IsFalse (h.trip k t))
+        (λ n choice h some inside history t early.
+        is.may n choice h some inside history t
+        (subst (λ (m : ℕ). t < m * n) others.horizon early));
+    must = each_inside_on counts histories logic a b lines s r values
+        (λ n h. (t : ℕ) → t < b.horizon * n → is.first_must ≡ Some (t / n) → IsTrue (h.trip k t))
+        (λ n choice h some inside history t early.
+        is.must n choice h some inside history t
+        (subst (λ (m : ℕ). t < m * n) others.horizon early));
+    held = λ rule. met_by_fractions counts histories logic a b lines s r values k (is.held rule);
+    broken = λ rule. failed_by_all counts histories logic a b lines s r values k (is.broken rule);
   }
 
   lengths_same : length ys ≡ length xs
@@ -143,14 +148,11 @@ module _ (counts : CountsRestOnNoInterval) (histories : HistoriesRestOnNoInterva
     text_is = is.text_is
         ∙ sym (margin_same a b others (same_params a b lines) xs ys scripts is.param is.end);
     end_is = upper_end_on counts histories a b lines xs ys scripts is.param is.end is.end_is;
-    met = λ v i k script greatest at there choice h within history.
+    met = λ v i k script greatest at there.
         let other = twin ys xs scripts i script at in
-        meets_on counts histories a b lines other.script script other.values k h
-        (is.met v i k other.script greatest other.at (there_in k there) choice h
-        (within_back counts histories a b lines choice (raised a is.param v)
-        (subst (IsWithin b choice) (raised_same counts histories a b lines is.param v) within))
-        (history_back counts histories a b lines other.script script other.values choice h
-        history));
+        subst (EachFineChoiceMeets b script k) (sym (raised_same counts histories a b lines is.param v))
+        (each_meets_on counts histories logic a b lines other.script script other.values k
+        (raised a is.param v) (is.met v i k other.script greatest other.at (there_in k there)));
   }
 
   pub split_on : (text : List ℕ) → SplitIsTrue a xs text → SplitIsTrue b ys text
@@ -169,14 +171,14 @@ module _ (counts : CountsRestOnNoInterval) (histories : HistoriesRestOnNoInterva
       → HoldsOf b ys name terminal (HoldsAsCertified verdict)
   certified_in verdict =
       holds_of_on (HoldsAsCertified verdict)
-      (λ s r values k. certified_on counts histories a b lines s r values verdict k)
+      (λ s r values k. certified_on counts histories logic a b lines s r values verdict k)
 
   pub accepted_in : (verdict : Verdict) (name terminal : List ℕ)
       → HoldsOf a xs name terminal (HoldsAsAccepted verdict)
       → HoldsOf b ys name terminal (HoldsAsAccepted verdict)
   accepted_in verdict =
       holds_of_on (HoldsAsAccepted verdict)
-      (λ s r values k. accepted_on counts histories a b lines s r values verdict k)
+      (λ s r values k. accepted_on counts histories logic a b lines s r values verdict k)
 
 -- ---- all that the files say
 

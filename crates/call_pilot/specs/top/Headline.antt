@@ -1,4 +1,4 @@
--- What a call says of every choice of delays. In each field line, scripts, and what else is named so,
+-- What a call says of every choice, of fractions or of whole ticks. In each field line, scripts, and what else is named so,
 -- are the bytes of the command's files, and put is what the call has put on out.
 use Rattle.std.specs.Prelude.{◌≡◌, ℕ, List, Option}
 use Rattle.cert_claims.specs.text.Grammar.{Verdict}
@@ -19,8 +19,8 @@ use Rattle.call_pilot.specs.declared.top.words.ThreeFiles.TheVariants as three
 pub record Headline (command : Option Command) (files : List ℕ → Option (List ℕ))
     (out_old out_new : SinkView) (s : Status) : Type 0 where
   -- Where `certify` has put a whole line `verdict TERMINAL yes` under `script NAME`, however the call
-  -- ended, each history of each choice inside meets that obligation; under `no` the numbers are a
-  -- choice inside whose history fails it; under `undecided` its rule is unknown.
+  -- ended, each history of each choice of fractions inside meets that obligation; under `no` the
+  -- numbers are a choice inside whose history fails it; under `undecided` its rule is unknown.
   pub printed : (line scripts put name terminal : List ℕ) (verdict : Verdict)
       → IsOverTwo command files certify line scripts → HasPut out_old out_new put
       → HasVerdict put name terminal verdict

@@ -1,22 +1,20 @@
 -- The laws that the headline rests on.
 use Rattle.std.specs.Prelude.{◌≡◌, ◌↔◌, ◌++◌, ◌<◌, ℕ, Bool, true, false, List, None, Some, Ok}
-use Rattle.std.specs.Prelude.{IsFalse, IsTrue, length, slice_get}
+use Rattle.std.specs.Prelude.{IsFalse, IsTrue, length}
 use Rattle.std.specs.List.{All, list_any}
 use Rattle.model_line.specs.Laws.{CountsRestOnNoInterval, DeadlinesAreBelowTheHorizon}
 use Rattle.model_line.specs.Parameters.{terminal_count}
 use Rattle.model_line.specs.{declared.line.Line.Line, declared.script.Script.Script, Fits.Fits}
-use Rattle.model_logic.specs.Histories.{History, IsLineHistory, Meets}
 use Rattle.model_logic.specs.IntervalLaws.{HistoriesRestOnNoInterval, TreesRestOnNoInterval}
-use Rattle.model_logic.specs.Laws.{AWiderBoxCovers, EachLineHasAChoiceInside}
-use Rattle.model_logic.specs.Laws.{TheRuleSpeaksForEveryChoice}
-use Rattle.model_logic.specs.Choice.{Choice, IsWithin}
+use Rattle.model_logic.specs.Laws.{EachLineHasAChoiceInside}
+use Rattle.model_fine.specs.Laws.{FineHistoriesAreCovered, TheRuleSpeaksForEveryFineChoice}
+use Rattle.model_fine.specs.Laws.{WhatIsHeldIsMetBetweenTicks}
 use Rattle.file_tables.specs.{script.Scripts.scripts_of, script.Values.AreOfOneFile, script.Values.ScriptValues}
 use Rattle.cert_claims.specs.{text.Grammar.Claims, text.Grammar.Verdict, text.Text.certificate_text}
 use Rattle.cert_claims.specs.{declared.check.counts.Counts.Counts, check.Check.IsAccepted}
 use Rattle.cert_claims.specs.check.Counts.{all_verdicts, is_no, is_undecided}
 use Rattle.cert_own.specs.Certified.{AreCertified}
 use Rattle.run_waves.specs.waves.FirstTick.{first_on}
-use Rattle.judge_report.specs.{Margin.IsHeldTo, Raised.raised}
 use Rattle.cert_split.specs.text.Grammar.{HasOneEach, IsSplitText, SplitResult}
 use Rattle.cert_split.specs.text.Text.{split_text}
 use Rattle.cert_split.specs.check.Check as split_check
@@ -60,20 +58,16 @@ pub record HeadlineLaws : Type 0 where
   -- records of the field, and plays
   pub of_records : RecordLaws
   -- rules, margins and split trees
-  pub rules : TheRuleSpeaksForEveryChoice
+  pub rules : TheRuleSpeaksForEveryFineChoice
+  pub held : WhatIsHeldIsMetBetweenTicks
   pub deadlines : DeadlinesAreBelowTheHorizon
   pub inside : EachLineHasAChoiceInside
-  pub covers : AWiderBoxCovers
+  pub covers : FineHistoriesAreCovered
   pub first_some : (u : ℕ → Bool) (n t : ℕ)
       → (first_on u n ≡ Some t)
       ↔ ((t < n) × IsTrue (u t) × ((r : ℕ) → r < t → IsFalse (u r)))
   pub first_none : (u : ℕ → Bool) (n : ℕ)
       → (first_on u n ≡ None) ↔ ((t : ℕ) → t < n → IsFalse (u t))
-  pub margins : (line : Line) (scripts : List Script) (param v s k : ℕ) (script : Script)
-      → All (Fits line) scripts → IsHeldTo line scripts param v
-      → slice_get scripts s ≡ Some script → k < terminal_count line
-      → (choice : Choice) (h : History) → IsWithin line choice (raised line param v)
-      → IsLineHistory line script choice h → Meets line script k h
   pub searched : (line : Line) (n : ℕ) (script : Script) (results : List SplitResult)
       → Fits line script → AreSearched line n script results → AreSupported line script results
   pub told : (line : Line) (script : Script) (results : List SplitResult) → Fits line script

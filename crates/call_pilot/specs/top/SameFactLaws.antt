@@ -14,7 +14,7 @@ use Rattle.model_line.specs.{declared.script.Kind.Kind, declared.script.SeenSpan
 use Rattle.model_line.specs.{Laws.CountsRestOnNoInterval, Channels.from_of, ParamNames.param_name}
 use Rattle.model_line.specs.{Settings.line_settings, SetBounds.SameButParams}
 use Rattle.model_line.specs.SameParamLaws.{params_by}
-use Rattle.model_logic.specs.Choice.{Box, Choice, IsIn, IsWithin, declared_box, ends_by}
+use Rattle.model_logic.specs.Choice.{Box, Choice, IsIn, declared_box, ends_by}
 use Rattle.model_logic.specs.Choice.{pair_world_of}
 use Rattle.model_logic.specs.Histories.{IsLineHistory, IsPairHistory, PairHistory}
 use Rattle.model_logic.specs.Logic.{key_tree, trip_tree}
@@ -27,16 +27,13 @@ use Rattle.model_timing.specs.Candidates.{candidate, candidate_count, candidate_
 use Rattle.model_timing.specs.{Choice.timing_choice, Inside.IsStepInside}
 use Rattle.model_timing.specs.Timing.{TimingValues, number_at}
 use Rattle.judge_verdict.specs.verdict.Verdicts.{PassesAt}
-use Rattle.cert_claims.specs.text.Grammar.{Verdict, no, undecided, yes}
 use Rattle.cert_claims.specs.check.Refutations.{IsRefutation, choice_of, steady_timing}
 use Rattle.judge_report.specs.Raised.{raised}
 use Rattle.cert_split.specs.text.Grammar.{SplitResult, fails, tree}
 use Rattle.cert_split.specs.check.Results.{AreTold, IsTold}
-use Rattle.cert_own.specs.Obligations.{HoldsAsAccepted, HoldsAsCertified, IsFailedBySome}
-use Rattle.cert_own.specs.Obligations.{IsUnknown}
-use Rattle.call_pilot.specs.top.Truths.{IsFailedByAll}
+use Rattle.cert_own.specs.Obligations.{IsFailedBySome, IsUnknown}
 use Rattle.call_pilot.specs.top.SameValueLaws.{failed_by, greatests_of, history_back}
-use Rattle.call_pilot.specs.top.SameValueLaws.{inside_back, leasts_of, meets_back, meets_on, met_by_all}
+use Rattle.call_pilot.specs.top.SameValueLaws.{inside_back, leasts_of, meets_back, meets_on}
 use Rattle.call_pilot.specs.top.SameValueLaws.{same_but_params, same_ends}
 
 -- ---- parameters
@@ -100,15 +97,6 @@ module _ (counts : CountsRestOnNoInterval) (histories : HistoriesRestOnNoInterva
       record { ends = wide; delay = λ c t. wide (at c) } in
       ap (λ (ends : ℕ → Ends). made ends (delay_param b)) ends_same
       ∙ ap (made (declared_ends a)) delays_same
-
-  pub within_back : (choice : Choice) (box : Box) → IsWithin b choice box → IsWithin a choice box
-  within_back choice box within = record {
-    numbers = λ i lt.
-        within.numbers i (subst (λ (n : ℕ). i < n) (sym (counts.params a b others)) lt);
-    delays = λ c t lt early.
-        within.delays c t (subst (λ (n : ℕ). c < n) (sym (counts.channels a b others)) lt)
-        (subst (λ (n : ℕ). t < n) (sym others.horizon) early);
-  }
 
   pub choice_same : (timing : TimingValues) → timing_choice b timing ≡ timing_choice a timing
   unfolding timing_choice
@@ -200,13 +188,6 @@ module _ (counts : CountsRestOnNoInterval) (histories : HistoriesRestOnNoInterva
           (is.passes i (subst (λ (n : ℕ). i < n) count_same lt)));
     }
 
-    -- every choice fails it
-    pub failed_by_all : (k : ℕ) → IsFailedByAll a s k → IsFailedByAll b r k
-    failed_by_all k never = λ choice h inside is met.
-        never choice h (inside_back counts histories a b same choice inside)
-        (history_back counts histories a b same s r values choice h is)
-        (meets_back counts histories a b same s r values k h met)
-
     -- these numbers are inside, and fail it
     pub refuted_by : (k : ℕ) (numbers : List ℕ) → IsRefutation a s k numbers
         → IsRefutation b r k numbers
@@ -234,18 +215,6 @@ module _ (counts : CountsRestOnNoInterval) (histories : HistoriesRestOnNoInterva
 
     pub are_told_on : (results : List SplitResult) → AreTold a s results → AreTold b r results
     are_told_on results told = λ k result lt at. told_on k result (told k result lt at)
-
-    pub certified_on : (verdict : Verdict) (k : ℕ) → HoldsAsCertified verdict a s k
-        → HoldsAsCertified verdict b r k
-    certified_on yes k holds = met_by_all counts histories a b same s r values k holds
-    certified_on (no numbers) k holds = failed_by counts histories a b same s r values k numbers holds
-    certified_on undecided k holds = unknown_by k holds
-
-    pub accepted_on : (verdict : Verdict) (k : ℕ) → HoldsAsAccepted verdict a s k
-        → HoldsAsAccepted verdict b r k
-    accepted_on yes k holds = met_by_all counts histories a b same s r values k holds
-    accepted_on (no numbers) k holds = failed_by counts histories a b same s r values k numbers holds
-    accepted_on undecided k holds = tt
 
     pub failed_on : (k : ℕ) → IsFailedBySome a s k → IsFailedBySome b r k
     failed_on k (numbers, holds) =

@@ -7,6 +7,7 @@ ghost use Rattle.file_line.specs.Lines.{line_values};
 ghost use Rattle.file_tables.specs.{script.Scripts.scripts_of, script.Values.values_of};
 ghost use Rattle.cert_own.specs.Obligations.{IsFailedBy, IsUnknown};
 ghost use Rattle.model_logic.specs.Obligations.{EveryChoiceMeets};
+ghost use Rattle.model_fine.specs.Fine.{EveryFineChoiceMeets};
 ghost use Rattle.cert_claims.specs.check.Counts.{all_verdicts};
 ghost use Rattle.cert_split.specs.check.Counts.{all_verdicts as all_split_verdicts};
 ghost use Rattle.call_pilot.specs.{commands.Certify.certify_answer, commands.Check.check_answer};
@@ -22,17 +23,18 @@ use cert_own::{
 use cert_split::check::accepted_split_trees_are_so;
 use cert_split::text::{printed_results_are_a_split_text, split_results_have_one_text};
 use file_tables::script::a_file_says_scripts_of_one_file;
-use judge_report::what_is_held_to_a_number_is_met;
+use model_fine::fine_laws::{
+    fine_histories_are_covered, the_rule_speaks_for_every_fine_choice,
+    what_is_held_is_met_between_ticks,
+};
 use model_line::laws::{counts_do_not_rest_on_the_intervals, deadlines_are_below_the_horizon};
 use model_logic::interval_laws::{
     histories_do_not_rest_on_the_intervals, trees_do_not_rest_on_the_intervals,
 };
-use model_logic::laws::{
-    a_wider_box_covers, each_line_has_a_choice_inside, the_rule_speaks_for_every_choice,
-};
+use model_logic::laws::each_line_has_a_choice_inside;
 use run_waves::waves::the_first_tick_is_the_least;
 
-/// What is answered is true of every choice of delays, as the crates below state it.
+/// What is answered is true of every choice, as the crates below state it.
 pub fn what_is_answered_is_true()
     ensures { HeadlineLaws }
 {
@@ -43,12 +45,12 @@ pub fn what_is_answered_is_true()
     what_is_certified_is_true();
     what_is_accepted_is_true();
     what_is_recorded_is_true();
-    the_rule_speaks_for_every_choice();
+    the_rule_speaks_for_every_fine_choice();
+    what_is_held_is_met_between_ticks();
     deadlines_are_below_the_horizon();
     each_line_has_a_choice_inside();
-    a_wider_box_covers();
+    fine_histories_are_covered();
     the_first_tick_is_the_least();
-    what_is_held_to_a_number_is_met();
     what_is_searched_is_accepted();
     accepted_split_trees_are_so();
     split_results_have_one_text();
@@ -84,13 +86,17 @@ pub fn what_split_writes_is_accepted()
     what_is_searched_is_accepted();
 }
 
-/// That every choice inside meets an obligation, that these numbers fail it, and that it is unknown,
-/// rest on the values of the line and of the script alone, and what a scripts file says on those of
-/// the line. So it is so of each line and script that the bytes of the files say, where it is of some.
+/// That every choice inside meets an obligation, of whole ticks or of fractions, that these numbers
+/// fail it, and that it is unknown, rest on the values of the line and of the script alone, and what a
+/// scripts file says on those of the line. So it is so of each line and script that the bytes of the
+/// files say, where it is of some.
 pub fn what_is_met_rests_on_the_values()
     ensures met { (line other : Line) (script copy : Script) (k : ℕ) →
         line_values other ≡ line_values line → values_of copy ≡ values_of script →
         EveryChoiceMeets line script k → EveryChoiceMeets other copy k }
+    ensures met_by_fractions { (line other : Line) (script copy : Script) (k : ℕ) →
+        line_values other ≡ line_values line → values_of copy ≡ values_of script →
+        EveryFineChoiceMeets line script k → EveryFineChoiceMeets other copy k }
     ensures failed { (line other : Line) (script copy : Script) (k : ℕ) (numbers : List ℕ) →
         line_values other ≡ line_values line → values_of copy ≡ values_of script →
         IsFailedBy line script k numbers → IsFailedBy other copy k numbers }
@@ -102,4 +108,5 @@ pub fn what_is_met_rests_on_the_values()
 {
     counts_do_not_rest_on_the_intervals();
     histories_do_not_rest_on_the_intervals();
+    trees_do_not_rest_on_the_intervals();
 }

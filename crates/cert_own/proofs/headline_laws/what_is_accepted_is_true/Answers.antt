@@ -13,6 +13,7 @@ use Rattle.cert_own.proofs.headline_laws.what_is_accepted_is_true.Goals as goal
 pub returns-clause-script : goal.returns-clause-script
 returns-clause-script c =
     accepted_is_true c.line_laws.ensures c.timings_inside_are_choices_inside.ensures
+    c.fine_histories_are_covered.ensures c.the_rule_speaks_for_covered_fine_histories.ensures
 
 pub returns-clause-text : goal.returns-clause-text
 returns-clause-text c = λ line scripts bytes counts name terminal verdict fit accepted has.
@@ -20,8 +21,7 @@ returns-clause-text c = λ line scripts bytes counts name terminal verdict fit a
     scripts accepted.claims bytes accepted.is
     (says_of line scripts accepted.claims HoldsAsAccepted
     (λ i script said at there k v said_at.
-    accepted_is_true c.line_laws.ensures c.timings_inside_are_choices_inside.ensures line script
-    said k v (all_at (Fits line) scripts i script fit at)
+    returns-clause-script c line script said k v (all_at (Fits line) scripts i script fit at)
     (all_at (HasOneEach line) accepted.claims i said accepted.is.each there)
     (accepted.each i script said (slice_get_within scripts i script at) at there) said_at))
     bytes [] (append-nil bytes) name terminal verdict has

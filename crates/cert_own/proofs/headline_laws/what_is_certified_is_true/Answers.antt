@@ -13,6 +13,7 @@ use Rattle.cert_own.proofs.headline_laws.what_is_certified_is_true.Goals as goal
 pub returns-clause-script : goal.returns-clause-script
 returns-clause-script c =
     certified_is_true c.line_laws.ensures c.timings_inside_are_choices_inside.ensures
+    c.fine_histories_are_covered.ensures c.the_rule_speaks_for_covered_fine_histories.ensures
     c.candidates_are_inside.ensures c.what_is_certified_is_accepted.ensures.script
     (λ line script said is.
     (c.what_is_certified_is_accepted.ensures.written line script said is).each)
