@@ -2,5 +2,4 @@
 #![tactic(auto)]
 
 pub mod lint;
-mod pieces;
 pub mod warnings;

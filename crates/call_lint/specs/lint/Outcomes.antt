@@ -1,5 +1,5 @@
 -- What lint finds, and its exit status.
-use Rattle.std.specs.Prelude.{◌≡◌, ◌⊎◌, ℕ, List, [], ◌∷◌, Ok, IsErr, map}
+use Rattle.std.specs.Prelude.{◌≡◌, ◌⊎◌, ◌++◌, ℕ, List, [], ◌∷◌, Ok, IsErr, map}
 use Rattle.file_line.specs.{Lines.line_values, LineFiles.line_of}
 use Rattle.file_tables.specs.{script.Values.values_of, script.Scripts.scripts_of}
 use Rattle.file_study.specs.study.Faults.{FaultValues, fault_values}
@@ -11,7 +11,7 @@ use Rattle.file_study.specs.declared.sweeps.study_fault.StudySweepFault.{StudySw
 use Rattle.file_study.specs.declared.times.time.Interval.{Interval}
 use Rattle.model_line.specs.{declared.line.Line.Line, declared.script.Script.Script}
 use Rattle.call_lint.specs.declared.warnings.warning.Warning.{Warning}
-use Rattle.call_lint.specs.warnings.Warnings.{warnings}
+use Rattle.call_lint.specs.{warnings.Warnings.warnings, warnings.SweepTests.sweep_warnings}
 use Rattle.call_lint.specs.declared.lint.linted.Outcome.{Outcome}
 use Rattle.call_lint.specs.declared.lint.linted.Outcome.TheVariants.{Clean, Suspicious, Refused}
 
@@ -25,17 +25,19 @@ abbrev pub outcome_of : List Warning → Outcome
 outcome_of [] = Clean
 outcome_of (w ∷ ws) = Suspicious
 
--- of a line and scripts: by their warnings, with the exact ends of the times as they are told
-pub record IsReadLinted (line : Line) (scripts : List Script) (outcome : Outcome) : Type 0 where
+-- of a line and scripts, and of these warnings besides: by all of them, with the exact ends of the
+-- times as they are told
+pub record IsReadLinted (line : Line) (scripts : List Script) (more : List Warning)
+    (outcome : Outcome) : Type 0 where
   pub exact : List Interval
-  pub told : outcome ≡ outcome_of (warnings line exact scripts)
+  pub told : outcome ≡ outcome_of (warnings line exact scripts ++ more)
 
 -- of a line and the bytes of its scripts: refused, or read
 abbrev pub IsScriptsLinted : Line → List ℕ → Outcome → Type 0
 IsScriptsLinted line bytes outcome =
     (IsErr (scripts_of line bytes) × (outcome ≡ Refused))
     ⊎ ((scripts : List Script) × (scripts_of line bytes ≡ Ok (map values_of scripts))
-    × IsReadLinted line scripts outcome)
+    × IsReadLinted line scripts [] outcome)
 
 -- of the bytes of both
 abbrev pub IsLinted : List ℕ → List ℕ → Outcome → Type 0
@@ -50,7 +52,7 @@ IsFaultsLinted line faults outcome =
     ((why : StudySweepFault) × IsStudyRefused line faults why × (outcome ≡ Refused))
     ⊎ ((scripts : List Script) × (groups : List Group)
     × AreScriptsOf line faults scripts groups
-    × IsReadLinted line scripts outcome)
+    × IsReadLinted line scripts (sweep_warnings 0 faults) outcome)
 
 -- of the bytes of a study
 abbrev pub IsStudyLinted : List ℕ → Outcome → Type 0

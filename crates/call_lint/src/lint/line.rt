@@ -5,10 +5,9 @@ ghost use Rattle.call_lint.specs.lint.Outcomes.{IsLinted, IsScriptsLinted};
 
 use crate::lint::accepted::lint_accepted;
 use crate::lint::linted::{Linted, Outcome};
-use crate::lint::refused_line::refused_line;
-use crate::lint::refused_scripts::refused_scripts;
 use crate::lint::sheet::{Names, Sheet};
 use base_memory::{Memory, Stopped};
+use call_refused::{refused_line, refused_scripts};
 use file_line::read_line;
 use file_tables::script::read_scripts;
 use model_line::Line;
@@ -28,7 +27,7 @@ pub fn lint_line(
         Err(Stopped::Memory) => Err(Memory),
         Err(Stopped::Fault(fault)) => Ok(Linted {
             outcome: Outcome::Refused,
-            text: refused_line(alloc, line, names.line, &fault)?,
+            text: refused_line(alloc, names.line, line, &fault)?,
         }),
     }
 }
@@ -49,12 +48,12 @@ fn lint_scripts(
                 scripts,
                 names,
             };
-            lint_accepted(alloc, own, sheet, &read)
+            lint_accepted(alloc, own, sheet, &read, &[])
         }
         Err(Stopped::Memory) => Err(Memory),
         Err(Stopped::Fault(fault)) => Ok(Linted {
             outcome: Outcome::Refused,
-            text: refused_scripts(alloc, scripts, names.scripts, &fault)?,
+            text: refused_scripts(alloc, names.scripts, scripts, &fault)?,
         }),
     }
 }

@@ -6,9 +6,10 @@ ghost use Rattle.call_lint.specs.lint.Outcomes.{IsFaultsLinted, IsStudyLinted};
 
 use crate::lint::accepted::lint_accepted;
 use crate::lint::linted::{Linted, Outcome};
-use crate::lint::refused_study::{refused_study, refused_sweep};
 use crate::lint::sheet::Sheet;
+use crate::warnings::push_sweeps;
 use base_memory::{Memory, Stopped};
+use call_refused::{refused_study, refused_sweep};
 use file_study::study::{Study, read_study};
 use file_study::sweeps::{Group, scripts_of_study};
 use std::alloc::Global;
@@ -22,7 +23,7 @@ pub fn lint_study(alloc: Global, bytes: &[u8], name: &str) -> Result<Linted, Mem
         Err(Stopped::Memory) => Err(Memory),
         Err(Stopped::Fault(fault)) => Ok(Linted {
             outcome: Outcome::Refused,
-            text: refused_study(alloc, bytes, name, &fault)?,
+            text: refused_study(alloc, name, bytes, &fault)?,
         }),
     }
 }
@@ -39,13 +40,16 @@ fn lint_faults(alloc: Global, study: &Study, bytes: &[u8], name: &str) -> Result
                 name,
                 faults: &numbers,
                 hertz: study.units.hertz,
+                swept: &study.faults,
             };
-            lint_accepted(alloc, &study.line, sheet, &all.scripts)
+            let mut sweeps = Vec::new(alloc);
+            push_sweeps(&mut sweeps, &study.faults)?;
+            lint_accepted(alloc, &study.line, sheet, &all.scripts, &sweeps)
         }
         Err(Stopped::Memory) => Err(Memory),
         Err(Stopped::Fault(fault)) => Ok(Linted {
             outcome: Outcome::Refused,
-            text: refused_sweep(alloc, bytes, name, &fault)?,
+            text: refused_sweep(alloc, name, bytes, &fault)?,
         }),
     }
 }

@@ -7,8 +7,7 @@ pub fn warning_words(warning: Warning) -> &'static str {
     match warning {
         Warning::BelowTick(_) =>
             "less than one tick: are milliseconds written as microseconds? 2 ms are 2000",
-        Warning::Rounded(_) =>
-            "an end is no whole number of ticks, and was rounded outward: a smaller tick_us keeps it",
+        Warning::Rounded(_) => "what is no whole number of ticks is rounded outward, by ",
         Warning::PastHorizon(_) =>
             "it is not over within the horizon: are microseconds written as ticks (version = 2 has these), or is the horizon too short?",
         Warning::ReachesHorizon(_) =>
@@ -27,6 +26,7 @@ pub fn warning_words(warning: Warning) -> &'static str {
             "its deadline is before the first thing that it shows: deadlines count from tick 0, not from the fault",
         Warning::NoCurrent(_, _) =>
             "no current is shown at an end that has to trip: without cur a trip does not seal in",
+        Warning::Coarse(_, _) => "the sweep looks at ",
     }
 }
 
@@ -39,6 +39,9 @@ pub fn study_words(warning: Warning) -> &'static str {
             "it is not over within the horizon: is its unit meant, or is the horizon too short?",
         Warning::FixedDelay(_) =>
             "a delay of one time alone: channels have a tolerance, as 3 .. 5 ms",
+        Warning::DueFirst(_) => {
+            "it has to be tripped before the first thing that it shows: trip_within counts from the start of the fault"
+        }
         other => warning_words(other),
     }
 }

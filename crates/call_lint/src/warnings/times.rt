@@ -116,3 +116,52 @@ fn is_fixed_delay(line: &Line, i: u32) -> bool
 {
     line.is_delay(i) && line.least(i) == line.greatest(i)
 }
+
+/// How many microseconds an end of these times is moved at most where it is rounded outward to
+/// ticks; a part of one counts as one.
+pub fn most_moved(tick_us: u32, exact: &[Interval]) -> u128
+    requires tick { (0 < tick_us) × (tick_us < 1000001) }
+    requires ends { All AreEnds exact.now }
+{
+    let mut most = 0;
+    for i in 0..exact.len() {
+        most = moved_at(tick_us, exact, i).max(most);
+    }
+    most
+}
+
+fn moved_at(tick_us: u32, exact: &[Interval], i: usize) -> u128
+    requires tick { (0 < tick_us) × (tick_us < 1000001) }
+    requires ends { All AreEnds exact.now }
+{
+    match exact.get(i) {
+        Some(ends) => moved(tick_us, *ends),
+        None => 0,
+    }
+}
+
+fn moved(tick_us: u32, ends: Interval) -> u128
+    requires tick { (0 < tick_us) × (tick_us < 1000001) }
+    requires ends { AreEnds ends }
+{
+    let down = past_tick(tick_us, ends.least);
+    let up = past_tick(tick_us, ends.greatest);
+    if up == 0 {
+        down
+    } else {
+        down.max(u128::from(tick_us).saturating_sub(up))
+    }
+}
+
+// How many microseconds, in whole ones, a time is past a tick; a part of one counts as one.
+fn past_tick(tick_us: u32, time: Fraction) -> u128
+    requires tick { (0 < tick_us) × (tick_us < 1000001) }
+    requires end { IsEnd time }
+{
+    let past = time.over % (u128::from(tick_us) * time.under);
+    if past % time.under == 0 {
+        past / time.under
+    } else {
+        past / time.under + 1
+    }
+}

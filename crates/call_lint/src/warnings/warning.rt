@@ -2,6 +2,15 @@
 
 use model_line::Place;
 
+/// A time of a fault of a study: its start, by when it has to be tripped, or how long the stage of
+/// this number lasts.
+#[derive(Clone, Copy, Drop)]
+pub enum SweptTime {
+    Start,
+    TripWithin,
+    Lasts(usize),
+}
+
 /// What is suspicious, and of what: a parameter, a terminal or a script by its number, an element at
 /// a terminal, or a script and a terminal.
 #[derive(Clone, Copy, Drop)]
@@ -30,4 +39,6 @@ pub enum Warning {
     DueFirst(usize),
     /// The script is an internal fault, and shows no current at the terminal.
     NoCurrent(usize, u32),
+    /// A swept time of a fault of a study, by its number, has values between which a tick lies.
+    Coarse(usize, SweptTime),
 }
