@@ -2,18 +2,18 @@
 use Rattle.std.proofs.Common.{◌≡◌, ◌+◌, ◌<◌, ◌≤◌, ◌⊎◌, inl, inr, ℕ, zero, suc, List, None}
 use Rattle.std.proofs.Common.{Some}
 use Rattle.std.proofs.Common.{length, refl, sym, ◌∙◌, subst, arith}
-use Rattle.std.proofs.lemmas.Bool.{cases_eq, cases_lt, eqb-true}
+use Rattle.std.proofs.lemmas.Bool.{cases_eq, cases_lt}
 use Rattle.std.proofs.lemmas.Option.{slice_get_within}
-use Rattle.std.specs.Prelude.{Option, Bool, true, false, cond, is_some, slice_get, ◌==◌}
+use Rattle.std.specs.Prelude.{Option, Bool, true, false, is_some, slice_get}
 use Rattle.model_history.specs.Rails.{Ends}
 use Rattle.model_history.specs.BelowLaws.{first_of}
 use Rattle.model_history.specs.ListLaws.{exists_at}
-use Rattle.model_line.specs.Parameters.{declared_ends, delay_param, terminal_count}
+use Rattle.model_line.specs.Parameters.{declared_ends, terminal_count}
 use Rattle.model_line.specs.{declared.line.Line.Line, declared.script.Script.Script}
 use Rattle.model_logic.specs.Choice.{Box, LeastFromOne}
 use Rattle.model_logic.specs.Rule.{rule_of}
 use Rattle.model_logic.specs.IntervalLaws.{TheRuleOverABox}
-use Rattle.model_logic.specs.{Boxes.ends_with, HeldOver.IsHeldOver, Laws.LineLaws}
+use Rattle.model_logic.specs.{HeldOver.IsHeldOver, Laws.LineLaws}
 use Rattle.model_logic.specs.RuleLaws.{rule_told}
 use Rattle.judge_report.specs.declared.upper_end.Lost.{Lost}
 use Rattle.judge_report.specs.declared.upper_end.UpperEnd.{UpperEnd}
