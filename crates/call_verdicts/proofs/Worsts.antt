@@ -8,7 +8,7 @@ use Rattle.model_line.specs.declared.script.Kind.TheVariants.{Internal}
 use Rattle.std.proofs.lemmas.List.Folds.{list_all_at}
 use Rattle.std.proofs.lemmas.List.Sums.{list_all-from_AllPass, position_or_len_is}
 use Rattle.call_verdicts.specs.Worst.{is_worst, room, worst_place}
-use Rattle.call_verdicts.specs.declared.finding.Standing.TheVariants.{Held}
+use Rattle.call_verdicts.specs.declared.finding.Standing.TheVariants.{Open}
 use Rattle.call_verdicts.specs.declared.verdict.Verdict.{Verdict}
 
 -- of the first i verdicts that at b is the first of the worst
@@ -54,7 +54,7 @@ worst_keeps h vs i b more so_far = record {
 
 -- some verdict
 anything : Verdict
-anything = record { kind = Internal; deadline = 0; standing = Held; first_must = None }
+anything = record { kind = Internal; deadline = 0; standing = Open; first_must = None }
 
 -- that of all is the worst place
 pub worst_of_all : (h : ℕ) (vs : List Verdict) (i b : ℕ) → i ≡ length vs → IsWorstOf h vs i b

@@ -2,19 +2,18 @@
 use Rattle.std.specs.Prelude.{◌≡◌, ◌<◌, ◌+◌, ◌*◌, ℕ, List, Some, length, slice_get}
 use Rattle.model_line.specs.{declared.line.Line.Line, declared.script.Script.Script}
 use Rattle.model_line.specs.Parameters.{terminal_count}
-use Rattle.model_logic.specs.Obligations.{EveryChoiceMeets}
 use Rattle.model_settle.specs.Schemes.{IsOneRailedBy}
 use Rattle.model_timing.specs.Timing.{TimingValues}
 use Rattle.judge_verdict.specs.verdict.OneEach.{OneEach}
 use Rattle.judge_report.specs.Firsts.{IsFirstMust}
-use Rattle.judge_settle.specs.settle.Trees.{IsFailing}
+use Rattle.judge_settle.specs.settle.{Times.IsHeldFor, Trees.IsFailing}
 use Rattle.call_verdicts.specs.declared.finding.{Finding.Finding, Standing.Standing}
 use Rattle.call_verdicts.specs.declared.finding.Standing.TheVariants.{Held, Fails, Open}
 
--- held: every history of every choice inside meets the obligation; fails: the history of a timing
+-- held: every choice inside meets the obligation, of these times; fails: the history of a timing
 -- inside does not; a line whose scheme makes every trip one-railed leaves none open
 abbrev pub IsStanding : Line → Script → ℕ → Standing → Type 0
-IsStanding line script k Held = EveryChoiceMeets line script k
+IsStanding line script k (Held times) = IsHeldFor line script k times
 IsStanding line script k Fails = (timing : TimingValues) × IsFailing line script k timing
 IsStanding line script k Open = ¬ (IsOneRailedBy line.scheme line)
 

@@ -60,7 +60,7 @@ fn is_failing(one: &Finding) -> bool
 {
     match one.standing {
         Standing::Fails => true,
-        Standing::Held | Standing::Open => false,
+        Standing::Held(_) | Standing::Open => false,
     }
 }
 
@@ -69,6 +69,6 @@ fn is_open(one: &Finding) -> bool
 {
     match one.standing {
         Standing::Open => true,
-        Standing::Held | Standing::Fails => false,
+        Standing::Held(_) | Standing::Fails => false,
     }
 }

@@ -11,5 +11,5 @@ mod search;
 mod settling;
 mod sides;
 
-pub use answer::{Answer, By, Settled, by_word};
+pub use answer::{Answer, By, Settled, Times, by_word, times_of, times_word};
 pub use settling::settle;

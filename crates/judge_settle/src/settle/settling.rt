@@ -1,11 +1,10 @@
 //! The answer to an obligation.
 
-ghost use Rattle.std.specs.Prelude.{◌≡◌, ◌<◌, ◌≤◌, ℕ, [], IfOk, IfSome, IsTrue};
+ghost use Rattle.std.specs.Prelude.{◌≡◌, ◌<◌, ◌≤◌, ◌↔◌, ℕ, [], None, IfOk, IfSome, IsTrue};
 ghost use Rattle.model_line.specs.{declared.line.Line.Line, declared.script.Script.Script};
 ghost use Rattle.model_line.specs.{Fits.Fits, Parameters.terminal_count};
 ghost use Rattle.model_logic.specs.Choice.{declared_box};
 ghost use Rattle.model_logic.specs.HeldOver.{IsHeldOver};
-ghost use Rattle.model_logic.specs.Obligations.{EveryChoiceMeets};
 ghost use Rattle.model_settle.specs.Schemes.{IsOneRailedBy};
 ghost use Rattle.judge_cases.specs.{declared.view.View.View, Views.Views};
 ghost use Rattle.judge_settle.specs.corner.Decided.{OneTimingDecides};
@@ -24,6 +23,7 @@ use crate::settle::sides::Branch;
 use judge_ahead::Scene;
 use judge_cases::declared_view;
 use judge_verdict::verdict::{Verdict, certify};
+use model_fine::fine_laws::{what_is_held_is_met_between_ticks, whole_ticks_are_the_case_of_one};
 use model_line::laws::deadlines_are_below_the_horizon;
 use model_line::{Line, Memory, Script};
 use model_logic::laws::{each_line_has_a_choice_inside, line_laws};
@@ -56,8 +56,10 @@ pub fn settle(
         Some(decided) => return by_corner(alloc, compiled.line, script, terminal, decided),
         None => {}
     }
-    if let Some(settled) = by_certificate(alloc, compiled, script, terminal)? {
-        return Ok(settled);
+    let at_once = by_certificate(alloc, compiled, script, terminal)?;
+    match at_once {
+        Some(settled) => return Ok(settled),
+        None => {}
     }
     let scene = Scene::new(alloc, compiled.line, compiled.net, script, terminal)?;
     let mut budget = Budget::new(analyses);
@@ -118,10 +120,12 @@ fn by_corner(
 // The answer where the interval rules alone show the obligation: a tree of one leaf.
 fn held_at_once(alloc: Global) -> Result<Settled, Memory>
     ensures { IfOk result (λ settled. (line : Line) (script : Script) (k : ℕ) →
-        IsHeldOver line script k (declared_box line) → EveryChoiceMeets line script k →
-        IsAnswer line script k settled.answer) }
+        script.deadline < line.horizon → k < terminal_count line →
+        IsHeldOver line script k (declared_box line) → IsAnswer line script k settled.answer) }
 {
     each_box_has_one_history_under();
+    what_is_held_is_met_between_ticks();
+    whole_ticks_are_the_case_of_one();
     let tree = leaf(alloc, true)?;
     Ok(Settled {
         answer: Answer::Held(tree.nodes),
@@ -131,7 +135,7 @@ fn held_at_once(alloc: Global) -> Result<Settled, Memory>
 }
 
 // The answer of the interval rules over the declared box, or of the first of the line's candidates
-// that fails the obligation, if one of them settles it.
+// that fails the obligation, if one of them settles it; else the rules do not hold it.
 fn by_certificate(
     alloc: Global,
     compiled: &Compiled<'_>,
@@ -140,9 +144,12 @@ fn by_certificate(
 ) -> Result<Option<Settled>, Memory>
     requires fits { Fits compiled.now.line.now script.now }
     requires terminal { terminal < terminal_count compiled.now.line.now }
-    ensures { IfOk result (λ found. IfSome found (λ settled.
+    ensures answer { IfOk result (λ found. IfSome found (λ settled.
         IsAnswer compiled.now.line.now script.now terminal settled.answer)) }
+    ensures not_held { IfOk result (λ found. found ≡ None → ¬ (IsHeldOver compiled.now.line.now
+        script.now terminal (declared_box compiled.now.line.now))) }
 {
+    line_laws();
     let said = certify(alloc, compiled, script)?;
     let mut verdicts = said.verdicts;
     if is_yes(&verdicts[terminal as usize]) {
@@ -163,7 +170,7 @@ fn by_certificate(
 }
 
 fn is_yes(verdict: &Verdict) -> bool
-    ensures { IsTrue result → verdict.now ≡ Verdict.Yes }
+    ensures { IsTrue result ↔ (verdict.now ≡ Verdict.Yes) }
 {
     matches!(verdict, Verdict::Yes)
 }
@@ -172,11 +179,13 @@ fn is_yes(verdict: &Verdict) -> bool
 fn answer_of(found: Found) -> Answer
     ensures { (line : Line) (script : Script) (k : ℕ) (size : Size) (view : View) →
         script.deadline < line.horizon → k < terminal_count line →
-        ¬ (IsOneRailedBy line.scheme line) → Views line (declared_box line) [] view →
+        ¬ (IsOneRailedBy line.scheme line) →
+        ¬ (IsHeldOver line script k (declared_box line)) → Views line (declared_box line) [] view →
         size.depth ≤ size_of_text.depth → size.cuts ≤ size_of_text.cuts →
         IsFound line script k size view found → IsAnswer line script k result }
 {
     sound_trees_meet();
+    each_box_has_one_history_under();
     each_line_has_a_choice_inside();
     match found {
         Found::Fails(timing) => Answer::Fails(timing),

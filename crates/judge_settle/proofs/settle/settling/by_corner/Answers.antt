@@ -17,7 +17,6 @@ returns c =
     slice_get_read held (terminal_count line) k c.index.result.now
     (sym c.requires.decides.count) c.requires.terminal c.index.ensures in
     let meets = c.requires.decides.meets k (at ∙ ap Some c.if-not-index.false) in
-    c.in_ok-settled.ensures line script k
+    c.in_ok-settled.ensures line script k early c.requires.terminal
     (met_is_held c.line_laws.ensures c.the_worst_choice_decides.ensures line script k early
     c.requires.terminal c.requires.one_railed meets)
-    meets
