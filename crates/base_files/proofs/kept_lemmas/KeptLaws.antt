@@ -1,9 +1,9 @@
 -- What a reader gave and has left, as it is read on, and pieces that are copied of it.
-use Rattle.std.proofs.Common.{◌≡◌, ℕ, ◌+◌, ◌-◌, ◌<◌, ◌≤◌, min, List, [], ◌++◌, length, take, drop, refl, sym}
+use Rattle.std.proofs.Common.{◌≡◌, ℕ, ◌+◌, ◌-◌, ◌<◌, ◌≤◌, min, List, ◌++◌, length, take, drop, sym}
 use Rattle.std.proofs.Common.{◌∙◌, ap, arith, IfSome, Option, None, Some, inl, inr, append_assoc, length-append, length-drop, length-take}
 use Rattle.std.proofs.Math.Seq.{take-append-add, take-append_seam}
 use Rattle.std.proofs.lemmas.List.{append-nil, take_at, drop-append-le, drop-drop, take-append-drop, take-append-le, take-take, take_all}
-use Rattle.std.specs.Io.KnownBytes.{Consumes, IsAtEnd, Keeps, prepend_known}
+use Rattle.std.specs.Io.KnownBytes.{Consumes, Keeps, prepend_known}
 use Rattle.base_files.specs.Kept.{HasReached}
 use Rattle.base_text.specs.store.Store.{IsPiece}
 
@@ -73,13 +73,12 @@ piece_of_whole kept piece from count (Some left) (Some whole) keeps reached with
 -- what stands in front, once more is read behind it into room that is let go of then
 pub read_in : (kept count size : ℕ) (items more rest : List ℕ) → length (take kept items) ≡ kept
     → kept + count ≤ size → count ≤ length more
-    → take (kept + count) (take size (take kept items ++ more) ++ rest) ≡ take kept items ++ take count more
+    → take (kept + count) (take size ((take kept items ++ more) ++ rest)) ≡ take kept items ++ take count more
 read_in kept count size items more rest front fits within =
     let both = length-append (take kept items) more in
-    let cut = length-take size (take kept items ++ more) in
     let on : kept + count ≡ length (take kept items) + count = omega arith in
-    take-append-le (kept + count) (take size (take kept items ++ more)) rest (omega arith)
-    ∙ take-take (kept + count) size (take kept items ++ more) fits
+    take-take (kept + count) size ((take kept items ++ more) ++ rest) fits
+    ∙ take-append-le (kept + count) (take kept items ++ more) rest (omega arith)
     ∙ ap (λ n. take n (take kept items ++ more)) on
     ∙ take-append-add (take kept items) more count
 
@@ -93,7 +92,7 @@ front_kept old items room kept size is fits grown =
 -- the same, of what a read gave into the room and what stands behind that
 pub items_read : (old room given post rest items : List ℕ) (kept count size : ℕ)
     → take kept room ≡ old → kept ≡ length old → kept + count ≤ size → count ≤ length given
-    → items ≡ take (kept + count) (take size (take kept room ++ (given ++ post)) ++ rest)
+    → items ≡ take (kept + count) (take size ((take kept room ++ (given ++ post)) ++ rest))
     → items ≡ old ++ take count given
 items_read old room given post rest items kept count size front is fits within are =
     let more = length-append given post in
