@@ -15,12 +15,12 @@ pub fn tell(rt: &HostRuntime, pieces: &[&[u8]]) {
 }
 
 /// Tells which word is wrong, and what it has to be.
-pub fn tell_word(rt: &HostRuntime, fault: &WordFault<'_>) {
-    let word = fault.word.as_bytes();
-    let wanted = fault.wanted.as_bytes();
+pub fn tell_word<'a>(rt: &HostRuntime, fault: &WordFault<'a>) {
+    let word: &'a [u8] = fault.word.as_bytes();
+    let wanted: &'a [u8] = fault.wanted.as_bytes();
     match fault.option {
         Some(option) => {
-            let option = option.as_bytes();
+            let option: &'a [u8] = option.as_bytes();
             tell(rt, &[b"study: ", option, b" ", word, b": ", wanted, b"\n"]);
         }
         None => tell(rt, &[b"study: ", word, b": ", wanted, b"\n"]),
@@ -28,16 +28,14 @@ pub fn tell_word(rt: &HostRuntime, fault: &WordFault<'_>) {
 }
 
 /// Tells that something cannot be written, and why.
-pub fn tell_unwritten(rt: &HostRuntime, name: &str, why: Reason) {
-    let words = why.words().as_bytes();
-    tell(
-        rt,
-        &[name.as_bytes(), b": cannot be written: ", words, b"\n"],
-    );
+pub fn tell_unwritten<'a>(rt: &HostRuntime, name: &'a str, why: Reason) {
+    let name: &'a [u8] = name.as_bytes();
+    let words: &'a [u8] = why.words().as_bytes();
+    tell(rt, &[name, b": cannot be written: ", words, b"\n"]);
 }
 
 /// Tells that a file to write is one that the call reads, and as what.
-pub fn tell_input(rt: &HostRuntime, name: &str, what: &str) {
+pub fn tell_input<'a>(rt: &HostRuntime, name: &'a str, what: &'a str) {
     tell(
         rt,
         &[
