@@ -26,7 +26,7 @@ pub fn to_file(rt: &HostRuntime, call: &Call<'_>, name: &str) -> u8 {
     let mut store = KeptStore::new(rt, rt.alloc());
     let mut out = NewFile::new(rt, rt.alloc(), name);
     let mut status = made(rt, call, &mut store, &mut out);
-    if was_read(rt, &store, name) {
+    if status <= DONE && was_read(rt, &store, name) {
         status = USAGE;
     }
     if out.close(status <= DONE).is_err() {
