@@ -1,9 +1,15 @@
 //! The words of the program `study`: a table of commands, of which its command line is made, and what
-//! the words of a call ask for.
+//! the words of a call ask for, or which of them is wrong.
 #![tactic(auto)]
 
+mod build;
+mod fault;
+mod inputs;
 mod table;
 mod words;
 
+pub use build::BUILD;
+pub use fault::WordFault;
+pub use inputs::{Input, inputs_of};
 pub use table::command;
 pub use words::{Call, Event, Words, words_of};

@@ -7,12 +7,6 @@ use std::alloc::{AllocError, Global};
 // The version of the program.
 const VERSION: &str = "0.27.0";
 
-/// The program and its version, and what proved it, by the sum of its logic, which `rt version`
-/// says too: what a page says.
-pub const PROGRAM: &[u8] = b"study 0.27.0";
-
-pub const KIT: &[u8] = b"Rattle, logic dac8208d650f15bf";
-
 // A command: its word, what it is for, its files, its options beside `-o`, and whether it writes three
 // files.
 #[derive(Clone, Copy)]
@@ -39,7 +33,16 @@ struct Opt {
     name: &'static str,
     value: Option<&'static str>,
     required: bool,
+    beside: Beside,
     help: &'static str,
+}
+
+// What an option wants of the others: nothing, that one is there, or that one is not.
+#[derive(Clone, Copy)]
+enum Beside {
+    Any,
+    With(&'static str),
+    Without(&'static str),
 }
 
 // A study file, or a line file and a file of fault scripts.
@@ -92,6 +95,7 @@ const FAULTS: Opt = Opt {
     name: "faults",
     value: None,
     required: false,
+    beside: Beside::Any,
     help: "One record for each fault and terminal: how many scripts are held, and where not",
 };
 
@@ -99,6 +103,7 @@ const PART: Opt = Opt {
     name: "part",
     value: Some("N"),
     required: false,
+    beside: Beside::Any,
     help: "The part of this number, where there are more than 64; 1 without it",
 };
 
@@ -106,6 +111,7 @@ const ANALYSES: Opt = Opt {
     name: "analyses",
     value: Some("N"),
     required: false,
+    beside: Beside::Any,
     help: "An obligation is left open once so many analyses are made; 4000 without it",
 };
 
@@ -113,6 +119,7 @@ const ALL_ROWS: Opt = Opt {
     name: "all",
     value: None,
     required: false,
+    beside: Beside::Any,
     help: "Rows that do not change too",
 };
 
@@ -120,6 +127,7 @@ const SCRIPT: Opt = Opt {
     name: "script",
     value: Some("NAME"),
     required: false,
+    beside: Beside::Any,
     help: "The name of the script; the first without it",
 };
 
@@ -127,6 +135,7 @@ const TIMING: Opt = Opt {
     name: "timing",
     value: Some("NAME"),
     required: false,
+    beside: Beside::Any,
     help: "The name of the timing; the first without it",
 };
 
@@ -136,19 +145,35 @@ const SETTLE: &[Opt] = &[
         name: "trees",
         value: None,
         required: false,
+        beside: Beside::Without("timings"),
         help: "In place of the table the trees and timings that settle it, for `recheck`",
     },
     Opt {
         name: "timings",
         value: None,
         required: false,
-        help: "In place of the table the timings that fail a script, for `pilot play`",
+        beside: Beside::Any,
+        help: "In place of the table the timings that fail obligations, for `pilot play`",
     },
     Opt {
         name: "script",
         value: Some("NAME"),
         required: false,
-        help: "With --timings, the name of the script; the first without it",
+        beside: Beside::With("timings"),
+        help: "With --timings: the timings of the script of this name",
+    },
+];
+
+// What `comtrade export` takes.
+const EXPORT: &[Opt] = &[
+    TIMING,
+    SCRIPT,
+    Opt {
+        name: "force",
+        value: None,
+        required: false,
+        beside: Beside::Any,
+        help: "Write over files of these names that it did not make",
     },
 ];
 
@@ -156,6 +181,7 @@ const CELLS: Opt = Opt {
     name: "csv",
     value: None,
     required: false,
+    beside: Beside::Any,
     help: "The cells as records (CSV) in place of a drawing",
 };
 
@@ -164,24 +190,28 @@ const EXPLAIN: &[Opt] = &[
         name: "within",
         value: Some("T"),
         required: true,
+        beside: Beside::Any,
         help: "How many ticks apart a recorded change and that of the play may be",
     },
     Opt {
         name: "script",
         value: Some("NAME"),
         required: false,
+        beside: Beside::Any,
         help: "The script of the record; without it the file has to have one record alone",
     },
     Opt {
         name: "timings",
         value: None,
         required: false,
+        beside: Beside::Any,
         help: "In place of the table the timing, for `pilot play` and `study run`",
     },
     Opt {
         name: "analyses",
         value: Some("N"),
         required: false,
+        beside: Beside::Any,
         help: "It ends once so many analyses are made; 20000 without it",
     },
 ];
@@ -287,7 +317,7 @@ const RECORDS: &[Word] = &[
         name: "export",
         about: "A play as a record: NAME.cfg, NAME.dat, and NAME.toml, the map that reads them back",
         files: TIMINGS,
-        options: &[TIMING, SCRIPT],
+        options: EXPORT,
         in_three: true,
     },
 ];
@@ -371,7 +401,7 @@ fn written<'a>(alloc: Global, word: Word) -> Result<Command<'a>, AllocError> {
     let command = Command::new(alloc, word.name).about(word.about);
     let mut command = command.arg(files_of(alloc, word.files))?;
     for opt in word.options {
-        command = command.arg(option_of(alloc, *opt))?;
+        command = command.arg(option_of(alloc, *opt)?)?;
     }
     command.arg(output_of(alloc, word.in_three))
 }
@@ -384,24 +414,32 @@ fn files_of<'a>(alloc: Global, files: Files) -> Arg<'a> {
         .help(files.help)
 }
 
-fn option_of<'a>(alloc: Global, opt: Opt) -> Arg<'a> {
+fn option_of<'a>(alloc: Global, opt: Opt) -> Result<Arg<'a>, AllocError> {
     let arg = Arg::new(alloc, opt.name).long(opt.name).help(opt.help);
-    match opt.value {
+    let arg = match opt.value {
         Some(value) => arg.required(opt.required).value_name(value),
         None => arg.action(ArgAction::SetTrue),
+    };
+    match opt.beside {
+        Beside::Any => Ok(arg),
+        Beside::With(other) => arg.requires_arg(other),
+        Beside::Without(other) => arg.conflicts_with(other),
     }
 }
 
 // Where the text of a command goes: to standard output or to a file; or to three files.
 fn output_of<'a>(alloc: Global, in_three: bool) -> Arg<'a> {
-    let output = Arg::new(alloc, "output").short('o').required(in_three);
+    let output = Arg::new(alloc, "output")
+        .short('o')
+        .long("output")
+        .required(in_three);
     if in_three {
         output
             .value_name("NAME")
             .help("What the names of the three files begin with")
     } else {
-        output
-            .value_name("FILE")
-            .help("The file to write; standard output without it")
+        output.value_name("FILE").help(
+            "The file to write; standard output without it, or where it is -",
+        )
     }
 }

@@ -1,6 +1,9 @@
 //! What the words ask for.
 
-use crate::table::{KIT, PROGRAM};
+ghost use Rattle.std.specs.Prelude.{◌≤◌, length};
+
+use crate::build::{KIT, PROGRAM};
+use crate::fault::WordFault;
 use base_text::store::number;
 use call_ask::{
     Ask, ExplainForm, Form, MapAsk, MapForm, RecordsAsk, RecordsWork, Source, Table, Work,
@@ -26,12 +29,15 @@ pub enum Call<'a> {
     Event(Event<'a>),
 }
 
-/// The three files of a play as a record, each asked for by itself.
+/// The three files of a play as a record, each asked for by itself, what their names begin with, and
+/// whether they may be written over files that it did not make.
 #[derive(Clone, Copy)]
 pub struct Event<'a> {
     pub config: Ask<'a>,
     pub samples: Ask<'a>,
     pub map: Ask<'a>,
+    pub output: &'a str,
+    pub is_forced: bool,
 }
 
 // How many analyses an obligation takes at most, where the words don't say it.
@@ -40,33 +46,74 @@ const ANALYSES: u32 = 4000;
 // The same for a record that is to be explained.
 const TRIES: u32 = 20_000;
 
-/// What the words say.
-pub fn words_of<'a>(matches: &ArgMatches<'a>) -> Option<Words<'a>> {
-    let (name, own) = matches.subcommand()?;
+// What numbers of options have to be.
+const COUNT: &str = "a whole number from 1 to 4294967295";
+
+const TICKS: &str = "a whole number of ticks, from 0 to 4294967295";
+
+// What is wrong with files, axes and the name of a record.
+const NO_STUDY: &str = "a study, or a line and scripts, have to stand before it";
+
+const SURPLUS_FILE: &str = "one file too many before the axes: a study, or a line and scripts";
+
+const NO_AXIS: &str = "an axis has to stand behind it, as P=FROM..TO:STEP";
+
+const SURPLUS_AXIS: &str = "one axis too many: a map has one or two";
+
+const NAME: &str = "what the names of three files begin with, without quotes and backslashes";
+
+/// What the words say, or which of them is wrong.
+pub fn words_of<'a>(matches: &ArgMatches<'a>) -> Result<Words<'a>, WordFault<'a>> {
+    let Some((name, own)) = matches.subcommand() else {
+        return Err(nothing("study"));
+    };
     // Only `comtrade` has commands below it.
     let (call, own) = match own.subcommand() {
-        Some((name, own)) => (comtrade_of(name, own), own),
-        None => (study_of(name, own), own),
+        Some((name, own)) => (comtrade_of(name, own)?, own),
+        None => (study_of(name, own)?, own),
     };
-    Some(Words {
-        call: call?,
-        output: own.get_str("output"),
+    Ok(Words {
+        call,
+        output: file_of(own.get_str("output")),
     })
 }
 
+// Words that the command line lets through, and that ask for nothing.
+fn nothing(command: &str) -> WordFault<'_> {
+    WordFault::of(command, "it asks for nothing: see study --help")
+}
+
+// The file that the text goes to, if not standard output.
+fn file_of(output: Option<&str>) -> Option<&str> {
+    match output {
+        Some("-") | None => None,
+        file => file,
+    }
+}
+
+// The files of a command.
+fn files_of<'s, 'a>(
+    own: &'s ArgMatches<'a>,
+    name: &'a str,
+) -> Result<&'s [&'a str], WordFault<'a>> {
+    match own.get_strs("files") {
+        Some(files) => Ok(files),
+        None => Err(nothing(name)),
+    }
+}
 // Records of relays, in and out: what they recorded, of a line and a map, or a play as a record.
-fn comtrade_of<'a>(name: &str, own: &ArgMatches<'a>) -> Option<Call<'a>> {
-    let files = own.get_strs("files")?;
+fn comtrade_of<'a>(name: &'a str, own: &ArgMatches<'a>) -> Result<Call<'a>, WordFault<'a>> {
+    let files = files_of(own, name)?;
     let work = match name {
         "scripts" => RecordsWork::Scripts,
         "record" => RecordsWork::Record,
         "show" => RecordsWork::Show,
-        _ => return event_of(own, files),
+        _ => return event_of(name, own, files),
     };
     let [line, map, ..] = files else {
-        return None;
+        return Err(nothing(name));
     };
-    Some(Call::Records(RecordsAsk {
+    Ok(Call::Records(RecordsAsk {
         line: *line,
         map: *map,
         work,
@@ -75,24 +122,31 @@ fn comtrade_of<'a>(name: &str, own: &ArgMatches<'a>) -> Option<Call<'a>> {
 
 // A play as a record of files whose names begin as the output is called: what stands there behind the
 // last slash.
-fn event_of<'a>(own: &ArgMatches<'a>, files: &[&'a str]) -> Option<Call<'a>> {
-    let output = own.get_str("output")?;
+fn event_of<'a>(
+    command: &'a str,
+    own: &ArgMatches<'a>,
+    files: &[&'a str],
+) -> Result<Call<'a>, WordFault<'a>> {
+    let (Some(output), Some(last)) = (own.get_str("output"), files.last()) else {
+        return Err(nothing(command));
+    };
     let (_, name) = output.rsplit_once("/").unwrap_or(("", output));
-    if !is_quotable(name) {
-        return None;
+    if !is_quotable(name) || name == "-" {
+        return Err(WordFault::behind("--output", output, NAME));
     }
-    let last = *files.last()?;
-    let ask = ask_of(played(own, last, Form::Config), own, files)?;
-    Some(Call::Event(Event {
+    let ask = ask_of(played(own, *last, Form::Config), own, files)?;
+    Ok(Call::Event(Event {
         config: ask,
         samples: Ask {
-            work: played(own, last, Form::Data),
+            work: played(own, *last, Form::Data),
             ..ask
         },
         map: Ask {
-            work: played(own, last, Form::Map { name }),
+            work: played(own, *last, Form::Map { name }),
             ..ask
         },
+        output,
+        is_forced: own.get_flag("force"),
     }))
 }
 
@@ -108,44 +162,54 @@ fn is_quotable(name: &str) -> bool {
 }
 
 // Work over a line and its scripts.
-fn study_of<'a>(name: &str, own: &ArgMatches<'a>) -> Option<Call<'a>> {
-    let files = own.get_strs("files")?;
+fn study_of<'a>(name: &'a str, own: &ArgMatches<'a>) -> Result<Call<'a>, WordFault<'a>> {
+    let files = files_of(own, name)?;
     let work = work_of(name, own, files)?;
-    Some(Call::Study(ask_of(work, own, files)?))
+    Ok(Call::Study(ask_of(work, own, files)?))
 }
 
 // Which work. The last file is the further one, where there is one.
-fn work_of<'a>(name: &str, own: &ArgMatches<'a>, files: &[&'a str]) -> Option<Work<'a>> {
-    let last = *files.last()?;
+fn work_of<'a>(
+    name: &'a str,
+    own: &ArgMatches<'a>,
+    files: &[&'a str],
+) -> Result<Work<'a>, WordFault<'a>> {
+    let Some(last) = files.last() else {
+        return Err(nothing(name));
+    };
     let most = match name {
         "explain" => TRIES,
         _ => ANALYSES,
     };
-    let analyses = count_of(own, "analyses", most)?;
-    match name {
-        "lines" => Some(Work::Table(Table::Line)),
-        "scripts" => Some(Work::Table(Table::Part(count_of(own, "part", 1)?))),
-        "settle" => Some(settled(own, analyses)),
-        "lint" => Some(Work::Lint),
-        "verdicts" => Some(Work::Table(verdicts_of(own, analyses))),
-        "explain" => explained(own, last, analyses),
-        "map" => map_of(own, files),
-        "page" => Some(Work::Page {
+    let analyses = count_of(own, "analyses", "--analyses", most)?;
+    Ok(match name {
+        "lines" => Work::Table(Table::Line),
+        "scripts" => Work::Table(Table::Part(count_of(own, "part", "--part", 1)?)),
+        "settle" => settled(own, analyses),
+        "lint" => Work::Lint,
+        "verdicts" => Work::Table(verdicts_of(own, analyses)),
+        "explain" => explained(own, *last, analyses)?,
+        "map" => map_of(own, *last, files)?,
+        "page" => Work::Page {
             analyses,
             program: PROGRAM,
             kit: KIT,
-        }),
-        "recheck" => Some(Work::Recheck { trees: last }),
-        "margins" => Some(Work::Table(Table::Margins)),
-        "run" => Some(played(own, last, Form::Diagram { rows: rows_of(own) })),
-        "vcd" => Some(played(own, last, Form::Dump)),
-        _ => Some(Work::Bands { rows: rows_of(own) }),
-    }
+        },
+        "recheck" => Work::Recheck { trees: *last },
+        "margins" => Work::Table(Table::Margins),
+        "run" => played(own, *last, Form::Diagram { rows: rows_of(own) }),
+        "vcd" => played(own, *last, Form::Dump),
+        _ => Work::Bands { rows: rows_of(own) },
+    })
 }
 
 // The work over these files. A table is over all scripts.
-fn ask_of<'a>(work: Work<'a>, own: &ArgMatches<'a>, files: &[&'a str]) -> Option<Ask<'a>> {
-    Some(Ask {
+fn ask_of<'a>(
+    work: Work<'a>,
+    own: &ArgMatches<'a>,
+    files: &[&'a str],
+) -> Result<Ask<'a>, WordFault<'a>> {
+    Ok(Ask {
         source: source_of(work, files)?,
         script: if let Work::Table(_) = work {
             None
@@ -157,10 +221,10 @@ fn ask_of<'a>(work: Work<'a>, own: &ArgMatches<'a>, files: &[&'a str]) -> Option
 }
 
 // Where the line and its scripts stand: all files but the further one, or those before the axes.
-fn source_of<'a>(work: Work<'_>, files: &[&'a str]) -> Option<Source<'a>> {
+fn source_of<'a>(work: Work<'_>, files: &[&'a str]) -> Result<Source<'a>, WordFault<'a>> {
     let own = match work {
         Work::Play { .. } | Work::Recheck { .. } | Work::Explain { .. } => {
-            files.len().checked_sub(1)?
+            files.len().saturating_sub(1)
         }
         Work::Map(_) => before_axes(files),
         Work::Bands { .. }
@@ -169,18 +233,29 @@ fn source_of<'a>(work: Work<'_>, files: &[&'a str]) -> Option<Source<'a>> {
         | Work::Lint
         | Work::Page { .. } => files.len(),
     };
-    match files.get(..own)? {
-        [study] => Some(Source::Study(*study)),
-        [line, scripts] => Some(Source::Files {
+    match &files[..own] {
+        [study] => Ok(Source::Study(*study)),
+        [line, scripts] => Ok(Source::Files {
             line: *line,
             scripts: *scripts,
         }),
-        _ => None,
+        [] => Err(WordFault::of(word_at(files, 0), NO_STUDY)),
+        [_, _, more, ..] => Err(WordFault::of(*more, SURPLUS_FILE)),
+    }
+}
+
+// The word at this place; an empty one where there is none.
+fn word_at<'a>(files: &[&'a str], place: usize) -> &'a str {
+    match files.get(place) {
+        Some(word) => *word,
+        None => "",
     }
 }
 
 // How many files stand before the first axis: a word that has an equals sign is one, and no file.
-fn before_axes(files: &[&str]) -> usize {
+fn before_axes(files: &[&str]) -> usize
+    ensures { result ≤ length files.now }
+{
     for (place, word) in files.iter().enumerate() {
         if word.as_bytes().contains(&b'=') {
             return place;
@@ -208,13 +283,18 @@ fn verdicts_of(own: &ArgMatches<'_>, analyses: u32) -> Table {
 }
 
 // A map over the words from the first axis on: one or two.
-fn map_of<'a>(own: &ArgMatches<'a>, files: &[&'a str]) -> Option<Work<'a>> {
-    let (x, y) = match files.get(before_axes(files)..)? {
+fn map_of<'a>(
+    own: &ArgMatches<'a>,
+    last: &'a str,
+    files: &[&'a str],
+) -> Result<Work<'a>, WordFault<'a>> {
+    let (x, y) = match &files[before_axes(files)..] {
         [x] => (*x, None),
         [x, y] => (*x, Some(y.as_bytes())),
-        _ => return None,
+        [] => return Err(WordFault::of(last, NO_AXIS)),
+        [_, _, more, ..] => return Err(WordFault::of(*more, SURPLUS_AXIS)),
     };
-    Some(Work::Map(MapAsk {
+    Ok(Work::Map(MapAsk {
         x: x.as_bytes(),
         y,
         form: if own.get_flag("csv") {
@@ -236,19 +316,35 @@ fn settled<'a>(own: &ArgMatches<'a>, analyses: u32) -> Work<'a> {
     }
 }
 
-// The number of a word; the other one where there is no such word.
-fn count_of(own: &ArgMatches<'_>, word: &str, other: u32) -> Option<u32> {
-    match own.get_str(word) {
-        Some(digits) => number(digits.as_bytes()),
-        None => Some(other),
+// The number, from 1 on, behind an option; the other one where there is no such option.
+fn count_of<'a>(
+    own: &ArgMatches<'a>,
+    id: &str,
+    option: &'static str,
+    other: u32,
+) -> Result<u32, WordFault<'a>> {
+    let Some(word) = own.get_str(id) else {
+        return Ok(other);
+    };
+    match number(word.as_bytes()) {
+        Some(count) if count > 0 => Ok(count),
+        _ => Err(WordFault::behind(option, word, COUNT)),
     }
 }
 
 // What explains a record.
-fn explained<'a>(own: &ArgMatches<'a>, record: &'a str, analyses: u32) -> Option<Work<'a>> {
-    Some(Work::Explain {
+fn explained<'a>(
+    own: &ArgMatches<'a>,
+    record: &'a str,
+    analyses: u32,
+) -> Result<Work<'a>, WordFault<'a>> {
+    let word = own.get_str("within").unwrap_or("");
+    let Some(within) = number(word.as_bytes()) else {
+        return Err(WordFault::behind("--within", word, TICKS));
+    };
+    Ok(Work::Explain {
         record,
-        within: number(own.get_str("within")?.as_bytes())?,
+        within,
         analyses,
         form: if own.get_flag("timings") {
             ExplainForm::Timings
