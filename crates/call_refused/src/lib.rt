@@ -1,0 +1,14 @@
+//! Why and where a file is refused, in one line: `FILE:LINE:COLUMN: what is wrong; write ..`.
+//!
+//! - `places`: the line and the column of a byte; where a key of a TOML document and a record stand.
+//! - `words`: the rules that a file breaks, and the mistakes that its bytes show.
+//! - `told`: the line, for the fault of each reader.
+#![tactic(auto)]
+
+pub mod places;
+pub mod told;
+pub mod words;
+
+pub use told::{
+    refused_line, refused_scripts, refused_study, refused_text, refused_timings, too_long,
+};
