@@ -1,2 +1,3 @@
 pub mod Loading
-pub mod Unplaced
+pub mod NearestLaws
+pub mod FetchLaws

@@ -1,30 +1,21 @@
-use Rattle.std.proofs.Common.{Ok, Err, inl}
-use Rattle.call_answer.specs.{SinkLaws.grew_none, SinkLaws.put_or_part, Sinks.sink_view}
-use Rattle.call_work.specs.{load.Halts.halt_line, load.Request.request_of}
-use Rattle.call_study.proofs.Closing.{closed, unwritten}
+use Rattle.std.proofs.Common.{Ok, Err, refl}
+use Rattle.call_answer.specs.Sinks.{sink_view}
+use Rattle.call_work.specs.load.Fetched.{bytes_at, unread_halt}
+use Rattle.call_work.specs.load.Request.{files_of, request_of}
+use Rattle.call_study.specs.{Answers.answer_over, Clauses.TellsBytes}
+use Rattle.call_study.proofs.Closing.{closed, seen, unwritten}
+use Rattle.call_study.proofs.Fetching.{ends_answered, ends_unread}
+use Rattle.call_study.proofs.Telling.{ends_told, has_told, tells_unread, tells_wider}
 use Rattle.call_study.proofs.top.study.Goals as goal
 
 pub returns-in-Ok-clause-clauses : goal.returns-in-Ok-clause-clauses
-returns-in-Ok-clause-clauses g c =
-    let err = sink_view g.E.Sink.written g.E.Sink.faults c.args.err.now in
-    closed (sink_view g.O.Sink.written g.O.Sink.faults) c.args.out.now c.answer.new.out
-    (g.S.Store.held c.args.store.now) (g.S.Store.faults c.args.store.now)
-    (g.S.Store.faults c.answer.new.store) (request_of c.args.ask.now) err err (Ok c.in-Ok.done)
-    c.in-Ok.ensures (inl (grew_none err))
+returns-in-Ok-clause-clauses g c = ?
+
+pub returns-in-Ok-clause-unwritten : goal.returns-in-Ok-clause-unwritten
+returns-in-Ok-clause-unwritten g c = ?
 
 pub returns-in-Err-clause-clauses : goal.returns-in-Err-clause-clauses
-returns-in-Err-clause-clauses g c =
-    let old = sink_view g.E.Sink.written g.E.Sink.faults c.args.err.now in
-    let new = sink_view g.E.Sink.written g.E.Sink.faults c.put_halt.new.sink in
-    closed (sink_view g.O.Sink.written g.O.Sink.faults) c.args.out.now c.answer.new.out
-    (g.S.Store.held c.args.store.now) (g.S.Store.faults c.args.store.now)
-    (g.S.Store.faults c.answer.new.store) (request_of c.args.ask.now) old new
-    (Err c.in-Err.halt) c.in-Err.ensures
-    (put_or_part old new (halt_line c.in-Err.halt) c.put_halt.result c.put_halt.ensures)
+returns-in-Err-clause-clauses g c = ?
 
 pub returns-in-Err-clause-unwritten : goal.returns-in-Err-clause-unwritten
-returns-in-Err-clause-unwritten g c =
-    unwritten (sink_view g.O.Sink.written g.O.Sink.faults) c.args.out.now c.answer.new.out
-    (g.S.Store.held c.args.store.now) (g.S.Store.faults c.args.store.now)
-    (g.S.Store.faults c.answer.new.store) (request_of c.args.ask.now)
-    (Err c.in-Err.halt) c.in-Err.ensures
+returns-in-Err-clause-unwritten g c = ?
