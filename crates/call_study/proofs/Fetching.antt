@@ -13,7 +13,7 @@ use Rattle.call_files.specs.declared.stop.Stop.TheVariants as stop
 use Rattle.call_study.specs.{Answers.answer_by, Answers.answer_in, Answers.answer_over}
 use Rattle.call_study.specs.{Ends.Answered, Ends.EndsOf, Ends.over_told}
 use Rattle.call_work.specs.load.Fetched.{AreFetched, AreToldAs, IsTooLong, Stops, further_list}
-use Rattle.call_work.specs.load.Fetched.{source_list, unread_halt}
+use Rattle.call_work.specs.load.Fetched.{IsShort, source_list, unread_halt}
 use Rattle.call_work.specs.{load.Loaded.source_in, load.Reading.over_source, load.Studied.refused_by}
 use Rattle.call_work.specs.load.Halts.{End}
 use Rattle.call_work.specs.load.Request as request
@@ -125,3 +125,9 @@ module _ (files : List ℕ → Option (List ℕ)) where
     ends_unread (unread.TooLong f) is same = (is.0, same, λ all. rw (long_first (files_of r) f is.1 all) (refl, refl))
     ends_unread (unread.Failed f) is same = (is, same)
     ends_unread unread.Memory is same = (is, same)
+
+  -- the further file is no longer than its limit
+  pub short_further : (asked : List NamedFile) (told : List ℕ)
+      → AreToldAs files asked (further_list asked told) → IsShort asked told
+  short_further [] told are = tt
+  short_further (a ∷ rest) told are = are.0.0

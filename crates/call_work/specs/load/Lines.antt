@@ -60,19 +60,19 @@ part_asked asked = 0
 -- ---- names that are not there
 
 -- the name that is asked for, in quotes
-abbrev pub quoted : Option (List ℕ) → List (List ℕ)
+abbrev pub quoted : Option (List ℕ) → List ℕ
 quoted None = []
-quoted (Some name) = codes " \"" ∷ name ∷ codes "\"" ∷ []
+quoted (Some name) = concat (codes " \"" ∷ name ∷ codes "\"" ∷ [])
 
 -- the nearest that is there
-abbrev pub near_pieces : Option (List ℕ) → List (List ℕ)
-near_pieces None = codes ": there is none at all" ∷ []
-near_pieces (Some near) = codes ": did you mean \"" ∷ near ∷ codes "\"?" ∷ []
+abbrev pub near_words : Option (List ℕ) → List ℕ
+near_words None = codes ": there is none at all"
+near_words (Some near) = concat (codes ": did you mean \"" ∷ near ∷ codes "\"?" ∷ [])
 
 -- `FILE: there is no script "reversl-3": did you mean "reversal-3"?`
 abbrev pub unknown_line : List ℕ → List ℕ → Option (List ℕ) → Option (List ℕ) → List ℕ
 unknown_line name what asked near =
-    one_line (name ∷ codes ": there is no " ∷ what ∷ (quoted asked ++ near_pieces near))
+    one_line (name ∷ codes ": there is no " ∷ what ∷ quoted asked ∷ near_words near ∷ [])
 
 abbrev pub part_line : List ℕ → ℕ → ℕ → List ℕ
 part_line name n parts =
@@ -81,8 +81,8 @@ part_line name n parts =
 
 abbrev pub many_line : List ℕ → ℕ → ℕ → List ℕ
 many_line name there most =
-    one_line (name ∷ codes ": " ∷ decimal there ∷ codes " scripts, and this takes at most "
-    ∷ decimal most ∷ codes ": take a part of them, as study scripts --part writes it" ∷ [])
+    one_line (name ∷ codes ": " ∷ decimal there ∷ codes " scripts, at most " ∷ decimal most
+    ∷ codes " here: take a part of them by study scripts --part" ∷ [])
 
 abbrev pub several_scripts_line : List ℕ → ℕ → List ℕ
 several_scripts_line name there =
@@ -94,7 +94,8 @@ several_line name records =
     one_line (name ∷ codes ": " ∷ decimal records ∷ codes " records: name the script of one by --script" ∷ [])
 
 abbrev pub missing_line : List ℕ → Option (List ℕ) → List ℕ
-missing_line name asked = one_line (name ∷ codes ": there is no record of script" ∷ quoted asked)
+missing_line name asked =
+    one_line (name ∷ codes ": there is no record of script" ∷ quoted asked ∷ [])
 
 abbrev pub unpicked_line : List ℕ → Option (List ℕ) → Unpicked → List ℕ
 unpicked_line name asked (unpicked.Several records) = several_line name records

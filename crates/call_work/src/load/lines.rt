@@ -1,12 +1,11 @@
 //! The line that says why a call is not done.
 
 ghost use Rattle.std.specs.Prelude.{[], ◌≡◌, ◌++◌, ◌∷◌, IfOk, OnOk, codes, decimal, map};
-ghost use Rattle.std.specs.List.{concat};
 ghost use Rattle.std.specs.Option.{option_copied};
 ghost use Rattle.call_files.specs.Files.{limit_of as limit};
 ghost use Rattle.call_work.specs.load.Fetched.{bytes_at as bytes_in};
 ghost use Rattle.call_work.specs.load.Lines.{IsDenialLine, IsRefusalLine, IsToldIn, many_line as many};
-ghost use Rattle.call_work.specs.load.Lines.{missing_line as missing, near_pieces, one_line as line_of};
+ghost use Rattle.call_work.specs.load.Lines.{missing_line as missing, near_words as words_of_near, one_line as line_of};
 ghost use Rattle.call_work.specs.load.Lines.{part_asked as part_of, part_line as part, quoted};
 ghost use Rattle.call_work.specs.load.Lines.{further_name as further_of, scripts_name as scripts_of};
 ghost use Rattle.call_work.specs.load.Lines.{several_line as several, several_scripts_line as several_scripts};
@@ -95,7 +94,9 @@ pub fn denial_line(
             let name = name_at(ask, File::Study).unwrap_or("");
             refused_sweep(alloc, name, fetched.bytes_at(File::Study), fault)
         }
-        Denial::TooManyScripts { there, most } => many_line(alloc, ask, *there, *most),
+        Denial::TooManyScripts { there, most } => {
+            many_line(alloc, scripts_name(ask.source), *there, *most)
+        }
         Denial::SeveralScripts(there) => several_scripts_line(alloc, ask, *there),
         Denial::UnknownScript(near) => {
             unknown_line(alloc, scripts_name(ask.source), b"script", ask.script, *near)
@@ -190,7 +191,7 @@ fn unknown_line(
 
 // The name that is asked for, in quotes.
 fn quoted_name(alloc: Global, asked: Option<&str>) -> Result<Vec<u8>, Memory>
-    ensures { IfOk result (λ text. text.items ≡ concat (quoted (option_copied asked.entry))) }
+    ensures { IfOk result (λ text. text.items ≡ quoted (option_copied asked.entry)) }
 {
     match asked {
         None => Ok(Vec::new(alloc)),
@@ -200,7 +201,7 @@ fn quoted_name(alloc: Global, asked: Option<&str>) -> Result<Vec<u8>, Memory>
 
 // The nearest name that is there.
 fn near_words(alloc: Global, near: Option<Name>) -> Result<Vec<u8>, Memory>
-    ensures { IfOk result (λ text. text.items ≡ concat (near_pieces near)) }
+    ensures { IfOk result (λ text. text.items ≡ words_of_near near) }
 {
     match near {
         None => text_of(alloc, &[b": there is none at all"]),
@@ -208,25 +209,19 @@ fn near_words(alloc: Global, near: Option<Name>) -> Result<Vec<u8>, Memory>
     }
 }
 
-fn many_line(
-    alloc: Global,
-    ask: &Ask<'_>,
-    there: usize,
-    most: usize,
-) -> Result<Vec<u8>, Memory>
-    ensures { IfOk result (λ line.
-        line.items ≡ many (scripts_of (source_of ask.now.source)) there most) }
+fn many_line(alloc: Global, name: &str, there: usize, most: usize) -> Result<Vec<u8>, Memory>
+    ensures { IfOk result (λ line. line.items ≡ many name.now there most) }
 {
     let (mut scripts, mut limit) = (Buffer::new(), Buffer::new());
     one_line(
         alloc,
         &[
-            scripts_name(ask.source).as_bytes(),
+            name.as_bytes(),
             b": ",
             scripts.format(there).as_bytes(),
-            b" scripts, and this takes at most ",
+            b" scripts, at most ",
             limit.format(most).as_bytes(),
-            b": take a part of them, as study scripts --part writes it",
+            b" here: take a part of them by study scripts --part",
         ],
     )
 }
