@@ -1,4 +1,4 @@
-use Rattle.std.proofs.Common.{map, sym}
+use Rattle.std.proofs.Common.{map}
 use Rattle.std.proofs.lemmas.List.{take_all}
 use Rattle.call_work.specs.load.Chosen.{name_of_script}
 use Rattle.call_work.proofs.load_lemmas.NearestLaws.{near_on, nearest_found}
@@ -7,8 +7,8 @@ use Rattle.call_work.proofs.load.nearest.nearest_script.Goals as goal
 pub loop-i-preserved : goal.loop-i-preserved
 loop-i-preserved c =
     rw c.in_ok-nearer.ensures
-    (rw (sym c.index-scripts-i.is) at (near_on name_of_script c.args.asked.now c.args.scripts.now c.loop-i.i
-    c.index-scripts-i.result c.loop-i.near c.loop-i-test.true c.loop-i.invariant))
+    (near_on name_of_script c.args.asked.now c.args.scripts.now c.loop-i.i c.index-scripts-i.result c.loop-i.near
+    c.loop-i-test.true c.loop-i.invariant)
 
 pub returns : goal.returns
 returns c =
