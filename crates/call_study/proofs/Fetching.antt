@@ -93,28 +93,34 @@ module _ (files : List ℕ → Option (List ℕ)) where
   told_answer r f are end text h all =
       let further = further_list (files_beside r.asked) f.further.items in
       let is = told_all (files_of r) (source_list f.source ++ further)
-          (both_told (files_at r.source) (files_beside r.asked) (source_list f.source) further
-          are.source are.further) all in
+      (both_told (files_at r.source) (files_beside r.asked) (source_list f.source) further
+      are.source are.further) all in
       rw is (over_kinds r.script r.asked r.source f.source further end text are.source h)
 
   module _ {K : Type 0} (view : K → SinkView) (old new : K) (c1 c2 : List ℕ → ℕ) (r : Request) where
     pub ends_answered : (f : Fetched) → SameCounts c1 c2 → AreFetched files r f → (end : End)
         → Answered view (answer_in r f) old new end
         → EndsOf view (answer_over r) files (files_of r) c1 c2 old new end
-    ends_answered f same are (Ok done) h = (same, record {
-      text = h.text;
-      is = told_answer r f are (Ok done) h.text h.is;
-      grew = h.grew;
-    })
+    ends_answered f same are (Ok done) h = (
+      same,
+      record {
+        text = h.text;
+        is = told_answer r f are (Ok done) h.text h.is;
+        grew = h.grew;
+      },
+    )
     ends_answered f same are (Err (halt.Stopped stop.Usage)) h = absurd h
     ends_answered f same are (Err (halt.Stopped (stop.Refused why))) h =
         (same, h.0, told_answer r f are (Err (halt.Stopped (stop.Refused why))) [] h.1)
     ends_answered f same are (Err (halt.Stopped (stop.Store file))) h = absurd h
-    ends_answered f same are (Err (halt.Stopped stop.Sink)) h = (same, record {
-      text = h.text;
-      is = (h.is.0, told_answer r f are (Ok h.is.0) h.text h.is.1);
-      grew = h.grew;
-    })
+    ends_answered f same are (Err (halt.Stopped stop.Sink)) h = (
+      same,
+      record {
+        text = h.text;
+        is = (h.is.0, told_answer r f are (Ok h.is.0) h.text h.is.1);
+        grew = h.grew;
+      },
+    )
     ends_answered f same are (Err (halt.Stopped stop.Memory)) h = (same, h)
     ends_answered f same are (Err (halt.Denied why)) h =
         (same, h.0, told_answer r f are (Err (halt.Denied why)) [] h.1)

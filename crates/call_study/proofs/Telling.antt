@@ -32,52 +32,52 @@ use Rattle.call_work.specs.declared.load.sources.Bytes.TheVariants as bytes
 -- ---- wider bytes
 
 module _ (r : Request) (Has More : HasBytes) (more : (f : File) (b : List ℕ) → Has f b → More f b)
-    where
-  at_name : (name : Option (List ℕ)) (f : File) (line : List ℕ)
-      → IfSome name (λ n. (b : List ℕ) × Has f b × IsToldAt n b line)
-      → IfSome name (λ n. (b : List ℕ) × More f b × IsToldAt n b line)
-  at_name None f line is = tt
-  at_name (Some n) f line is = (is.0, more f is.0 is.1, is.2)
+  where
+    at_name : (name : Option (List ℕ)) (f : File) (line : List ℕ)
+        → IfSome name (λ n. (b : List ℕ) × Has f b × IsToldAt n b line)
+        → IfSome name (λ n. (b : List ℕ) × More f b × IsToldAt n b line)
+    at_name None f line is = tt
+    at_name (Some n) f line is = (is.0, more f is.0 is.1, is.2)
 
-  told_wider : (f : File) (line : List ℕ) → IsToldIn r Has f line → IsToldIn r More f line
-  told_wider f line is = at_name (name_at r f) f line is
+    told_wider : (f : File) (line : List ℕ) → IsToldIn r Has f line → IsToldIn r More f line
+    told_wider f line is = at_name (name_at r f) f line is
 
-  refusal_wider : (why : Refusal) (line : List ℕ) → IsRefusalLine r Has why line
-      → IsRefusalLine r More why line
-  refusal_wider (refusal.TooLong f) line is = is
-  refusal_wider (refusal.Line why) line is = told_wider file.Line line is
-  refusal_wider (refusal.Scripts why) line is = told_wider file.Scripts line is
-  refusal_wider (refusal.Timings why) line is = told_wider file.Timings line is
-  refusal_wider (refusal.Record why) line is = told_wider file.Record line is
-  refusal_wider refusal.UnknownParameter line is = is
+    refusal_wider : (why : Refusal) (line : List ℕ) → IsRefusalLine r Has why line
+        → IsRefusalLine r More why line
+    refusal_wider (refusal.TooLong f) line is = is
+    refusal_wider (refusal.Line why) line is = told_wider file.Line line is
+    refusal_wider (refusal.Scripts why) line is = told_wider file.Scripts line is
+    refusal_wider (refusal.Timings why) line is = told_wider file.Timings line is
+    refusal_wider (refusal.Record why) line is = told_wider file.Record line is
+    refusal_wider refusal.UnknownParameter line is = is
 
-  denial_wider : (why : Denial) (line : List ℕ) → IsDenialLine r Has why line
-      → IsDenialLine r More why line
-  denial_wider (denial.Study why) line is = told_wider file.Study line is
-  denial_wider (denial.Scripts why) line is = told_wider file.Study line is
-  denial_wider (denial.TooManyScripts there most) line is = is
-  denial_wider (denial.SeveralScripts there) line is = is
-  denial_wider (denial.UnknownScript near) line is = is
-  denial_wider (denial.UnknownTiming near) line is = is
-  denial_wider (denial.UnknownPart parts) line is = is
-  denial_wider (denial.Record why) line is = is
-  denial_wider (denial.Map why) line is = is
+    denial_wider : (why : Denial) (line : List ℕ) → IsDenialLine r Has why line
+        → IsDenialLine r More why line
+    denial_wider (denial.Study why) line is = told_wider file.Study line is
+    denial_wider (denial.Scripts why) line is = told_wider file.Study line is
+    denial_wider (denial.TooManyScripts there most) line is = is
+    denial_wider (denial.SeveralScripts there) line is = is
+    denial_wider (denial.UnknownScript near) line is = is
+    denial_wider (denial.UnknownTiming near) line is = is
+    denial_wider (denial.UnknownPart parts) line is = is
+    denial_wider (denial.Record why) line is = is
+    denial_wider (denial.Map why) line is = is
 
-  halt_wider : (reason : Reason) (why : Halt) (line : List ℕ) → IsHaltLine r Has reason why line
-      → IsHaltLine r More reason why line
-  halt_wider reason (halt.Stopped stop.Usage) line is = is
-  halt_wider reason (halt.Stopped (stop.Refused why)) line is = refusal_wider why line is
-  halt_wider reason (halt.Stopped (stop.Store f)) line is = is
-  halt_wider reason (halt.Stopped stop.Sink) line is = is
-  halt_wider reason (halt.Stopped stop.Memory) line is = is
-  halt_wider reason (halt.Denied why) line is = denial_wider why line is
+    halt_wider : (reason : Reason) (why : Halt) (line : List ℕ) → IsHaltLine r Has reason why line
+        → IsHaltLine r More reason why line
+    halt_wider reason (halt.Stopped stop.Usage) line is = is
+    halt_wider reason (halt.Stopped (stop.Refused why)) line is = refusal_wider why line is
+    halt_wider reason (halt.Stopped (stop.Store f)) line is = is
+    halt_wider reason (halt.Stopped stop.Sink) line is = is
+    halt_wider reason (halt.Stopped stop.Memory) line is = is
+    halt_wider reason (halt.Denied why) line is = denial_wider why line is
 
-  -- what is told of an end is told of it over wider bytes
-  pub tells_wider : (reason : Reason) (end : End) (old new : SinkView)
-      → TellsEnd r Has reason end old new → TellsEnd r More reason end old new
-  tells_wider reason (Ok done) old new is = is
-  tells_wider reason (Err why) old new is =
-      record { line = is.line; is = halt_wider reason why is.line is.is; took = is.took }
+    -- what is told of an end is told of it over wider bytes
+    pub tells_wider : (reason : Reason) (end : End) (old new : SinkView)
+        → TellsEnd r Has reason end old new → TellsEnd r More reason end old new
+    tells_wider reason (Ok done) old new is = is
+    tells_wider reason (Err why) old new is =
+        record { line = is.line; is = halt_wider reason why is.line is.is; took = is.took }
 
 -- ---- the bytes that were fetched
 
@@ -187,14 +187,14 @@ module _ {K : Type 0} (view : K → SinkView) (allowed : Answers) (old new : K) 
 
 module _ {K : Type 0} (view : K → SinkView) (next : Result (List (List ℕ)) File → Answers)
     (files : List ℕ → Option (List ℕ)) (asked : List NamedFile) (c1 c2 : List ℕ → ℕ) (old new : K)
-    where
-  -- so is one whose files are not all fetched
-  pub ends_told : (why : Unread) (end : Halt)
-      → EndsOf view next files asked c1 c2 old new (Err (unread_halt why))
-      → EndsBy (unread_halt why) end → EndsOf view next files asked c1 c2 old new (Err end)
-  ends_told (unread.TooLong f) end is by = elim by [
-    | inl same ↦ rw same is
-    | inr memory ↦ rw memory (is.0, is.1)
-  ]
-  ends_told (unread.Failed f) end is by = rw by is
-  ends_told unread.Memory end is by = rw by is
+  where
+    -- so is one whose files are not all fetched
+    pub ends_told : (why : Unread) (end : Halt)
+        → EndsOf view next files asked c1 c2 old new (Err (unread_halt why))
+        → EndsBy (unread_halt why) end → EndsOf view next files asked c1 c2 old new (Err end)
+    ends_told (unread.TooLong f) end is by = elim by [
+      | inl same ↦ rw same is
+      | inr memory ↦ rw memory (is.0, is.1)
+    ]
+    ends_told (unread.Failed f) end is by = rw by is
+    ends_told unread.Memory end is by = rw by is

@@ -23,7 +23,9 @@ use call_answer::{Said, Study};
 use call_ask::{Form, Table};
 use call_tables::{margins_table, recheck_settled, settle_table};
 use call_verdicts::{Cases, faults_table, verdicts_table};
-use call_work::load::{Bytes, Denial, Halt, Loaded, choose_script, choose_timing, load, unknown_script, unknown_timing};
+use call_work::load::{
+    Bytes, Denial, Halt, Loaded, choose_script, choose_timing, load, unknown_script, unknown_timing,
+};
 use draw_shapes::Rows;
 use file_line::print_line;
 use file_records::recorded::{config_text, map_text};

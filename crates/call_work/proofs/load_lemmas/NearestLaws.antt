@@ -27,8 +27,8 @@ nearest_found asked names None is = is
 nearest_found asked names (Some near) is = (
   is.among,
   All-weaker (λ (name : List ℕ). near.edits ≤ edits name asked)
-  (λ (name : List ℕ). edits near.name asked ≤ edits name asked)
-  (λ name le. rw is.counted at le) names is.least,
+      (λ (name : List ℕ). edits near.name asked ≤ edits name asked)
+      (λ name le. rw is.counted at le) names is.least,
 )
 
 alone : (x : List ℕ) → Contains (x ∷ []) x
@@ -55,10 +55,10 @@ module _ (asked : List ℕ) (names : List (List ℕ)) (x : List ℕ) where
         (grind arith);
   })
   kept_or_taken near false is least = rw is (taken (All-weaker
-    (λ (name : List ℕ). near.edits ≤ edits name asked)
-    (λ (name : List ℕ). edits x asked ≤ edits name asked)
-    (λ name le. let far = leb-false near.edits (edits x asked) is in omega (arith, far, le))
-    names least.least))
+      (λ (name : List ℕ). near.edits ≤ edits name asked)
+      (λ (name : List ℕ). edits x asked ≤ edits name asked)
+      (λ name le. let far = leb-false near.edits (edits x asked) is in omega (arith, far, le))
+      names least.least))
 
   -- with one name more
   pub near_more : (near : Option Near) → IsSoFar asked names near

@@ -47,11 +47,7 @@ impl From<Unread> for Halt {
 }
 
 /// All files that are asked for, in the order of the words: each is fetched once.
-pub fn fetch_files<S: Store>(
-    alloc: Global,
-    ask: &Ask<'_>,
-    store: &mut S,
-) -> Result<Fetched, Unread>
+pub fn fetch_files<S: Store>(alloc: Global, ask: &Ask<'_>, store: &mut S) -> Result<Fetched, Unread>
     ensures files { FetchesAll (S.held store.old) (request_of ask.now) (S.faults store.old)
         (S.faults store.new) result }
     ensures held { S.held store.new ≡ S.held store.old }
@@ -62,11 +58,7 @@ pub fn fetch_files<S: Store>(
 }
 
 // The files of a source.
-fn fetch_source<S: Store>(
-    alloc: Global,
-    source: Source<'_>,
-    store: &mut S,
-) -> Result<Bytes, Unread>
+fn fetch_source<S: Store>(alloc: Global, source: Source<'_>, store: &mut S) -> Result<Bytes, Unread>
     ensures files { FetchesSource (S.held store.old) (source_of source.entry) (S.faults store.old)
         (S.faults store.new) result }
     ensures held { S.held store.new ≡ S.held store.old }
@@ -85,11 +77,7 @@ fn fetch_source<S: Store>(
 }
 
 // The bytes of the further file that the work takes, if it takes one.
-fn fetch_further<S: Store>(
-    alloc: Global,
-    work: Work<'_>,
-    store: &mut S,
-) -> Result<Vec<u8>, Unread>
+fn fetch_further<S: Store>(alloc: Global, work: Work<'_>, store: &mut S) -> Result<Vec<u8>, Unread>
     ensures files { FetchesFurther (S.held store.old) (asked_of work.entry) (S.faults store.old)
         (S.faults store.new) result }
     ensures held { S.held store.new ≡ S.held store.old }
@@ -108,12 +96,7 @@ fn fetch_further<S: Store>(
 }
 
 // The bytes of a file.
-fn fetch<S: Store>(
-    alloc: Global,
-    store: &mut S,
-    file: File,
-    name: &str,
-) -> Result<Vec<u8>, Unread>
+fn fetch<S: Store>(alloc: Global, store: &mut S, file: File, name: &str) -> Result<Vec<u8>, Unread>
     ensures file { FetchesOne (S.held store.old) (named file name.now) (S.faults store.old)
         (S.faults store.new) result }
     ensures held { S.held store.new ≡ S.held store.old }

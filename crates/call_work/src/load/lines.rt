@@ -99,7 +99,13 @@ pub fn denial_line(
         }
         Denial::SeveralScripts(there) => several_scripts_line(alloc, ask, *there),
         Denial::UnknownScript(near) => {
-            unknown_line(alloc, scripts_name(ask.source), b"script", ask.script, *near)
+            unknown_line(
+                alloc,
+                scripts_name(ask.source),
+                b"script",
+                ask.script,
+                *near,
+            )
         }
         Denial::UnknownTiming(near) => unknown_line(
             alloc,

@@ -54,11 +54,7 @@ pub fn unknown_timing(
     }
 }
 
-fn nearest_script(
-    alloc: Global,
-    scripts: &[Script],
-    asked: &[u8],
-) -> Result<Option<Name>, Memory>
+fn nearest_script(alloc: Global, scripts: &[Script], asked: &[u8]) -> Result<Option<Name>, Memory>
     ensures { IfOk result (IsNearest (map name_of_script scripts.now) asked.now) }
 {
     let mut near: Option<Near> = None;
@@ -83,12 +79,7 @@ fn nearest_timing(
 }
 
 // The nearer of the nearest so far and another name.
-fn nearer(
-    alloc: Global,
-    so_far: Option<Near>,
-    name: Name,
-    asked: &[u8],
-) -> Result<Near, Memory>
+fn nearer(alloc: Global, so_far: Option<Near>, name: Name, asked: &[u8]) -> Result<Near, Memory>
     ensures { IfOk result (λ near. near ≡ nearer_of asked.now so_far name) }
 {
     let edits = generic_levenshtein(alloc, name.bytes(), asked)?;

@@ -24,7 +24,14 @@ pub fn refused_sweep(
     };
     let at = place_of_item(alloc, bytes, b"fault", number, b"name")?;
     let why = format!(in alloc; "{fault}")?;
-    told(alloc, name, bytes, at, "no scripts come of ", &[why.as_bytes()])
+    told(
+        alloc,
+        name,
+        bytes,
+        at,
+        "no scripts come of ",
+        &[why.as_bytes()],
+    )
 }
 
 /// The line of a record of keys and trips that is refused.
@@ -63,6 +70,7 @@ fn record_rule(fault: &SeenFault) -> &'static str
         SeenFault::Level(_) => {
             "neither 0 nor 1, or the level that the signal has; write each change, with its level"
         }
-        SeenFault::Empty => "no row follows the header; write the head of a script, and its changes",
+        SeenFault::Empty =>
+            "no row follows the header; write the head of a script, and its changes",
     }
 }

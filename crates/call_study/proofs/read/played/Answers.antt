@@ -26,9 +26,12 @@ returns-in_ok-why-in_default-choose_timing c =
     (none_placed (map values_of timings)
     (chosen_timing (map values_of timings) (option_copied c.args.timing)) _ _ _
     (c.in_default-choose_timing.ensures.is
-    ∙ sym (chosen-map values_of (λ timing. timing.name) timings (option_copied c.args.timing)))
-    (_, rw (map-map (λ (timing : NamedValues). timing.name) values_of timings)
-    c.in_ok-why-in_default-choose_timing.ensures, (refl, refl)))
+    ∙ sym (chosen-map values_of (λ timing. timing.name) timings (option_copied c.args.timing))) (
+      _,
+      rw (map-map (λ (timing : NamedValues). timing.name) values_of timings)
+          c.in_ok-why-in_default-choose_timing.ensures,
+      (refl, refl),
+    ))
 
 pub returns : goal.returns
 returns c =
