@@ -1,14 +1,16 @@
 -- The clauses of the top call, from how it ends.
 use Rattle.std.proofs.Common.{◌≡◌, ◌⊎◌, ◌<◌, ℕ, List, [], Option, Ok, Err, refl, inl, inr}
-use Rattle.base_text.specs.{store.Counts.Rose, store.CountLaws.not_more, store.Sink.GrewByPart}
-use Rattle.call_answer.specs.{Sinks.GrewByAll, Sinks.SinkView}
+use Rattle.base_files.specs.declared.reason.Reason.{Reason}
+use Rattle.base_text.specs.{store.Counts.Rose, store.CountLaws.not_more}
+use Rattle.call_answer.specs.{Sinks.SinkView}
 use Rattle.call_answer.specs.SinkLaws.{same_faults, same_out}
 use Rattle.call_files.specs.{FileLaws.no_cause, Files.NoneRose, Files.StoreCause}
 use Rattle.call_files.specs.declared.stop.File.{File}
 use Rattle.call_files.specs.declared.stop.Stop.TheVariants as stop
 use Rattle.call_study.specs.{Answers.answer_over, Clauses.Call, Clauses.Clauses, Clauses.IsTold}
-use Rattle.call_study.specs.{Clauses.OutIsAnswer, Clauses.OutIsFront, Ends.EndsOf}
-use Rattle.call_work.specs.load.Halts.{End, IsAnswer, IsEarly, line_of}
+use Rattle.call_study.specs.{Clauses.OutIsAnswer, Clauses.OutIsFront, Clauses.TellsBytes, Ends.EndsOf}
+use Rattle.call_study.specs.{Ends.TellsEnd}
+use Rattle.call_work.specs.load.Halts.{End, IsAnswer, IsEarly}
 use Rattle.call_work.specs.load.Request.{Request, files_of}
 use Rattle.call_work.specs.declared.load.halt.Halt.TheVariants as halt
 
@@ -28,7 +30,7 @@ module _ {K : Type 0} (view : K → SinkView) (old new : K) (files : List ℕ �
   unwritten (Err (halt.Stopped stop.Memory)) e early = e.1
   unwritten (Err (halt.Denied why)) e early = e.1
 
-  module _ (e1 e2 : SinkView) where
+  module _ (reason : Reason) (e1 e2 : SinkView) where
     -- what the clauses see of the call
     abbrev pub seen : Call
     seen = record {
@@ -36,6 +38,7 @@ module _ {K : Type 0} (view : K → SinkView) (old new : K) (files : List ℕ �
       files = files;
       faults_old = c1;
       faults_new = c2;
+      reason = reason;
       out_old = view old;
       out_new = view new;
       err_old = e1;
@@ -104,8 +107,7 @@ module _ {K : Type 0} (view : K → SinkView) (old new : K) (files : List ℕ �
 
     -- the clauses, once the line to err is put
     pub closed : (end : End) → EndsSo end
-        → GrewByAll e1 e2 (line_of end)
-        ⊎ (Rose e1.faults e2.faults × GrewByPart e1.written e2.written (line_of end))
+        → TellsEnd request (TellsBytes seen) reason end e1 e2
         → Clauses seen end
     closed end e told = record {
       answered = answered end e;

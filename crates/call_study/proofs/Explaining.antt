@@ -20,8 +20,8 @@ module _ (within : ℕ) (form : ExplainForm) (line : Line) (scripts : List Scrip
       → OfFault (IsExplainFault line scripts record_bytes which) why
       → Gives (answer_by (explain_in within form line scripts record_bytes script))
       (Err (halt_by explain_halt why))
-  explain_halts (stopped.Fault explain_fault.TooManyScripts) few is =
-      absurd (omega (arith, few, is))
+  explain_halts (stopped.Fault (explain_fault.TooManyScripts there)) few is =
+      let (same, many) = is in absurd (omega (arith, few, same, many))
   explain_halts (stopped.Fault (explain_fault.Record why)) few is = rw (named, is) (refl, refl)
   explain_halts (stopped.Fault (explain_fault.Unpicked why)) few is =
       rw (named, is.read, is.none) (refl, refl)

@@ -1,126 +1,139 @@
--- What a call gives once its files are fetched.
-use Rattle.std.proofs.Common.{◌≡◌, ℕ, ◌<◌, ◌≤◌, true, List, [], ◌∷◌, Option, None, Some, IsSome}
-use Rattle.std.proofs.Common.{IfSome, Result, Ok, Err, length, nat_lt, unwrap_or, refl, sym, inl}
-use Rattle.std.proofs.Common.{inr, subst, arith}
-use Rattle.call_answer.specs.declared.said.Said.{Said}
-use Rattle.base_text.specs.{store.CountLaws.same_both, store.Store.SameCounts}
-use Rattle.call_files.specs.FileLaws.{cause_from, short_of, told_contents}
-use Rattle.call_files.specs.Files.{Fetches, NamedFile, in_front, limit_of}
+-- What is answered over the files that were fetched is answered over the files of the store; and why
+-- a call ends whose files are not all fetched.
+use Rattle.std.proofs.Common.{◌≡◌, ℕ, ◌<◌, ◌≤◌, true, List, [], ◌∷◌, ◌++◌, ◌∙◌, Option, None, Some}
+use Rattle.std.proofs.Common.{IsSome, IfSome, Result, Ok, Err, length, nat_lt, unwrap_or, refl, ap}
+use Rattle.std.proofs.Common.{inl, inr, arith}
+use Rattle.base_text.specs.store.Store.{SameCounts}
+use Rattle.call_answer.specs.Sinks.{SinkView}
+use Rattle.call_files.specs.FileLaws.{told_contents}
+use Rattle.call_files.specs.Files.{AllTold, NamedFile, contents, in_front, limit_of}
 use Rattle.call_files.specs.declared.refusal.Refusal.TheVariants as refusal
 use Rattle.call_files.specs.declared.stop.File.{File}
-use Rattle.call_files.specs.declared.stop.Stop.{Stop}
 use Rattle.call_files.specs.declared.stop.Stop.TheVariants as stop
-use Rattle.call_study.specs.{Answers.Answers, Answers.answer_by, Answers.answer_over}
-use Rattle.call_study.specs.{Ends.Fetched, Ends.Gives, Ends.over_told}
-use Rattle.call_work.specs.{load.Reading.over_further, load.Request.Asked}
+use Rattle.call_study.specs.{Answers.answer_by, Answers.answer_in, Answers.answer_over}
+use Rattle.call_study.specs.{Ends.Answered, Ends.EndsOf, Ends.over_told}
+use Rattle.call_work.specs.load.Fetched.{AreFetched, AreToldAs, IsTooLong, Stops, further_list}
+use Rattle.call_work.specs.load.Fetched.{IsShort, source_list, unread_halt}
+use Rattle.call_work.specs.{load.Loaded.source_in, load.Reading.over_source, load.Studied.refused_by}
+use Rattle.call_work.specs.load.Halts.{End}
 use Rattle.call_work.specs.load.Request as request
-use Rattle.call_work.specs.{load.Halts.End, load.Studied.refused_by, declared.load.halt.Halt.Halt}
+use Rattle.call_work.specs.load.Request.{Asked, Request, Source, files_at, files_beside, files_of}
+use Rattle.call_work.specs.declared.load.fetched.Fetched.{Fetched}
+use Rattle.call_work.specs.declared.load.fetched.Unread.{Unread}
+use Rattle.call_work.specs.declared.load.fetched.Unread.TheVariants as unread
 use Rattle.call_work.specs.declared.load.halt.Halt.TheVariants as halt
-use Rattle.call_study.proofs.Reading.{gives_wider}
+use Rattle.call_work.specs.declared.load.sources.Bytes.{Bytes}
+use Rattle.call_work.specs.declared.load.sources.Bytes.TheVariants as bytes
 
 longer : (o : Option (List ℕ)) (limit : ℕ) → IsSome o → IfSome o (λ b. limit < length b)
     → nat_lt limit (length (unwrap_or o [])) ≡ true
 longer None limit some long = cc
 longer (Some b) limit some long = grind arith
 
+opened : (o : Option (List ℕ)) → IsSome o → (P : List ℕ → Type 0) → IfSome o P
+    → P (unwrap_or o [])
+opened None some P is = absurd (cc)
+opened (Some b) some P is = is
+
 module _ (files : List ℕ → Option (List ℕ)) where
-  -- with no more files to fetch
-  pub fetched_all : (next : Result (List (List ℕ)) File → Answers) (c : List ℕ → ℕ)
-      (r : Result Said Halt) → Gives (next (Ok [])) r → Fetched next files [] c c r
-  fetched_all next c r g = by_result r
-      (gives_wider (next (Ok [])) (over_told next files []) r (λ end text a _. a) g)
+  both_told : (first rest : List NamedFile) (a b : List (List ℕ)) → AreToldAs files first a
+      → AreToldAs files rest b → AreToldAs files (first ++ rest) (a ++ b)
+  both_told [] rest [] b are more = more
+  both_told [] rest (x ∷ a) b are more = absurd are
+  both_told (n ∷ first) rest [] b are more = absurd are
+  both_told (n ∷ first) rest (x ∷ a) b are more = (are.0, both_told first rest a b are.1 more)
+
+  -- the bytes that were fetched are the contents
+  told_all : (asked : List NamedFile) (told : List (List ℕ)) → AreToldAs files asked told
+      → AllTold files asked → contents files asked ≡ Ok told
+  told_all [] [] are all = refl
+  told_all [] (b ∷ told) are all = absurd are
+  told_all (a ∷ rest) [] are all = absurd are
+  told_all (a ∷ rest) (b ∷ told) are all =
+      told_contents files a rest b are.0.0 are.0.1 all
+      ∙ ap (in_front b) (told_all rest told are.1 all.1)
+
+  -- a file that is too long is the first one of the contents
+  long_first : (asked : List NamedFile) (f : File) → IsTooLong files asked f
+      → AllTold files asked → contents files asked ≡ Err f
+  long_first [] f is all = absurd is
+  long_first (a ∷ rest) f is all = elim is [
+    | inl here ↦ rw (longer (files a.name) (limit_of a.file) all.0 here.1, here.0) refl
+    | inr later ↦ later_first later (long_first rest f later.1 all.1)
+  ]
     where
-      by_result : (r : Result Said Halt) → Gives (over_told next files []) r
-          → Fetched next files [] c c r
-      by_result (Ok v) given = ((λ name. refl), given)
-      by_result (Err (halt.Stopped stop.Usage)) given = absurd given
-      by_result (Err (halt.Stopped (stop.Refused why))) given = ((λ name. refl), given)
-      by_result (Err (halt.Stopped (stop.Store file))) given = absurd given
-      by_result (Err (halt.Stopped stop.Sink)) given = absurd given
-      by_result (Err (halt.Stopped stop.Memory)) given = ((λ name. refl), given)
-      by_result (Err (halt.Denied why)) given = ((λ name. refl), given)
+      later_first : IfSome (files a.name) (λ b. length b ≤ limit_of a.file) × IsTooLong files rest f
+          → contents files rest ≡ Err f → contents files (a ∷ rest) ≡ Err f
+      later_first later is =
+          told_contents files a rest (unwrap_or (files a.name) [])
+          (opened (files a.name) all.0 (λ b. length b ≤ limit_of a.file) later.0)
+          (itself (files a.name)) all
+          ∙ ap (in_front (unwrap_or (files a.name) [])) is
 
-  -- the next file is too long, cannot be read, or finds no memory
-  pub fetch_stops : (next : Result (List (List ℕ)) File → Answers) (a : NamedFile)
-      (rest : List NamedFile) (c1 c2 : List ℕ → ℕ) (why : Stop)
-      → ((file : File) → next (Err file) (Err (refused_by (refusal.TooLong file))) [])
-      → Fetches files c1 c2 a (Err why)
-      → Fetched next files (a ∷ rest) c1 c2 (Err (halt.Stopped why))
-  fetch_stops next a rest c1 c2 stop.Usage long f = absurd f
-  fetch_stops next a rest c1 c2 (stop.Refused why) long f = (
-    f.0,
-    λ told. rw (longer (files a.name) (limit_of a.file) told.0 f.2, f.1) (long a.file),
-  )
-  fetch_stops next a rest c1 c2 (stop.Store file) long f = inl (sym f.0, f.1)
-  fetch_stops next a rest c1 c2 stop.Sink long f = absurd f
-  fetch_stops next a rest c1 c2 stop.Memory long f = (f, tt)
+      itself : (o : Option (List ℕ)) → IfSome o (λ b. b ≡ unwrap_or o [])
+      itself None = tt
+      itself (Some b) = refl
 
-  module _ (next : Result (List (List ℕ)) File → Answers) (a : NamedFile) (rest : List NamedFile)
-      (v : List ℕ) (short : length v ≤ limit_of a.file) (is : IfSome (files a.name) (λ b. b ≡ v))
-      (c1 c2 c3 : List ℕ → ℕ) (same : SameCounts c1 c2) where
-    abbrev later : Result (List (List ℕ)) File → Answers
-    later bytes = next (in_front v bytes)
+  over_kinds : (script : Option (List ℕ)) (asked : Asked) (source : Source) (b : Bytes)
+      (further : List (List ℕ)) (end : End) (text : List ℕ)
+      → AreToldAs files (files_at source) (source_list b)
+      → answer_by (over_source (source_in b) script asked further) end text
+      → answer_over (record { source = source; script = script; asked = asked })
+      (Ok (source_list b ++ further)) end text
+  over_kinds script asked (request.files l s) (bytes.Files line scripts) further end text are h = h
+  over_kinds script asked (request.files l s) (bytes.Study study) further end text are h =
+      absurd are.1
+  over_kinds script asked (request.study n) (bytes.Files line scripts) further end text are h =
+      absurd are.1
+  over_kinds script asked (request.study n) (bytes.Study study) further end text are h = h
 
-    go_on : (r : Result Said Halt) → Gives (over_told later files rest) r
-        → Gives (over_told next files (a ∷ rest)) r
-    go_on r g = gives_wider (over_told later files rest) (over_told next files (a ∷ rest)) r
-        (λ end text p told. subst (λ (x : Result (List (List ℕ)) File). next x end text)
-        (sym (told_contents files a rest v short is told)) (p told.1)) g
+  -- what is answered over them is answered over the store's files
+  pub told_answer : (r : Request) (f : Fetched) → AreFetched files r f → (end : End) (text : List ℕ)
+      → answer_in r f end text → over_told (answer_over r) files (files_of r) end text
+  told_answer r f are end text h all =
+      let further = further_list (files_beside r.asked) f.further.items in
+      let is = told_all (files_of r) (source_list f.source ++ further)
+      (both_told (files_at r.source) (files_beside r.asked) (source_list f.source) further
+      are.source are.further) all in
+      rw is (over_kinds r.script r.asked r.source f.source further end text are.source h)
 
-    -- once the first file is fetched
-    pub fetched_next : (r : Result Said Halt) → Fetched later files rest c2 c3 r
-        → Fetched next files (a ∷ rest) c1 c3 r
-    fetched_next (Ok w) f = (same_both c1 c2 c3 same f.0, go_on (Ok w) f.1)
-    fetched_next (Err (halt.Stopped stop.Usage)) f = absurd f.1
-    fetched_next (Err (halt.Stopped (stop.Refused why))) f =
-        (same_both c1 c2 c3 same f.0, go_on (Err (halt.Stopped (stop.Refused why))) f.1)
-    fetched_next (Err (halt.Stopped (stop.Store file))) f = inr (
-      short_of (files a.name) v (limit_of a.file) short is,
-      cause_from files c1 c2 c3 rest file same f,
+  module _ {K : Type 0} (view : K → SinkView) (old new : K) (c1 c2 : List ℕ → ℕ) (r : Request) where
+    pub ends_answered : (f : Fetched) → SameCounts c1 c2 → AreFetched files r f → (end : End)
+        → Answered view (answer_in r f) old new end
+        → EndsOf view (answer_over r) files (files_of r) c1 c2 old new end
+    ends_answered f same are (Ok done) h = (
+      same,
+      record {
+        text = h.text;
+        is = told_answer r f are (Ok done) h.text h.is;
+        grew = h.grew;
+      },
     )
-    fetched_next (Err (halt.Stopped stop.Sink)) f = absurd f.1
-    fetched_next (Err (halt.Stopped stop.Memory)) f = (same_both c1 c2 c3 same f.0, tt)
-    fetched_next (Err (halt.Denied why)) f =
-        (same_both c1 c2 c3 same f.0, go_on (Err (halt.Denied why)) f.1)
+    ends_answered f same are (Err (halt.Stopped stop.Usage)) h = absurd h
+    ends_answered f same are (Err (halt.Stopped (stop.Refused why))) h =
+        (same, h.0, told_answer r f are (Err (halt.Stopped (stop.Refused why))) [] h.1)
+    ends_answered f same are (Err (halt.Stopped (stop.Store file))) h = absurd h
+    ends_answered f same are (Err (halt.Stopped stop.Sink)) h = (
+      same,
+      record {
+        text = h.text;
+        is = (h.is.0, told_answer r f are (Ok h.is.0) h.text h.is.1);
+        grew = h.grew;
+      },
+    )
+    ends_answered f same are (Err (halt.Stopped stop.Memory)) h = (same, h)
+    ends_answered f same are (Err (halt.Denied why)) h =
+        (same, h.0, told_answer r f are (Err (halt.Denied why)) [] h.1)
 
--- what is answered of the files may be answered by more
-pub fetched_wider : (p q : Result (List (List ℕ)) File → Answers) (files : List ℕ → Option (List ℕ))
-    (asked : List NamedFile) (c1 c2 : List ℕ → ℕ) (r : Result Said Halt)
-    → ((bytes : Result (List (List ℕ)) File) (end : End) (text : List ℕ)
-    → p bytes end text → q bytes end text)
-    → Fetched p files asked c1 c2 r → Fetched q files asked c1 c2 r
-fetched_wider p q files asked c1 c2 r wider f = by_result r f
-  where
-    more : (s : Result Said Halt) → Gives (over_told p files asked) s
-        → Gives (over_told q files asked) s
-    more s given = gives_wider (over_told p files asked) (over_told q files asked) s
-        (λ end text h told. wider _ end text (h told)) given
+    -- a file is too long, is not read, or finds no memory
+    pub ends_unread : (why : Unread) → Stops files (files_of r) c1 c2 why → new ≡ old
+        → EndsOf view (answer_over r) files (files_of r) c1 c2 old new (Err (unread_halt why))
+    ends_unread (unread.TooLong f) is same = (is.0, same, λ all. rw (long_first (files_of r) f is.1 all) (refl, refl))
+    ends_unread (unread.Failed f) is same = (is, same)
+    ends_unread unread.Memory is same = (is, same)
 
-    by_result : (s : Result Said Halt) → Fetched p files asked c1 c2 s
-        → Fetched q files asked c1 c2 s
-    by_result (Ok v) g = (g.0, more (Ok v) g.1)
-    by_result (Err (halt.Stopped stop.Usage)) g = absurd g.1
-    by_result (Err (halt.Stopped (stop.Refused why))) g =
-        (g.0, more (Err (halt.Stopped (stop.Refused why))) g.1)
-    by_result (Err (halt.Stopped (stop.Store file))) g = g
-    by_result (Err (halt.Stopped stop.Sink)) g = absurd g.1
-    by_result (Err (halt.Stopped stop.Memory)) g = (g.0, tt)
-    by_result (Err (halt.Denied why)) g = (g.0, more (Err (halt.Denied why)) g.1)
-
--- what is answered over the further files is answered over all, of both kinds of sources
-module _ (script : Option (List ℕ)) (asked : Asked) where
-  pub over_two : (line_name scripts_name line scripts : List ℕ)
-      (more : Result (List (List ℕ)) File) (end : End) (text : List ℕ)
-      → answer_by (over_further (request.files line scripts) script asked more) end text
-      → answer_over (record { source = request.files line_name scripts_name; script = script; asked = asked })
-      (in_front line (in_front scripts more)) end text
-  over_two line_name scripts_name line scripts (Ok more) end text h = h
-  over_two line_name scripts_name line scripts (Err file) end text h = h
-
-  pub over_study : (name study_bytes : List ℕ) (more : Result (List (List ℕ)) File) (end : End)
-      (text : List ℕ)
-      → answer_by (over_further (request.study study_bytes) script asked more) end text
-      → answer_over (record { source = request.study name; script = script; asked = asked })
-      (in_front study_bytes more) end text
-  over_study name study_bytes (Ok more) end text h = h
-  over_study name study_bytes (Err file) end text h = h
+  -- the further file is no longer than its limit
+  pub short_further : (asked : List NamedFile) (told : List ℕ)
+      → AreToldAs files asked (further_list asked told) → IsShort asked told
+  short_further [] told are = tt
+  short_further (a ∷ rest) told are = are.0.0

@@ -4,3 +4,4 @@ pub mod Reading
 pub mod Fetching
 pub mod Mapping
 pub mod Explaining
+pub mod Telling

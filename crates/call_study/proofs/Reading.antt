@@ -14,7 +14,8 @@ use Rattle.call_files.specs.declared.refusal.Refusal.TheVariants as refusal
 use Rattle.call_files.specs.declared.stop.Stop.TheVariants as stop
 use Rattle.call_study.specs.{Answers.Answers, Ends.Gives}
 use Rattle.call_work.specs.load.Halts.{End}
-use Rattle.call_work.specs.{load.Reading.of_place, declared.load.halt.Halt.Halt}
+use Rattle.call_work.specs.{load.Reading.denied_by, load.Reading.of_place, declared.load.halt.Halt.Halt}
+use Rattle.call_work.specs.declared.load.denial.Denial.{Denial}
 use Rattle.call_work.specs.load.Loaded.{IsLoaded, IsWhy, Loads, Say, given_of, studied}
 use Rattle.call_work.specs.load.ReadingLaws.{HasGroups, study_wider}
 use Rattle.call_work.specs.load.Studied.{Studied, of_values, refused_by, untitled}
@@ -36,15 +37,15 @@ given_read (bytes.Files line scripts) l halted holds is said h =
 given_read (bytes.Study study) l halted holds is said h =
     rw said.1 (inl (studied l, said.2, h))
 
-module _ {A : Type 0} (list : List A) (place : Option ℕ) (none : Halt) (halted : Halt → Type 0)
-    (holds : A → Type 0) where
+module _ {A : Type 0} (list : List A) (place : Option ℕ) (IsWhy : Denial → Type 0)
+    (halted : Halt → Type 0) (holds : A → Type 0) where
   -- there is no such place
-  pub none_placed : None ≡ place → halted none → of_place list place none halted holds
+  pub none_placed : None ≡ place → denied_by IsWhy halted → of_place list place IsWhy halted holds
   none_placed is h = rw (sym is) h
 
   -- there is one
   pub one_placed : (i : ℕ) (a : A) → Some i ≡ place → slice_get list i ≡ Some a → holds a
-      → of_place list place none halted holds
+      → of_place list place IsWhy halted holds
   one_placed i a is there h = rw (sym is) (a, there, h)
 
 -- an element of a list at a place that it has

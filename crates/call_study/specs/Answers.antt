@@ -21,8 +21,10 @@ use Rattle.call_work.specs.{load.Halts.End, declared.load.halt.Halt.Halt}
 use Rattle.call_ask.specs.declared.ask.Form.TheVariants as form
 use Rattle.call_study.specs.Pictures.{IsBandsText, IsDataText, IsDumpText, IsRunText}
 use Rattle.call_work.specs.load.Reading as reading
-use Rattle.call_work.specs.load.Reading.{Reading, Wanted, over_files}
-use Rattle.call_work.specs.load.Request.{Request, files_of}
+use Rattle.call_work.specs.load.Reading.{Reading, Wanted, over_files, over_source}
+use Rattle.call_work.specs.load.Request.{Request, files_beside, files_of}
+use Rattle.call_work.specs.{load.Fetched.further_list, load.Loaded.source_in}
+use Rattle.call_work.specs.declared.load.fetched.Fetched.{Fetched}
 
 abbrev pub Answers : Type 1
 Answers = End → List ℕ → Type 0
@@ -72,6 +74,12 @@ answer_by read end text = read (λ why. halts why end text) (λ wanted. does wan
 -- the answer over the contents of the files
 abbrev pub answer_over : Request → Result (List (List ℕ)) File → Answers
 answer_over request bytes = answer_by (over_files request bytes)
+
+-- the answer over the files that were fetched
+abbrev pub answer_in : Request → Fetched → Answers
+answer_in request fetched =
+    answer_by (over_source (source_in fetched.source) request.script request.asked
+    (further_list (files_beside request.asked) fetched.further.items))
 
 -- the answer to a request over files that are all told
 abbrev pub answers : Request → (List ℕ → Option (List ℕ)) → Answers

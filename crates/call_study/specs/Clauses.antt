@@ -1,15 +1,16 @@
 -- The clauses of the top call.
-use Rattle.std.specs.Prelude.{◌≡◌, ◌⊎◌, ◌<◌, ℕ, List, Option, Err}
+use Rattle.std.specs.Prelude.{◌≡◌, ◌⊎◌, ◌<◌, ℕ, List, Option, Err, IfSome}
 use Rattle.std.specs.Io.KnownBytes.{Appends}
-use Rattle.base_text.specs.{store.Counts.Rose, store.Sink.GrewByPart, store.Sink.GrewByProper}
-use Rattle.call_answer.specs.Sinks.{GrewByAll, SinkView}
+use Rattle.base_files.specs.declared.reason.Reason.{Reason}
+use Rattle.base_text.specs.{store.Counts.Rose, store.Sink.GrewByProper}
+use Rattle.call_answer.specs.Sinks.{SinkView}
 use Rattle.call_files.specs.Files.{AllTold, NoneRose, StoreCause}
 use Rattle.call_files.specs.declared.stop.File.{File}
 use Rattle.call_files.specs.declared.stop.Stop.TheVariants as stop
 use Rattle.call_work.specs.declared.load.halt.Halt.TheVariants as halt
-use Rattle.call_study.specs.{Answers.answers, Ends.WithSomeStatus}
+use Rattle.call_study.specs.{Answers.answers, Ends.TellsEnd, Ends.WithSomeStatus}
 use Rattle.call_work.specs.{load.Halts.End, load.Halts.IsAnswer}
-use Rattle.call_work.specs.load.Halts.{line_of}
+use Rattle.call_work.specs.{load.Fetched.name_at, load.Lines.HasBytes}
 use Rattle.call_work.specs.load.Request.{Request, files_of}
 
 -- what a clause sees of a call: what is asked for, the bytes that the store tells under each name,
@@ -19,6 +20,7 @@ pub record Call : Type 0 where
   pub files : List ℕ → Option (List ℕ)
   pub faults_old : List ℕ → ℕ
   pub faults_new : List ℕ → ℕ
+  pub reason : Reason
   pub out_old : SinkView
   pub out_new : SinkView
   pub err_old : SinkView
@@ -36,6 +38,11 @@ MayAnswer call = answers call.request call.files
 -- in word order is longer than its limit
 abbrev pub IsCause : Call → File → Type 0
 IsCause call = StoreCause call.files call.faults_old call.faults_new (files_of call.request)
+
+-- this file has these bytes, where the store tells them
+abbrev pub TellsBytes : Call → HasBytes
+TellsBytes call file bytes =
+    IfSome (name_at call.request file) (λ name. IfSome (call.files name) (λ told. told ≡ bytes))
 
 -- out grew by exactly a text that is the answer of a call that ends so
 pub record OutIsAnswer (call : Call) (end : End) : Type 0 where
@@ -68,7 +75,6 @@ pub record Clauses (call : Call) (end : End) : Type 0 where
   pub complete : IsTold call → NoneRose call.faults_old call.faults_new (files_of call.request)
       → (Rose call.out_old.faults call.out_new.faults → ⊥)
       → (end ≡ Err (halt.Stopped stop.Memory)) ⊎ OutIsAnswer call end
-  -- err grew by exactly the line of the end, or its count rose and it grew by a front of the line.
-  pub reported : GrewByAll call.err_old call.err_new (line_of end)
-      ⊎ (Rose call.err_old.faults call.err_new.faults
-      × GrewByPart call.err_old.written call.err_new.written (line_of end))
+  -- err grew by exactly the line of the end, which names the file and the place, or the name that is
+  -- not there; or its count rose and it grew by a front of the line.
+  pub reported : TellsEnd call.request (TellsBytes call) call.reason end call.err_old call.err_new

@@ -10,7 +10,7 @@ use crate::read::at_most;
 use call_answer::{Said, Study};
 use call_ask::ExplainForm;
 use call_work::explain::{Asked, explain_said};
-use call_work::load::{Bytes, Denial, Halt, Loaded, choose_script, load};
+use call_work::load::{Bytes, Halt, Loaded, choose_script, load, unknown_script};
 use model_line::Script;
 use net_gates::Compiled;
 use std::alloc::Global;
@@ -74,7 +74,8 @@ fn explain_over<'a>(
 {
     let scripts = study.scripts.as_slice();
     let Some(which) = script_named(scripts, script) else {
-        return Err(Halt::Denied(Denial::UnknownScript));
+        let why = unknown_script(alloc, scripts, script)?;
+        return Err(Halt::Denied(why));
     };
     let asked = Asked {
         compiled: Compiled {

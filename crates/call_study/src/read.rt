@@ -12,7 +12,8 @@ ghost use Rattle.call_answer.specs.declared.done.Done.TheVariants.{Good};
 ghost use Rattle.call_work.specs.load.Reading.{bands_of, play as a_play, play_of, played_of};
 ghost use Rattle.call_work.specs.load.Reading.{table as a_table};
 ghost use Rattle.file_study.specs.sweeps.Parts.{is_part as is_part_of};
-ghost use Rattle.call_work.specs.load.Reading.{denied_of, recheck_of, table_of, timings_over};
+ghost use Rattle.call_work.specs.load.Reading.{denied_of, recheck_of, table_of, timings_in, timings_over};
+ghost use Rattle.call_work.specs.load.Reading.{which_unnamed};
 ghost use Rattle.call_work.specs.load.Reading.{at_most as at_most_of};
 ghost use Rattle.call_answer.specs.Answers.{Says};
 
@@ -22,7 +23,9 @@ use call_answer::{Said, Study};
 use call_ask::{Form, Table};
 use call_tables::{margins_table, recheck_settled, settle_table};
 use call_verdicts::{Cases, faults_table, verdicts_table};
-use call_work::load::{Bytes, Denial, Halt, Loaded, choose_script, choose_timing, load};
+use call_work::load::{
+    Bytes, Denial, Halt, Loaded, choose_script, choose_timing, load, unknown_script, unknown_timing,
+};
 use draw_shapes::Rows;
 use file_line::print_line;
 use file_records::recorded::{config_text, map_text};
@@ -54,7 +57,8 @@ fn bands_over(
 {
     let study = &loaded.study;
     let Some(i) = choose_script(study.scripts.as_slice(), script) else {
-        return Err(Halt::Denied(Denial::UnknownScript));
+        let why = unknown_script(alloc, study.scripts.as_slice(), script)?;
+        return Err(Halt::Denied(why));
     };
     let compiled = Compiled {
         line: &study.line,
@@ -99,7 +103,7 @@ fn denied(which: Table, scripts: &[Script]) -> Option<Denial>
             if is_part(n as usize, scripts) {
                 None
             } else {
-                Some(Denial::UnknownPart)
+                Some(Denial::UnknownPart(part_count(scripts)))
             }
         }
     }
@@ -112,7 +116,10 @@ pub fn at_most(most: usize, scripts: &[Script]) -> Option<Denial>
     if scripts.len() <= most {
         None
     } else {
-        Some(Denial::TooManyScripts)
+        Some(Denial::TooManyScripts {
+            there: scripts.len(),
+            most,
+        })
     }
 }
 
@@ -160,7 +167,7 @@ fn cases_of(loaded: &Loaded) -> Cases<'_>
     }
 }
 
-/// The timings that fail obligations of a script.
+/// The timings that fail obligations of a script, which is named where there are several.
 pub fn timings(
     alloc: Global,
     bytes: &Bytes,
@@ -171,10 +178,38 @@ pub fn timings(
         result }
 {
     let loaded = load(alloc, bytes)?;
-    let Some(i) = choose_script(loaded.study.scripts.as_slice(), script) else {
-        return Err(Halt::Denied(Denial::UnknownScript));
+    match unnamed(loaded.study.scripts.as_slice(), script) {
+        Some(why) => Err(Halt::Denied(why)),
+        None => timings_of(alloc, loaded.study, script, analyses),
+    }
+}
+
+// Why it is not known which script is meant, if it is not.
+fn unnamed(scripts: &[Script], script: Option<&str>) -> Option<Denial>
+    ensures { result ≡ which_unnamed (length scripts.now) (option_copied script.entry) }
+{
+    match script {
+        None if scripts.len() > 1 => Some(Denial::SeveralScripts(scripts.len())),
+        _ => None,
+    }
+}
+
+// The same of a script of this name, or of the only one.
+fn timings_of(
+    alloc: Global,
+    study: Study,
+    script: Option<&str>,
+    analyses: u32,
+) -> Result<Said, Halt>
+    requires { All (Fits study.line) study.scripts.items }
+    ensures { Gives (answer_by (timings_in study.line study.scripts.items
+        (option_copied script.entry))) result }
+{
+    let Some(i) = choose_script(study.scripts.as_slice(), script) else {
+        let why = unknown_script(alloc, study.scripts.as_slice(), script)?;
+        return Err(Halt::Denied(why));
     };
-    let study = alone(alloc, loaded.study, i)?;
+    let study = alone(alloc, study, i)?;
     let said = failing_said(alloc, &study, analyses)?;
     Ok(said)
 }
@@ -279,10 +314,12 @@ fn played(
         result }
 {
     let Some(i) = choose_script(study.scripts.as_slice(), script) else {
-        return Err(Halt::Denied(Denial::UnknownScript));
+        let why = unknown_script(alloc, study.scripts.as_slice(), script)?;
+        return Err(Halt::Denied(why));
     };
     let Some(j) = choose_timing(timings, timing) else {
-        return Err(Halt::Denied(Denial::UnknownTiming));
+        let why = unknown_timing(alloc, timings, timing)?;
+        return Err(Halt::Denied(why));
     };
     let compiled = Compiled {
         line: &study.line,

@@ -5,7 +5,7 @@ ghost use Rattle.model_line.specs.declared.script.Script.{Script};
 ghost use Rattle.call_answer.specs.{Answers.Says, Study.IsStudy};
 ghost use Rattle.call_study.specs.Settled.{failing_answer, trees_answer};
 
-use call_answer::{Done, Said, Study};
+use call_answer::{Said, Study};
 use call_tables::{settle_all, settle_timings, settle_trees, table_of};
 use model_line::Memory;
 use std::alloc::Global;
@@ -25,7 +25,8 @@ pub fn trees_said(alloc: Global, study: &Study, analyses: u32) -> Result<Said, M
     })
 }
 
-/// The timings that fail obligations of the only script: status 1, or nothing and 0.
+/// The timings that fail obligations of the only script, or nothing; the status is that of the table of
+/// its obligations.
 pub fn failing_said(alloc: Global, study: &Study, analyses: u32) -> Result<Said, Memory>
     requires study { IsStudy study.now }
     requires one { length study.now.scripts.items ≡ 1 }
@@ -34,12 +35,14 @@ pub fn failing_said(alloc: Global, study: &Study, analyses: u32) -> Result<Said,
         Says (failing_answer study.now.line script) said) }
 {
     let rows = settle_all(alloc, study, analyses)?;
+    let table = table_of(alloc, study, rows.as_slice())?;
     let found = settle_timings(alloc, study, rows.as_slice(), 0)?;
+    let status = table.status;
     match found {
-        Some(text) => Ok(Said {
-            status: Done::SomeNo,
-            text,
+        Some(text) => Ok(Said { status, text }),
+        None => Ok(Said {
+            status,
+            text: Vec::new(alloc),
         }),
-        None => Ok(Said::good(Vec::new(alloc))),
     }
 }

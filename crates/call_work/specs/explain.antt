@@ -1,4 +1,3 @@
 pub mod Picked
 pub mod Table
 pub mod Explain
-pub mod Words

@@ -6,3 +6,6 @@ pub mod Denials
 pub mod Studied
 pub mod Loaded
 pub mod ReadingLaws
+pub mod Nearest
+pub mod Fetched
+pub mod Lines

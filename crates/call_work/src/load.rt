@@ -6,10 +6,18 @@
 
 mod choose;
 mod denial;
+mod fetched;
 mod halt;
+mod lines;
+mod nearest;
+mod refused;
 mod sources;
+mod telling;
 
 pub use choose::{choose_script, choose_timing};
 pub use denial::Denial;
-pub use halt::{Halt, put_halt, status_of};
+pub use fetched::{Fetched, Unread, fetch_files};
+pub use halt::{Halt, status_of};
+pub use nearest::{unknown_script, unknown_timing};
 pub use sources::{Bytes, Loaded, load};
+pub use telling::tell;

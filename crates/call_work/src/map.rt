@@ -5,5 +5,5 @@ mod axes;
 mod denial;
 mod said;
 
-pub use denial::{MapDenial, Side, put_map_denial};
+pub use denial::{MapDenial, Side, map_denial_line};
 pub use said::map_of;

@@ -47,7 +47,8 @@ pub record IsUnpicked (line : Line) (scripts : List Script) (bytes : List ℕ) (
 -- why nothing is said: more than 64 scripts; the first fault of the file; a record that is not
 -- picked
 abbrev pub IsExplainFault : Line → List Script → List ℕ → Option ℕ → ExplainFault → Type 0
-IsExplainFault line scripts bytes which fault.TooManyScripts = 64 < length scripts
+IsExplainFault line scripts bytes which (fault.TooManyScripts there) =
+    (there ≡ length scripts) × (64 < there)
 IsExplainFault line scripts bytes which (fault.Record why) =
     records_said line scripts bytes ≡ Err why
 IsExplainFault line scripts bytes which (fault.Unpicked why) =

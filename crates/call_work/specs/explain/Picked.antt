@@ -1,5 +1,5 @@
 -- Which record of a file is asked about.
-use Rattle.std.specs.Prelude.{◌==◌, ℕ, List, [], ◌∷◌, Option, None, Some, Result, Ok, Err}
+use Rattle.std.specs.Prelude.{◌==◌, ℕ, List, [], ◌∷◌, Option, None, Some, Result, Ok, Err, length}
 use Rattle.std.specs.Prelude.{if◌then◌else◌}
 use Rattle.judge_match.specs.matching.Waves.{SeenValues}
 use Rattle.call_work.specs.declared.explain.unpicked.Unpicked.{Unpicked}
@@ -14,4 +14,4 @@ record_of script (r ∷ more) = if r.script == script then Ok r else record_of s
 abbrev pub picked : Option ℕ → List SeenValues → Result SeenValues Unpicked
 picked (Some script) records = record_of script records
 picked None (r ∷ []) = Ok r
-picked None _ = Err Several
+picked None records = Err (Several (length records))

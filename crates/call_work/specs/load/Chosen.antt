@@ -16,6 +16,9 @@ abbrev pub place_chosen : {A : Type 0} → (A → List ℕ) → List A → Optio
 place_chosen name_of list None = first_place list
 place_chosen name_of list (Some name) = position_from (λ a. bytes_eq (name_of a) name) 0 list
 
+abbrev pub name_of_script : Script → List ℕ
+name_of_script script = script.name
+
 abbrev pub chosen_script : List Script → Option (List ℕ) → Option ℕ
 chosen_script scripts name = place_chosen (λ script. script.name) scripts name
 

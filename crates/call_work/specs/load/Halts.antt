@@ -1,10 +1,9 @@
--- How a call ends: the exit status, and the line that says it.
-use Rattle.std.specs.Prelude.{ℕ, List, [], Result, Ok, Err}
+-- How a call ends: the exit status.
+use Rattle.std.specs.Prelude.{ℕ, Result, Ok, Err}
 use Rattle.call_answer.specs.declared.done.Done.{Done}
 use Rattle.call_answer.specs.declared.done.Done.TheVariants as done
-use Rattle.call_files.specs.Messages.{message_of}
 use Rattle.call_files.specs.declared.stop.Stop.TheVariants as stop
-use Rattle.call_work.specs.load.Denials.{denial_line, denial_status}
+use Rattle.call_work.specs.load.Denials.{denial_status}
 use Rattle.call_work.specs.declared.load.halt.Halt.{Halt}
 use Rattle.call_work.specs.declared.load.halt.Halt.TheVariants as halt
 
@@ -16,10 +15,6 @@ halt_status (halt.Stopped (stop.Store file)) = 6
 halt_status (halt.Stopped stop.Sink) = 7
 halt_status (halt.Stopped stop.Memory) = 8
 halt_status (halt.Denied why) = denial_status why
-
-abbrev pub halt_line : Halt → List ℕ
-halt_line (halt.Stopped why) = message_of why
-halt_line (halt.Denied why) = denial_line why
 
 -- what is asked for is done, or why not
 abbrev pub End : Type 0
@@ -35,11 +30,6 @@ done_status done.Rejected = 3
 abbrev pub status_of : End → ℕ
 status_of (Ok d) = done_status d
 status_of (Err why) = halt_status why
-
--- the line on err: none where it is done
-abbrev pub line_of : End → List ℕ
-line_of (Ok _) = []
-line_of (Err why) = halt_line why
 
 -- the words and files alone decide: it is done, a file is refused, or what they say is denied
 abbrev pub IsAnswer : End → Type 0

@@ -2,7 +2,7 @@
 -- file that is too long or that a reader refuses, and then by a name that its file has not.
 use Rattle.std.specs.Prelude.{◌≡◌, ◌∷◌, ℕ, List, [], Option, None, Some}
 use Rattle.std.specs.Prelude.{Result, Ok, Err, if◌then◌else◌, length, nat_le, option_map, slice_get}
-use Rattle.file_study.specs.sweeps.Parts.{is_part}
+use Rattle.file_study.specs.sweeps.Parts.{is_part, parts_of}
 use Rattle.draw_shapes.specs.declared.rows.Rows.{Rows}
 use Rattle.model_line.specs.{declared.line.Line.Line, declared.script.Script.Script}
 use Rattle.model_timing.specs.NamedValues.{NamedValues}
@@ -26,6 +26,7 @@ use Rattle.call_work.specs.declared.load.denial.Denial.TheVariants as denial
 use Rattle.call_work.specs.declared.load.halt.Halt.TheVariants as halt
 use Rattle.call_work.specs.load.Request as request
 use Rattle.call_work.specs.{load.Chosen.chosen_script, load.Chosen.chosen_timing}
+use Rattle.call_work.specs.load.Nearest.{IsUnknownScript, IsUnknownTiming}
 use Rattle.call_work.specs.load.Request.{Asked, Request, Source}
 use Rattle.call_work.specs.load.Studied.{Given, Studied, of_files, of_study_file, refused_by}
 
@@ -45,21 +46,25 @@ pub data Wanted : Type 0 where
 abbrev pub Reading : Type 1
 Reading = (Halt → Type 0) → (Wanted → Type 0) → Type 0
 
+-- it is denied, for this reason
+abbrev pub denied_by : (Denial → Type 0) → (Halt → Type 0) → Type 0
+denied_by IsWhy halted = (why : Denial) × IsWhy why × halted (halt.Denied why)
+
 -- what holds of the element at a place, or of why there is no such place
-abbrev pub of_place : {A : Type 0} → List A → Option ℕ → Halt → (Halt → Type 0) → (A → Type 0)
-    → Type 0
-of_place {A = A} list (Some i) none halted holds = (a : A) × (slice_get list i ≡ Some a) × holds a
-of_place list None none halted holds = halted none
+abbrev pub of_place : {A : Type 0} → List A → Option ℕ → (Denial → Type 0) → (Halt → Type 0)
+    → (A → Type 0) → Type 0
+of_place {A = A} list (Some i) IsWhy halted holds = (a : A) × (slice_get list i ≡ Some a) × holds a
+of_place list None IsWhy halted holds = denied_by IsWhy halted
 
 -- the script that is asked for, and then the timing
 abbrev pub of_script : List Script → Option (List ℕ) → (Halt → Type 0) → (Script → Type 0) → Type 0
 of_script scripts name halted holds =
-    of_place scripts (chosen_script scripts name) (halt.Denied denial.UnknownScript) halted holds
+    of_place scripts (chosen_script scripts name) (IsUnknownScript scripts name) halted holds
 
 abbrev pub of_timing : List NamedValues → Option (List ℕ) → (Halt → Type 0)
     → (NamedValues → Type 0) → Type 0
 of_timing all name halted holds =
-    of_place all (chosen_timing all name) (halt.Denied denial.UnknownTiming) halted holds
+    of_place all (chosen_timing all name) (IsUnknownTiming all name) halted holds
 
 -- every choice of delays, over what a source says
 abbrev pub bands_of : Rows → Given → Option (List ℕ) → Reading
@@ -83,7 +88,8 @@ play_of form given timings_bytes script timing halted holds =
 
 -- so many scripts at most
 abbrev pub at_most : ℕ → ℕ → Option Denial
-at_most most scripts = if nat_le scripts most then None else Some denial.TooManyScripts
+at_most most scripts =
+    if nat_le scripts most then None else Some (denial.TooManyScripts scripts most)
 
 -- most work over all scripts takes 64, a map 4,096; the tables of settled obligations, of verdicts and
 -- of faults as many as a study can come to, 1,000 faults of 4,096; and there are as many parts as hold 64 each
@@ -95,7 +101,7 @@ denied_of (tables.Trees analyses) scripts = at_most 64 scripts
 denied_of tables.Margins scripts = at_most 64 scripts
 denied_of tables.Line scripts = None
 denied_of (tables.Part n) scripts =
-    if is_part n scripts then None else Some denial.UnknownPart
+    if is_part n scripts then None else Some (denial.UnknownPart (parts_of scripts))
 
 abbrev pub unless_denied : Option Denial → (Halt → Type 0) → Type 0 → Type 0
 unless_denied None halted holds = holds
@@ -107,11 +113,20 @@ table_of which given halted holds =
     given halted (λ studied. unless_denied (denied_of which (length studied.scripts)) halted
     (holds (table which studied)))
 
+-- where there are several scripts, one has to be named
+abbrev pub which_unnamed : ℕ → Option (List ℕ) → Option Denial
+which_unnamed scripts None = if nat_le scripts 1 then None else Some (denial.SeveralScripts scripts)
+which_unnamed scripts (Some name) = None
+
 -- the timings that fail obligations of a script
+abbrev pub timings_in : Line → List Script → Option (List ℕ) → Reading
+timings_in line scripts script halted holds =
+    of_script scripts script halted (λ chosen. holds (timings line chosen))
+
 abbrev pub timings_over : Given → Option (List ℕ) → Reading
 timings_over given script halted holds =
-    given halted (λ studied. of_script studied.scripts script halted
-    (λ chosen. holds (timings studied.line chosen)))
+    given halted (λ studied. unless_denied (which_unnamed (length studied.scripts) script) halted
+    (timings_in studied.line studied.scripts script halted holds))
 
 -- whether trees are accepted, over their bytes
 abbrev pub recheck_of : Given → List ℕ → Reading
@@ -124,9 +139,10 @@ abbrev pub which_script : List Script → Option (List ℕ) → Option (Option �
 which_script scripts None = Some None
 which_script scripts (Some name) = option_map Some (chosen_script scripts (Some name))
 
-abbrev pub of_which : Option (Option ℕ) → (Halt → Type 0) → (Option ℕ → Type 0) → Type 0
-of_which (Some which) halted holds = holds which
-of_which None halted holds = halted (halt.Denied denial.UnknownScript)
+abbrev pub of_which : Option (Option ℕ) → (Denial → Type 0) → (Halt → Type 0)
+    → (Option ℕ → Type 0) → Type 0
+of_which (Some which) IsWhy halted holds = holds which
+of_which None IsWhy halted holds = denied_by IsWhy halted
 
 -- the one of the records that is asked about
 abbrev pub of_pick : Result SeenValues Unpicked → (Halt → Type 0) → Type 0 → Type 0
@@ -136,14 +152,14 @@ of_pick (Err why) halted holds = halted (halt.Denied (denial.Record why))
 -- what explains a record of a line's scripts, over the bytes of its file
 abbrev pub explain_in : ℕ → ExplainForm → Line → List Script → List ℕ → Option (List ℕ) → Reading
 explain_in within form line scripts record_bytes script halted holds =
-    of_which (which_script scripts script) halted
+    of_which (which_script scripts script) (IsUnknownScript scripts script) halted
     (λ which. of_record (records_said line scripts record_bytes) (λ why. halted (refused_by why))
     (λ records. of_pick (picked which records) halted
     (holds (explain within form which line scripts record_bytes))))
 
 -- why nothing is said of it
 abbrev pub explain_halt : ExplainFault → Halt
-explain_halt explain_fault.TooManyScripts = halt.Denied denial.TooManyScripts
+explain_halt (explain_fault.TooManyScripts there) = halt.Denied (denial.TooManyScripts there 64)
 explain_halt (explain_fault.Record why) = refused_by (refusal.Record why)
 explain_halt (explain_fault.Unpicked why) = halt.Denied (denial.Record why)
 

@@ -29,7 +29,7 @@ pub fn explain_said(alloc: Global, asked: &Asked) -> Result<Said, Stopped<Explai
         asked.now.script)) }
 {
     if asked.scripts.len() > 64 {
-        return Err(Stopped::Fault(ExplainFault::TooManyScripts));
+        return Err(Stopped::Fault(ExplainFault::TooManyScripts(asked.scripts.len())));
     }
     let records = match read_seen(alloc, asked.compiled.line, asked.scripts, asked.record) {
         Ok(records) => records,

@@ -23,7 +23,7 @@ pub fn pick(which: Option<u32>, records: &[Seen]) -> Result<&Seen, Unpicked>
             if records.len() == 1 {
                 Ok(&records[0])
             } else {
-                Err(Unpicked::Several)
+                Err(Unpicked::Several(records.len()))
             }
         }
     }

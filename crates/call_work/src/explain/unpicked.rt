@@ -3,8 +3,8 @@
 /// Why no record of a file is picked.
 #[derive(Clone, Copy)]
 pub enum Unpicked {
-    /// There are several records, and no script is named.
-    Several,
+    /// No script is named, and there are so many records, not one.
+    Several(usize),
     /// No record is of the script that is named.
     Missing,
 }

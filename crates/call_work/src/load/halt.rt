@@ -1,18 +1,17 @@
 //! Why what is asked for is not done.
 
 ghost use Rattle.std.specs.Prelude.{◌≡◌};
-ghost use Rattle.call_answer.specs.Sinks.{Puts, sink_view};
 ghost use Rattle.call_files.specs.declared.stop.Stop.TheVariants.{Memory, Sink};
-ghost use Rattle.call_work.specs.load.Halts.{halt_line, status_of as end_status};
+ghost use Rattle.call_work.specs.load.Halts.{status_of as end_status};
 ghost use Rattle.call_work.specs.declared.load.halt.Halt.TheVariants as halt_of;
 
 use crate::explain::ExplainFault;
-use crate::load::denial::{Denial, put_denial};
+use crate::load::denial::Denial;
 use crate::map::MapDenial;
 use base_memory::{Memory, Stopped};
-use base_text::store::{PutFailed, Sink};
+use base_text::store::PutFailed;
 use call_answer::Done;
-use call_files::{Refusal, Stop, put_message};
+use call_files::{Refusal, Stop};
 use file_document::DocumentFault;
 use file_study::sweeps::StudySweepFault;
 use file_tables::timing::TimingFault;
@@ -53,17 +52,6 @@ pub fn status_of(end: Result<Done, Halt>) -> u8
         Ok(Done::SomeUndecided) => 2,
         Ok(Done::Rejected) => 3,
         Err(halt) => halt.status(),
-    }
-}
-
-/// Pushes the line that says it.
-pub fn put_halt<K: Sink>(sink: &mut K, halt: &Halt) -> Result<(), PutFailed>
-    ensures { Puts (sink_view K.written K.faults sink.old) (sink_view K.written K.faults sink.new)
-        (halt_line halt.now) result }
-{
-    match halt {
-        Halt::Stopped(stop) => put_message(sink, stop),
-        Halt::Denied(why) => put_denial(sink, why),
     }
 }
 
@@ -131,7 +119,9 @@ impl From<Stopped<ExplainFault>> for Halt {
 
     fn from(why: Stopped<ExplainFault>) -> Self {
         match why {
-            Stopped::Fault(ExplainFault::TooManyScripts) => Halt::Denied(Denial::TooManyScripts),
+            Stopped::Fault(ExplainFault::TooManyScripts(there)) => {
+                Halt::Denied(Denial::TooManyScripts { there, most: 64 })
+            }
             Stopped::Fault(ExplainFault::Record(fault)) => {
                 Halt::Stopped(Stop::Refused(Refusal::Record(fault)))
             }

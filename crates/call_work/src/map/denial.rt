@@ -1,8 +1,7 @@
 //! Why there is no such map.
 
-ghost use Rattle.std.specs.Prelude.{◌≡◌, []};
+ghost use Rattle.std.specs.Prelude.{◌≡◌, [], IfOk};
 ghost use Rattle.std.specs.List.{concat};
-ghost use Rattle.call_answer.specs.Sinks.{Puts, sink_view};
 ghost use Rattle.call_work.specs.map.Denials.{fault_pieces, map_denial_pieces, number_in as number_of};
 ghost use Rattle.call_work.specs.map.Denials.{number_words, pieces_of};
 ghost use Rattle.call_work.specs.map.Denials.{map_denial_status, side_words as words_of_side};
@@ -10,13 +9,13 @@ ghost use Rattle.call_work.specs.map.Denials.{where_words as words_of_place, wor
 ghost use Rattle.base_memory.specs.declared.stopped.Stopped.TheVariants as stopped;
 ghost use Rattle.file_study.specs.times.AxisWords.{what_words};
 
-use base_memory::Stopped;
-use base_text::store::{PutFailed, Sink};
-use call_answer::put_pieces;
+use base_memory::{Memory, Stopped};
+use call_answer::text_of;
 use file_study::times::AxisFault;
 use itoa::Buffer;
 use judge_margins::map::MapFault;
 use model_line::Name;
+use std::alloc::Global;
 
 /// The axis of the columns, or that of the rows.
 #[derive(Clone, Copy)]
@@ -74,23 +73,21 @@ fn words_status(why: AxisFault) -> u8
     }
 }
 
-/// Pushes the line that says it: `refused map: x: WHAT`.
-pub fn put_map_denial<K: Sink>(sink: &mut K, why: &MapDenial) -> Result<(), PutFailed>
-    ensures { Puts (sink_view K.written K.faults sink.old) (sink_view K.written K.faults sink.new)
-        (concat (map_denial_pieces why.now)) result }
+/// The line that says it: `refused map: x: WHAT`.
+pub fn map_denial_line(alloc: Global, why: &MapDenial) -> Result<Vec<u8>, Memory>
+    ensures { IfOk result (λ text. text.items ≡ concat (map_denial_pieces why.now)) }
 {
     match why {
-        MapDenial::Words(side, fault) => put_words(sink, *side, *fault),
-        MapDenial::Twice(name) => put_name(sink, name.bytes(), b" moves along both axes"),
-        MapDenial::Fault(fault) => put_fault(sink, fault),
+        MapDenial::Words(side, fault) => words_line(alloc, *side, *fault),
+        MapDenial::Twice(name) => name_line(alloc, name.bytes(), b" moves along both axes"),
+        MapDenial::Fault(fault) => fault_line(alloc, fault),
     }
 }
 
-// Pushes what is wrong with the words of an axis.
-fn put_words<K: Sink>(sink: &mut K, side: Side, fault: AxisFault) -> Result<(), PutFailed>
-    ensures { Puts (sink_view K.written K.faults sink.old) (sink_view K.written K.faults sink.new)
-        (concat (pieces_of (words_of_side side) (words_of_place fault)
-        (number_words (number_of fault)) (what_words fault))) result }
+// The line of what is wrong with the words of an axis.
+fn words_line(alloc: Global, side: Side, fault: AxisFault) -> Result<Vec<u8>, Memory>
+    ensures { IfOk result (λ text. text.items ≡ concat (pieces_of (words_of_side side) (words_of_place fault)
+        (number_words (number_of fault)) (what_words fault))) }
 {
     let side = side_words(side);
     let place = place_words(fault);
@@ -99,9 +96,9 @@ fn put_words<K: Sink>(sink: &mut K, side: Side, fault: AxisFault) -> Result<(), 
         Some(number) => {
             let mut digits = Buffer::new();
             let number = digits.format(number).as_bytes();
-            put_line(sink, side, place, number, what)
+            line_of(alloc, side, place, number, what)
         }
-        None => put_line(sink, side, place, b"", what),
+        None => line_of(alloc, side, place, b"", what),
     }
 }
 
@@ -124,41 +121,38 @@ fn number_in(fault: AxisFault) -> Option<usize>
     }
 }
 
-// Pushes which cell there cannot be.
-fn put_fault<K: Sink>(sink: &mut K, fault: &MapFault) -> Result<(), PutFailed>
-    ensures { Puts (sink_view K.written K.faults sink.old) (sink_view K.written K.faults sink.new)
-        (concat (fault_pieces fault.now)) result }
+// The line of which cell there cannot be.
+fn fault_line(alloc: Global, fault: &MapFault) -> Result<Vec<u8>, Memory>
+    ensures { IfOk result (λ text. text.items ≡ concat (fault_pieces fault.now)) }
 {
     match fault {
-        MapFault::Late(name) => put_name(sink, name.bytes(), b" would go beyond 4000 ticks"),
+        MapFault::Late(name) => name_line(alloc, name.bytes(), b" would go beyond 4000 ticks"),
         MapFault::NoDelay(name) => {
-            put_name(sink, name.bytes(), b" is a delay and would begin at 0")
+            name_line(alloc, name.bytes(), b" is a delay and would begin at 0")
         }
-        MapFault::TooMany => put_name(sink, b"", b"more than 40000 cells"),
+        MapFault::TooMany => name_line(alloc, b"", b"more than 40000 cells"),
     }
 }
 
-// Pushes what is wrong with a parameter.
-fn put_name<K: Sink>(sink: &mut K, name: &[u8], what: &[u8]) -> Result<(), PutFailed>
-    ensures { Puts (sink_view K.written K.faults sink.old) (sink_view K.written K.faults sink.new)
-        (concat (pieces_of [] name.now [] what.now)) result }
+// The line of what is wrong with a parameter.
+fn name_line(alloc: Global, name: &[u8], what: &[u8]) -> Result<Vec<u8>, Memory>
+    ensures { IfOk result (λ text. text.items ≡ concat (pieces_of [] name.now [] what.now)) }
 {
-    put_line(sink, b"", name, b"", what)
+    line_of(alloc, b"", name, b"", what)
 }
 
-// Pushes a line: of which axis, where in its words, and what is wrong.
-fn put_line<'a, K: Sink>(
-    sink: &mut K,
+// The line: of which axis, where in its words, and what is wrong.
+fn line_of<'a>(
+    alloc: Global,
     side: &'a [u8],
     place: &'a [u8],
     number: &'a [u8],
     what: &'a [u8],
-) -> Result<(), PutFailed>
-    ensures { Puts (sink_view K.written K.faults sink.old) (sink_view K.written K.faults sink.new)
-        (concat (pieces_of side.now place.now number.now what.now)) result }
+) -> Result<Vec<u8>, Memory>
+    ensures { IfOk result (λ text. text.items ≡ concat (pieces_of side.now place.now number.now what.now)) }
 {
     let head: &'a [u8] = b"refused map: ";
-    put_pieces(sink, &[head, side, place, number, what, b"\n"])
+    text_of(alloc, &[head, side, place, number, what, b"\n"])
 }
 
 fn side_words(side: Side) -> &'static [u8]

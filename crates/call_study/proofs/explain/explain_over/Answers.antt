@@ -4,9 +4,10 @@ use Rattle.std.proofs.lemmas.Result.{err_from_is_err_and}
 use Rattle.call_study.proofs.Explaining.{explain_halts}
 use Rattle.call_study.proofs.explain.explain_over.Goals as goal
 
-pub returns-in_default : goal.returns-in_default
-returns-in_default c =
-    rw (sym (rw c.as_slice-scripts.ensures.value at c.in_default.ensures)) (refl, refl)
+pub returns-in_ok-why-in_default : goal.returns-in_ok-why-in_default
+returns-in_ok-why-in_default c =
+    rw (sym (rw c.as_slice-scripts.ensures.value at c.in_default.ensures))
+    (_, rw c.as_slice-scripts.ensures.value at c.in_ok-why-in_default.ensures, (refl, refl))
 
 pub returns-in_err-said : goal.returns-in_err-said
 returns-in_err-said c =

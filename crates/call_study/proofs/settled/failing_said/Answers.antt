@@ -4,19 +4,21 @@ use Rattle.call_study.proofs.settled.failing_said.Goals as goal
 pub returns-in-Some : goal.returns-in-Some
 returns-in-Some c = λ script one.
     let at : slice_get c.args.study.now.scripts.items 0 ≡ Some script = rw one refl in
-    let found = rw (c.as_slice.ensures.value, c.in-Some.is) at (c.in_ok-found.ensures script at) in
+    let found = rw (c.as_slice-found.ensures.value, c.in-Some.is) at (c.in_ok-found.ensures script at) in
     record {
       rows = c.in_ok-rows.rows.items;
       are = rw one at c.in_ok-rows.ensures;
-      failing = inr (refl, found);
+      status_is = rw c.as_slice.ensures.value at c.in_ok-table.ensures.status_is;
+      failing = inr found;
     }
 
-pub returns : goal.returns
-returns c = λ script one.
+pub returns-in-None : goal.returns-in-None
+returns-in-None c = λ script one.
     let at : slice_get c.args.study.now.scripts.items 0 ≡ Some script = rw one refl in
-    let found = rw (c.as_slice.ensures.value, c.in-None.is) at (c.in_ok-found.ensures script at) in
-    rw c.good.ensures (record {
+    let found = rw (c.as_slice-found.ensures.value, c.in-None.is) at (c.in_ok-found.ensures script at) in
+    record {
       rows = c.in_ok-rows.rows.items;
       are = rw one at c.in_ok-rows.ensures;
-      failing = inl (found, refl, c.new.ensures.items);
-    })
+      status_is = rw c.as_slice.ensures.value at c.in_ok-table.ensures.status_is;
+      failing = inl (found, c.new.ensures.items);
+    }

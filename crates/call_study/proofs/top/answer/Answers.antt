@@ -7,11 +7,8 @@ returns-in_err-put_all g c =
     c.from_residual-in_err-put_all.ensures.1 in
     let said = c.in_ok-said.said in
     let put = c.in_err-put_all.ensures in
-    rw (p.1, p.2) (
-      c.in_ok-said.ensures.0,
-      record {
-        text = said.text.items;
-        is = (said.status, c.in_ok-said.ensures.1);
-        grew = (put.failed, rw c.as_slice.ensures.value at put.part);
-      },
-    )
+    rw (p.1, p.2) (record {
+      text = said.text.items;
+      is = (said.status, c.in_ok-said.ensures);
+      grew = (put.failed, rw c.as_slice.ensures.value at put.part);
+    })

@@ -1,8 +1,8 @@
 use Rattle.std.proofs.Common.{sym}
-use Rattle.call_work.proofs.map.denial.put_words.Goals as goal
+use Rattle.call_work.proofs.map.denial.words_line.Goals as goal
 
 pub returns-in-Some : goal.returns-in-Some
-returns-in-Some g c =
+returns-in-Some c =
     rw (sym c.in-Some.ensures)
     (rw (
       c.side_words-side.ensures,
@@ -12,10 +12,10 @@ returns-in-Some g c =
       c.as_bytes-what.ensures.value,
       c.words.ensures,
     )
-    at c.put_line.ensures)
+    at c.line_of.ensures)
 
 pub returns-in-None : goal.returns-in-None
-returns-in-None g c =
+returns-in-None c =
     rw (sym c.in-None.ensures)
     (rw (
       c.side_words-side.ensures,
@@ -23,4 +23,4 @@ returns-in-None g c =
       c.as_bytes-what.ensures.value,
       c.words.ensures,
     )
-    at c.put_line-in-None.ensures)
+    at c.line_of-in-None.ensures)

@@ -1,0 +1,99 @@
+//! Which of the names that there are is nearest to one that there is not.
+
+ghost use Rattle.std.specs.Prelude.{◌≡◌, IfOk, map};
+ghost use Rattle.std.specs.Option.{option_copied};
+ghost use Rattle.call_work.specs.load.Chosen.{name_of_script, name_of_timing};
+ghost use Rattle.call_work.specs.load.Nearest.{IsNearest, IsUnknown, IsUnknownScript, near_name, nearer as nearer_of};
+ghost use Rattle.call_work.specs.declared.load.denial.Denial.TheVariants.{UnknownTiming};
+
+use crate::load::denial::Denial;
+use model_line::{Memory, Name, Script};
+use model_timing::NamedTiming;
+use std::alloc::Global;
+use strsim::generic_levenshtein;
+
+/// A name, and how many edits of its bytes make it the one that is asked for.
+#[derive(Clone, Copy)]
+pub struct Near {
+    pub name: Name,
+    pub edits: usize,
+}
+
+/// That no script has the name, and the nearest that one has.
+pub fn unknown_script(
+    alloc: Global,
+    scripts: &[Script],
+    name: Option<&str>,
+) -> Result<Denial, Memory>
+    ensures { IfOk result (IsUnknownScript scripts.now (option_copied name.entry)) }
+{
+    match name {
+        Some(name) => {
+            let near = nearest_script(alloc, scripts, name.as_bytes())?;
+            Ok(Denial::UnknownScript(near))
+        }
+        None => Ok(Denial::UnknownScript(None)),
+    }
+}
+
+/// That no timing has the name, and the nearest that one has.
+pub fn unknown_timing(
+    alloc: Global,
+    timings: &[NamedTiming],
+    name: Option<&str>,
+) -> Result<Denial, Memory>
+    ensures { IfOk result (IsUnknown UnknownTiming (map name_of_timing timings.now)
+        (option_copied name.entry)) }
+{
+    match name {
+        Some(name) => {
+            let near = nearest_timing(alloc, timings, name.as_bytes())?;
+            Ok(Denial::UnknownTiming(near))
+        }
+        None => Ok(Denial::UnknownTiming(None)),
+    }
+}
+
+fn nearest_script(alloc: Global, scripts: &[Script], asked: &[u8]) -> Result<Option<Name>, Memory>
+    ensures { IfOk result (IsNearest (map name_of_script scripts.now) asked.now) }
+{
+    let mut near: Option<Near> = None;
+    for i in 0..scripts.len() {
+        near = Some(nearer(alloc, near, scripts[i].name, asked)?);
+    }
+    Ok(name_in(near))
+}
+
+fn nearest_timing(
+    alloc: Global,
+    timings: &[NamedTiming],
+    asked: &[u8],
+) -> Result<Option<Name>, Memory>
+    ensures { IfOk result (IsNearest (map name_of_timing timings.now) asked.now) }
+{
+    let mut near: Option<Near> = None;
+    for i in 0..timings.len() {
+        near = Some(nearer(alloc, near, timings[i].name, asked)?);
+    }
+    Ok(name_in(near))
+}
+
+// The nearer of the nearest so far and another name.
+fn nearer(alloc: Global, so_far: Option<Near>, name: Name, asked: &[u8]) -> Result<Near, Memory>
+    ensures { IfOk result (λ near. near ≡ nearer_of asked.now so_far name) }
+{
+    let edits = generic_levenshtein(alloc, name.bytes(), asked)?;
+    match so_far {
+        Some(near) if near.edits <= edits => Ok(near),
+        _ => Ok(Near { name, edits }),
+    }
+}
+
+fn name_in(near: Option<Near>) -> Option<Name>
+    ensures { result ≡ near_name near }
+{
+    match near {
+        Some(near) => Some(near.name),
+        None => None,
+    }
+}
