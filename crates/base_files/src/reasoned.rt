@@ -4,8 +4,7 @@ ghost use Rattle.std.specs.Prelude.{◌≡◌};
 ghost use Rattle.base_files.specs.declared.reason.Reason.{Reason as ReasonOf};
 
 use crate::reason::Reason;
-use base_text::store::{FileStore, MemoryStore, Store};
-use std::rt::Files;
+use base_text::store::{MemoryStore, Store};
 
 /// A store that knows why its latest failed pull failed.
 pub trait Reasoned: Store {
@@ -18,17 +17,6 @@ pub trait Reasoned: Store {
 }
 
 impl Reasoned for MemoryStore {
-    ghost use Rattle.base_files.specs.declared.reason.Reason.TheVariants as reason;
-
-    ghost why = { λ _. reason.Other };
-
-    fn reason(&self) -> Reason {
-        Reason::Other
-    }
-}
-
-/// It knows no reason.
-impl<R: Files> Reasoned for FileStore<'_, R> {
     ghost use Rattle.base_files.specs.declared.reason.Reason.TheVariants as reason;
 
     ghost why = { λ _. reason.Other };

@@ -10,7 +10,6 @@ mod fetched;
 mod halt;
 mod lines;
 mod nearest;
-mod refused;
 mod sources;
 mod telling;
 

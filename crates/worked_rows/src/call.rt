@@ -16,20 +16,22 @@ pub const LONGEST: u32 = 4_194_304;
 const LONGEST_TEXT: u32 = 65_536;
 
 // More than any line on standard error has.
-const LONGEST_MESSAGE: u32 = 400;
+const LONGEST_MESSAGE: u32 = 4096;
 
 /// A call: its words, of which the first names a program, and what was said of it.
 #[derive(Drop)]
 pub struct Call<'a> {
     pub words: Vec<String>,
+    /// The files beside those of the words: those that a file names.
+    pub beside: Vec<&'a str>,
     pub changes: Vec<Change<'a>>,
     pub failing: Failings,
     /// Whether anything was said of it.
     pub is_said: bool,
 }
 
-/// Reads the words that a line has behind `$`, where `''` is the empty one, and answers whether the
-/// line is a call.
+/// Reads the words that a line has behind `$`, where `''` is the empty one and `\s` a blank in one,
+/// and answers whether the line is a call.
 pub fn read_words(alloc: Global, line: &str, words: &mut Vec<String>) -> Result<bool, AllocError> {
     let mut spelled = line.split_whitespace();
     if spelled.next() != Some("$") {
@@ -37,7 +39,7 @@ pub fn read_words(alloc: Global, line: &str, words: &mut Vec<String>) -> Result<
     }
     for word in spelled {
         let word = if word == "''" { "" } else { word };
-        words.push(String::from_str(alloc, word)?)?;
+        words.push(word.replace(alloc, "\\s", " ")?)?;
     }
     Ok(true)
 }
@@ -90,7 +92,8 @@ fn put_lines<O: Sink>(out: &mut O, words: &[u8], written: &[u8]) -> Result<(), F
     Ok(())
 }
 
-// Holds the files that the words behind the program and its command name, as the changes make them.
+// Holds the files that the words behind the program and its command name, and those beside them, as
+// the changes make them.
 fn hold_files<F: Store>(
     alloc: Global,
     made: &Call<'_>,
@@ -98,12 +101,15 @@ fn hold_files<F: Store>(
     store: &mut MemoryStore,
 ) -> Result<(), Fault> {
     for change in made.changes.as_slice() {
-        if !has_word(made.words.as_slice(), change.file) {
+        if !has_word(made.words.as_slice(), change.file) && !made.beside.contains(&change.file) {
             return Err(Fault::File);
         }
     }
     for word in made.words.iter().skip(2) {
         hold_file(alloc, word.as_str(), made.changes.as_slice(), files, store)?;
+    }
+    for name in made.beside.as_slice() {
+        hold_file(alloc, *name, made.changes.as_slice(), files, store)?;
     }
     Ok(())
 }

@@ -1,13 +1,18 @@
-//! The programs whose calls are made: `pilot`, and `study lint` over a study, or over a line file and
-//! a file of scripts.
+//! The programs whose calls are made: `pilot`, and `study` with each of its commands.
 
-use crate::call::LONGEST;
 use crate::fault::Fault;
-use base_text::store::{MemorySink, MemoryStore, fetch, put_all};
+use base_text::store::{MemorySink, MemoryStore, put_all};
 use call_engine::NetEngine;
-use call_lint::lint::{Linted, Names, lint_line, lint_study};
 use call_pilot::top::pilot;
+use call_records::records;
+use call_study::study;
+use call_words::{Call, Event, command, words_of};
+use call_work::load::status_of;
+use clap::{ArgMatches, Error};
 use std::alloc::Global;
+
+// The status of words that ask for nothing.
+const USAGE: u8 = 4;
 
 /// Makes a call of these words over the store, the first of which names the program, and gives its
 /// status.
@@ -18,42 +23,84 @@ pub fn call(
     out: &mut MemorySink,
     err: &mut MemorySink,
 ) -> Result<u8, Fault> {
-    let Some((program, words)) = words.split_first() else {
+    let Some((program, rest)) = words.split_first() else {
         return Err(Fault::Line);
     };
     match program.as_str() {
         "pilot" => {
             let mut engine = NetEngine::new();
-            Ok(pilot(alloc, words, &mut engine, store, out, err) as u8)
+            Ok(pilot(alloc, rest, &mut engine, store, out, err) as u8)
         }
-        "study" => {
-            let linted = linted_of(alloc, words, store)?;
-            put_all(out, linted.text.as_slice())?;
-            Ok(linted.outcome.status())
-        }
+        "study" => over_words(alloc, words, store, out, err),
         _ => Err(Fault::Line),
     }
 }
 
-// What is said of the files that the words name.
-fn linted_of(alloc: Global, words: &[String], store: &mut MemoryStore) -> Result<Linted, Fault> {
-    let [command, first, ..] = words else {
-        return Err(Fault::Line);
-    };
-    if command.as_str() != "lint" {
-        return Err(Fault::Line);
+// A call of `study`, whose words are read as the program reads them.
+fn over_words(
+    alloc: Global,
+    words: &[String],
+    store: &mut MemoryStore,
+    out: &mut MemorySink,
+    err: &mut MemorySink,
+) -> Result<u8, Fault> {
+    match command(alloc)?.try_get_matches_from(words) {
+        Ok(matches) => over_matches(alloc, &matches, store, out, err),
+        Err(error) => told(alloc, &error, err),
     }
-    let line = fetch(alloc, store, first.as_str(), LONGEST)?;
-    let linted = match words.get(2) {
-        None => lint_study(alloc, line.as_slice(), first.as_str()),
-        Some(second) => {
-            let scripts = fetch(alloc, store, second.as_str(), LONGEST)?;
-            let names = Names {
-                line: first.as_str(),
-                scripts: second.as_str(),
-            };
-            lint_line(alloc, line.as_slice(), scripts.as_slice(), names)
-        }
-    };
-    Ok(linted?)
+}
+
+// Words that the command line does not take: what is said of them, and the status.
+fn told(alloc: Global, error: &Error, err: &mut MemorySink) -> Result<u8, Fault> {
+    let text = format!(in alloc; "{error}")?;
+    put_all(err, text.as_bytes())?;
+    Ok(USAGE)
+}
+
+// What the words that match the command line ask for.
+fn over_matches(
+    alloc: Global,
+    matches: &ArgMatches<'_>,
+    store: &mut MemoryStore,
+    out: &mut MemorySink,
+    err: &mut MemorySink,
+) -> Result<u8, Fault> {
+    match words_of(matches) {
+        Some(words) => Ok(made(alloc, &words.call, store, out, err)),
+        None => Ok(USAGE),
+    }
+}
+
+// The status of a call. Of a play as a record the three texts follow one another.
+fn made(
+    alloc: Global,
+    call: &Call<'_>,
+    store: &mut MemoryStore,
+    out: &mut MemorySink,
+    err: &mut MemorySink,
+) -> u8 {
+    match call {
+        Call::Study(ask) => status_of(study(alloc, ask, store, out, err)),
+        Call::Records(ask) => call_records::status_of(&records(alloc, ask, store, out, err)),
+        Call::Event(event) => event_made(alloc, event, store, out, err),
+    }
+}
+
+// The status of the first of the three texts that is not written.
+fn event_made(
+    alloc: Global,
+    event: &Event<'_>,
+    store: &mut MemoryStore,
+    out: &mut MemorySink,
+    err: &mut MemorySink,
+) -> u8 {
+    let config = status_of(study(alloc, &event.config, store, out, err));
+    if config != 0 {
+        return config;
+    }
+    let samples = status_of(study(alloc, &event.samples, store, out, err));
+    if samples != 0 {
+        return samples;
+    }
+    status_of(study(alloc, &event.map, store, out, err))
 }

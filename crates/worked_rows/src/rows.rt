@@ -19,6 +19,7 @@ pub fn run_rows<F: Store, O: Sink>(alloc: Global, files: &mut F, out: &mut O) ->
     };
     let mut next = Call {
         words: Vec::new(alloc),
+        beside: Vec::new(alloc),
         changes: Vec::new(alloc),
         failing: ALL_SOUND,
         is_said: false,
@@ -51,6 +52,7 @@ fn take_line<'a, F: Store, O: Sink>(
     }
     make_call(alloc, next, files, out)?;
     next.words.clear();
+    next.beside.clear();
     next.changes.clear();
     next.failing = ALL_SOUND;
     next.is_said = false;
@@ -61,14 +63,18 @@ fn take_line<'a, F: Store, O: Sink>(
 fn take_word<'a>(line: &'a str, next: &mut Call<'a>) -> Result<(), Fault> {
     next.is_said = true;
     if let Some(change) = read_change(line) {
-        return match next.changes.push(change) {
-            Ok(()) => Ok(()),
-            Err(_) => Err(Fault::Memory),
-        };
+        return noted(next.changes.push(change).is_ok());
+    }
+    if let Some(name) = line.strip_prefix("beside ") {
+        return noted(next.beside.push(name).is_ok());
     }
     let Some(failing) = read_failing(line, next.failing) else {
         return Err(Fault::Line);
     };
     next.failing = failing;
     Ok(())
+}
+
+fn noted(is_noted: bool) -> Result<(), Fault> {
+    if is_noted { Ok(()) } else { Err(Fault::Memory) }
 }

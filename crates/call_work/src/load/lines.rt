@@ -17,7 +17,6 @@ ghost use Rattle.call_refused.specs.told.Told.{IsToldAt};
 use crate::explain::Unpicked;
 use crate::load::denial::Denial;
 use crate::load::fetched::{Fetched, name_at};
-use crate::load::refused::{refused_record, refused_sweep};
 use crate::map::map_denial_line;
 use base_memory::Memory;
 use base_text::pieces::push_pieces;
@@ -25,7 +24,10 @@ use call_answer::text_of;
 use call_ask::{Ask, Source, Table, Work};
 use call_files::{File, Refusal};
 use call_refused::told::push_within;
-use call_refused::{refused_line, refused_scripts, refused_study, refused_timings, too_long};
+use call_refused::{
+    refused_line, refused_record, refused_scripts, refused_study, refused_sweep, refused_timings,
+    too_long,
+};
 use itoa::Buffer;
 use model_line::Name;
 use std::alloc::Global;
