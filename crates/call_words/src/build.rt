@@ -8,6 +8,6 @@ pub const BUILD: &str = "proved with Rattle, logic dac8208d650f15bf";
 
 /// What a page says made it: the program and its version; and what proved it, by the sum of its
 /// logic, which `rt version` says too.
-pub const PROGRAM: &[u8] = b"study 0.27.0";
+pub const PROGRAM: &[u8] = b"study 0.28.0";
 
 pub const KIT: &[u8] = b"Rattle, logic dac8208d650f15bf";
