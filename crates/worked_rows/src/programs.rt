@@ -6,7 +6,7 @@ use call_engine::NetEngine;
 use call_pilot::top::pilot;
 use call_records::records;
 use call_study::study;
-use call_words::{Call, Event, command, words_of};
+use call_words::{Call, Event, WordFault, command, words_of};
 use call_work::load::status_of;
 use clap::{ArgMatches, Error};
 use std::alloc::Global;
@@ -66,9 +66,23 @@ fn over_matches(
     err: &mut MemorySink,
 ) -> Result<u8, Fault> {
     match words_of(matches) {
-        Some(words) => Ok(made(alloc, &words.call, store, out, err)),
-        None => Ok(USAGE),
+        Ok(words) => Ok(made(alloc, &words.call, store, out, err)),
+        Err(fault) => word_told(&fault, err),
     }
+}
+
+// A word that is wrong: the line that the program tells, and the status.
+fn word_told(fault: &WordFault<'_>, err: &mut MemorySink) -> Result<u8, Fault> {
+    put_all(err, b"study: ")?;
+    if let Some(option) = fault.option {
+        put_all(err, option.as_bytes())?;
+        put_all(err, b" ")?;
+    }
+    put_all(err, fault.word.as_bytes())?;
+    put_all(err, b": ")?;
+    put_all(err, fault.wanted.as_bytes())?;
+    put_all(err, b"\n")?;
+    Ok(USAGE)
 }
 
 // The status of a call. Of a play as a record the three texts follow one another.
