@@ -53,7 +53,10 @@ pub struct LeastMargin {
 /// How an obligation stands.
 #[derive(Clone, Copy)]
 pub enum Standing {
+    /// Whatever fractions of a tick its times have.
     Held,
+    /// Of whole ticks alone.
+    HeldOnTicks,
     Fails,
     Open,
 }
