@@ -11,8 +11,8 @@ use Rattle.std.proofs.lemmas.List.Sums.{position_or_len_is, suffix_len_is}
 use Rattle.std.specs.Char.{is_ascii_whitespace}
 use Rattle.std.specs.List.{All, AllByRecursion, before_first, list_all, prefix_len}
 use Rattle.std.specs.List.{slice_get, suffix_len}
-use Rattle.std.specs.Prelude.{◌==◌, ◌||◌, nat_lt}
-use Rattle.file_comtrade.specs.Text.{fields_of, lines_of, trimmed, trimmed_end}
+use Rattle.std.specs.Prelude.{◌==◌, ◌||◌, decimal, nat_lt}
+use Rattle.file_comtrade.specs.Text.{fields_of, lines_of, trimmed, trimmed_end, unmarked}
 
 -- ---- fields
 
@@ -202,6 +202,22 @@ no_end rs all =
     (λ k below. All-get_or (λ b. (b == 26) ≡ false) text k 0 below none)
     (λ within. absurd (omega arith)))
     ∙ take_all (length text) text (omega arith)
+
+-- ---- no byte order mark
+
+no_mark : (b : ℕ) (bs : List ℕ) → (b == 239) ≡ false → unmarked (b ∷ bs) ≡ b ∷ bs
+no_mark b [] e = refl
+no_mark b (c ∷ []) e = refl
+no_mark b (c ∷ d ∷ ds) e = rw e refl
+
+-- rows begin with the number 1
+pub no_mark_first : (rs : List (List (List ℕ))) (fs : List (List ℕ)) → 0 < length rs
+    → get_or rs 0 [] ≡ decimal 1 ∷ fs → unmarked (rows_text rs) ≡ rows_text rs
+no_mark_first [] fs some is = absurd (omega arith)
+no_mark_first (r ∷ rs) fs some is =
+    ap (λ (x : List (List ℕ)). unmarked (row x ++ 10 ∷ rows_text rs)) is
+    ∙ no_mark 49 (behind fs ++ 10 ∷ rows_text rs) refl
+    ∙ ap (λ (x : List (List ℕ)). row x ++ 10 ∷ rows_text rs) (sym is)
 
 -- ---- the line at a place
 

@@ -17,7 +17,8 @@ use Rattle.model_line.specs.Parameters.{terminal_count}
 use Rattle.model_line.specs.PlainNames.{is_plain_name}
 use Rattle.model_logic.specs.Histories.{History}
 use Rattle.run_changes.specs.rows.PlayRows.{level_word}
-use Rattle.file_comtrade.specs.Config.{config_in, config_of, digital_after, line_at}
+use Rattle.file_comtrade.specs.Config.{config_of, digital_after, ended, line_at}
+use Rattle.file_comtrade.specs.Data.{ended as data_ended}
 use Rattle.file_comtrade.specs.{Data.raw_at, Data.samples_of, Data.shape_of}
 use Rattle.file_comtrade.specs.{RawSample.raw_in_line, Steps.steps}
 use Rattle.file_comtrade.specs.Text.{fields_of, lines_of}
@@ -33,7 +34,7 @@ use Rattle.file_records.proofs.recorded_lemmas.ConfigBack.{IsTail, channel_field
 use Rattle.file_records.proofs.recorded_lemmas.ConfigBack.{tail_back}
 use Rattle.file_records.proofs.recorded_lemmas.DataBack.{raw_back, samples_back, samples_steps, text_shape}
 use Rattle.file_records.proofs.recorded_lemmas.Fields.{AreRows, IsField, IsRow, are_rows_append, is_row, line_back, lines_back}
-use Rattle.file_records.proofs.recorded_lemmas.Fields.{no_end, row, row_back, rows_text, solid}
+use Rattle.file_records.proofs.recorded_lemmas.Fields.{no_end, no_mark_first, row, row_back, rows_text, solid}
 use Rattle.file_records.proofs.recorded_lemmas.Ids.{id_is_field, named_there, plain_name}
 use Rattle.file_records.proofs.recorded_lemmas.Levels.{AreSaid, accepted, are_at, levels_are, never_falls, only_levels}
 use Rattle.file_records.proofs.recorded_lemmas.Lists.{AtPlaces, length_below, places_append, places_at, places_below}
@@ -251,10 +252,11 @@ module _ (line : Line) (script : Script) (plain : is_plain_name script.name ≡ 
       let some = line.horizon_in_range.0 in
       let channels_few = few_channels line in
       let long = rows_long in
-      ap (λ (t : List ℕ). config_in None (lines_of t)) (config_is line script.name)
-      ∙ config_back lines script.name count line.horizon (map (id_of line) (signals_of line)) (omega arith)
+      ap (config_of None) (config_is line script.name)
+      ∙ ap (ended lines)
+      (config_back lines script.name count line.horizon (map (id_of line) (signals_of line)) (omega arith)
       (line_row rs 0 rows_are (omega arith)) (line_row rs 1 rows_are (omega arith)) channels_read
-      (tail_back lines (2 + count) line.horizon (omega arith) (omega arith) tail_is)
+      (tail_back lines (2 + count) line.horizon (omega arith) (omega arith) tail_is))
 
 pub configs_are_read_back : ConfigsAreReadBack
 configs_are_read_back line script plain = config_read line script plain
@@ -368,11 +370,14 @@ module _ (line : Line) (script : Script) (h : History) where
       let ids : List (List ℕ) = map (id_of line) (signals_of line) in
       let level = level_of script h (get_or (signals_of line) i d) in
       let bytes : List ℕ = rows_text data_rows in
-      rw (no_end data_rows data_rows_are)
+      let some = line.horizon_in_range.0 in
+      let long = data_long in
+      let unmarked_rows = no_mark_first data_rows _ (omega arith) (data_row_at 0 (omega arith)) in
+      rw (unmarked_rows, no_end data_rows data_rows_are) (ap (data_ended data_lines)
       (samples_back ids line.horizon line.tick_us i level data_lines bytes
       (samples_steps ids line.horizon line.tick_us i level data_lines bytes (raw_is i d inside)
       (λ t within. let stamp = small_stamp line t within in omega arith) line.horizon (omega arith))
-      rest_is)
+      rest_is))
 
 pub data_are_read_back : DataAreReadBack
 data_are_read_back line script h i d inside =
