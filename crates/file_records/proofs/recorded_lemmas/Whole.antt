@@ -4,6 +4,7 @@ use Rattle.std.proofs.Common.{List, [], ◌∷◌, length, get_or, map, drop, No
 use Rattle.std.proofs.Common.{length-append, subst}
 use Rattle.std.proofs.Math.Nat.{mul-le-mul}
 use Rattle.std.proofs.lemmas.Bool.{and_from}
+use Rattle.std.proofs.lemmas.Fmt.{decimal_nonempty}
 use Rattle.std.proofs.lemmas.List.{drop_at, get_or-append-add, get_or-map, get_or_append_left, length-map}
 use Rattle.std.proofs.lemmas.List.{take_all}
 use Rattle.std.proofs.lemmas.List.Elements.{All-from_get_or, recursion_from_All}
@@ -11,6 +12,7 @@ use Rattle.std.proofs.lemmas.List.Folds.{list_all-append}
 use Rattle.std.proofs.lemmas.List.FromFn.{get_or-map-range_with_len, length-map-range_with_len}
 use Rattle.std.specs.List.{AllByRecursion, list_all, range_with_len}
 use Rattle.std.specs.Prelude.{codes, decimal, nat_lt}
+use Rattle.base_text.specs.store.DecimalLaws.{are_digits}
 use Rattle.model_history.specs.Each.{each_below}
 use Rattle.model_line.specs.{declared.line.Line.Line, declared.script.Script.Script}
 use Rattle.model_line.specs.Parameters.{terminal_count}
@@ -372,7 +374,9 @@ module _ (line : Line) (script : Script) (h : History) where
       let bytes : List ℕ = rows_text data_rows in
       let some = line.horizon_in_range.0 in
       let long = data_long in
-      let unmarked_rows = no_mark_first data_rows _ (omega arith) (data_row_at 0 (omega arith)) in
+      let unmarked_rows =
+      no_mark_first data_rows (decimal 1) _ (omega arith) (data_row_at 0 (omega arith))
+      (decimal_nonempty 1 (omega arith)) (are_digits 1 (omega arith)).digits in
       rw (unmarked_rows, no_end data_rows data_rows_are) (ap (data_ended data_lines)
       (samples_back ids line.horizon line.tick_us i level data_lines bytes
       (samples_steps ids line.horizon line.tick_us i level data_lines bytes (raw_is i d inside)

@@ -1,4 +1,5 @@
-use Rattle.std.proofs.Common.{◌≡◌, ◌≤◌, ◌∷◌, ◌++◌, ◌∙◌, ℕ, List, [], ap, arith, length, map, subst, sym}
+use Rattle.std.proofs.Common.{◌≡◌, ◌≤◌, ◌<◌, ◌∷◌, ◌++◌, ◌∙◌, ℕ, false, List, [], ap, arith, length, map, subst, sym}
+use Rattle.std.specs.Prelude.{◌==◌}
 use Rattle.std.specs.List.{All}
 use Rattle.std.proofs.lemmas.List.Elements.{All-cons, All-nil}
 use Rattle.model_line.specs.Fits.{Fits}
@@ -11,6 +12,10 @@ use Rattle.file_records.specs.tracks.Tracks.{TrackValues, track_values}
 use Rattle.file_records.specs.recorded.Spans.{script_told}
 use Rattle.file_records.proofs.recorded_lemmas.Fitting.{told_fit}
 use Rattle.file_records.proofs.recorded.script.scripts_text.Goals as goal
+
+some_there : (spans : List SeenSpan) → (length spans == 0) ≡ false → 0 < length spans
+some_there [] e = grind arith
+some_there (s ∷ ss) e = omega arith
 
 pub print_scripts-requires-clause-fit : goal.print_scripts-requires-clause-fit
 print_scripts-requires-clause-fit c =
@@ -67,8 +72,12 @@ returns c =
     v ∷ []) in
     let are : map values_of c.as_slice.result.now ≡ told ∷ [] =
     ap (map values_of) same ∙ ap with_spans c.in_ok-spans.ensures in
-    subst (λ (t : List ℕ). SaysScripts line (told ∷ []) t)
-    (sym (c.in_ok-text.ensures.text
-    ∙ ap (λ (v : List ScriptValues). records_text (file_records line v)) are))
-    (c.printed_scripts_are_read_back.ensures line (told ∷ [])
-    (All-cons (ValuesFit line) told [] fits (All-nil (ValuesFit line))) one_file)
+    let some : 0 < length c.in_ok-spans.spans.items =
+    some_there c.in_ok-spans.spans.items (sym c.is_empty.ensures ∙ c.if-is_empty.false) in (
+      subst (λ (l : List SeenSpan). 0 < length l) c.in_ok-spans.ensures some,
+      subst (λ (t : List ℕ). SaysScripts line (told ∷ []) t)
+          (sym (c.in_ok-text.ensures.text
+          ∙ ap (λ (v : List ScriptValues). records_text (file_records line v)) are))
+          (c.printed_scripts_are_read_back.ensures line (told ∷ [])
+          (All-cons (ValuesFit line) told [] fits (All-nil (ValuesFit line))) one_file),
+    )
