@@ -43,10 +43,11 @@ pub fn scripts_text(
 {
     printed_scripts_are_read_back();
     let spans = spans_told(alloc, line, tracks)?;
-    if spans.is_empty() {
+    let count = spans.len();
+    if count == 0 {
         return Err(Stopped::Fault(NoScript::Nothing));
     }
-    if spans.len() > 200 {
+    if count > 200 {
         return Err(Stopped::Fault(NoScript::TooMany));
     }
     let script = Script {

@@ -1,5 +1,4 @@
-use Rattle.std.proofs.Common.{◌≡◌, ◌≤◌, ◌<◌, ◌∷◌, ◌++◌, ◌∙◌, ℕ, false, List, [], ap, arith, length, map, subst, sym}
-use Rattle.std.specs.Prelude.{◌==◌}
+use Rattle.std.proofs.Common.{◌≡◌, ◌≤◌, ◌<◌, ◌∷◌, ◌++◌, ◌∙◌, ℕ, List, [], ap, arith, length, map, refl, subst, sym}
 use Rattle.std.specs.List.{All}
 use Rattle.std.proofs.lemmas.List.Elements.{All-cons, All-nil}
 use Rattle.model_line.specs.Fits.{Fits}
@@ -13,9 +12,14 @@ use Rattle.file_records.specs.recorded.Spans.{script_told}
 use Rattle.file_records.proofs.recorded_lemmas.Fitting.{told_fit}
 use Rattle.file_records.proofs.recorded.script.scripts_text.Goals as goal
 
-some_there : (spans : List SeenSpan) → (length spans == 0) ≡ false → 0 < length spans
-some_there [] e = grind arith
-some_there (s ∷ ss) e = omega arith
+none_there : (spans : List SeenSpan) → length spans ≡ 0 → spans ≡ []
+none_there [] none = refl
+none_there (s ∷ ss) none = absurd (omega arith)
+
+pub returns-then-count-eq0 : goal.returns-then-count-eq0
+returns-then-count-eq0 c =
+    subst (λ (l : List SeenSpan). l ≡ []) c.in_ok-spans.ensures
+    (none_there c.in_ok-spans.spans.items (omega (arith, c.if-count-eq0.true, c.len-count.ensures)))
 
 pub print_scripts-requires-clause-fit : goal.print_scripts-requires-clause-fit
 print_scripts-requires-clause-fit c =
@@ -28,7 +32,7 @@ print_scripts-requires-clause-fit c =
       deadline = m.deadline;
       spans = c.in_ok-spans.spans;
     } in
-    let few : length c.in_ok-spans.spans.items ≤ 200 = omega (arith, c.if-len-gt200.false, c.len.ensures) in
+    let few : length c.in_ok-spans.spans.items ≤ 200 = omega (arith, c.if-count-gt200.false, c.len-count.ensures) in
     let fits : Fits line own = record {
       plain_name = c.requires.plain;
       few_spans = few;
@@ -52,7 +56,7 @@ returns c =
       spans = c.in_ok-spans.spans;
     } in
     let told : ScriptValues = script_told line (map_values m) tracks in
-    let few : length c.in_ok-spans.spans.items ≤ 200 = omega (arith, c.if-len-gt200.false, c.len.ensures) in
+    let few : length c.in_ok-spans.spans.items ≤ 200 = omega (arith, c.if-count-gt200.false, c.len-count.ensures) in
     let fits : ValuesFit line told = record {
       plain_name = c.requires.plain;
       few_spans = subst (λ (l : List SeenSpan). length l ≤ 200) c.in_ok-spans.ensures few;
@@ -73,7 +77,7 @@ returns c =
     let are : map values_of c.as_slice.result.now ≡ told ∷ [] =
     ap (map values_of) same ∙ ap with_spans c.in_ok-spans.ensures in
     let some : 0 < length c.in_ok-spans.spans.items =
-    some_there c.in_ok-spans.spans.items (sym c.is_empty.ensures ∙ c.if-is_empty.false) in (
+    omega (arith, c.if-count-eq0.false, c.len-count.ensures) in (
       subst (λ (l : List SeenSpan). 0 < length l) c.in_ok-spans.ensures some,
       subst (λ (t : List ℕ). SaysScripts line (told ∷ []) t)
           (sym (c.in_ok-text.ensures.text
