@@ -3,7 +3,8 @@ use Rattle.std.proofs.Common.{◌∷◌, ◌<◌, ◌+◌, ◌++◌, ℕ, List, 
 use Rattle.std.proofs.lemmas.List.{drop_more}
 use Rattle.file_records.specs.map.Recorders.{recorder_values}
 use Rattle.file_records.specs.declared.map.recorder.Recorder.{Recorder}
-use Rattle.call_records.specs.Course.{Course, RecorderFiles, recorder_course, recorders_course}
+use Rattle.call_records.specs.Course.{Course, recorder_course, recorders_course}
+use Rattle.call_records.specs.Parts.{RecorderFiles}
 use Rattle.call_records.specs.Files.{Held, Runs}
 use Rattle.call_records.specs.declared.halt.Halt.{Halt}
 

@@ -6,7 +6,8 @@ use Rattle.base_text.specs.{store.CountLaws.same_both, store.Store.SameCounts}
 use Rattle.model_line.specs.declared.line.Line.{Line}
 use Rattle.file_line.specs.Lines.{LineValues, line_values}
 use Rattle.call_records.specs.{Answers.answer_of, Halts.End, Halts.Tells, Halts.told_of}
-use Rattle.call_records.specs.Course.{Course, NamedFile, makes, over, reads, refused, RecorderFiles}
+use Rattle.call_records.specs.Course.{Course, NamedFile, makes, over, reads, refused}
+use Rattle.call_records.specs.Parts.{RecorderFiles}
 use Rattle.call_records.specs.Files.{AllTold, Cause, Fetches, Held, NoneRose, Runs, answers}
 use Rattle.call_records.specs.Read.{Gives, IsMemory, Stops, text_seen}
 use Rattle.call_ask.specs.declared.records.RecordsWork.{RecordsWork as Work}

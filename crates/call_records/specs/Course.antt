@@ -1,12 +1,14 @@
 -- The course of a call: one file is read after another, and what one says names those behind it.
 use Rattle.std.specs.Prelude.{◌++◌, ◌∷◌, ℕ, List, [], Option, None, Some, Result, Ok, Err, codes}
+use Rattle.std.specs.Prelude.{if◌then◌else◌}
 use Rattle.model_line.specs.declared.line.Line.{Line}
 use Rattle.file_line.specs.{LineFiles.line_of, Lines.LineValues, declared.fault.LineFault.LineFault}
-use Rattle.file_records.specs.{map.DataNames.data_name, map.Maps.MapValues, map.Maps.map_of, map.Recorders.RecorderValues}
+use Rattle.file_records.specs.{map.DataNames.data_name, map.DataNames.is_one_file, map.Maps.MapValues, map.Maps.map_of, map.Recorders.RecorderValues}
 use Rattle.file_document.specs.declared.fault.DocumentFault.{DocumentFault}
 use Rattle.file_records.specs.declared.map.source.Signal.{Signal}
-use Rattle.file_records.specs.{tracks.Told.first_untold, tracks.Tracks.BytesValues}
+use Rattle.file_records.specs.{tracks.Told.first_untold}
 use Rattle.call_records.specs.{Beside.beside, Request.Request}
+use Rattle.call_records.specs.Parts.{RecorderFiles, files_with, named}
 use Rattle.call_ask.specs.declared.records.RecordsWork.{RecordsWork as Work}
 use Rattle.call_ask.specs.declared.records.RecordsWork.TheVariants as work
 use Rattle.call_records.specs.Faults.{line_refusal, map_refusal, untold_refusal}
@@ -16,16 +18,6 @@ pub record NamedFile : Type 0 where
   pub told : List ℕ
   pub name : List ℕ
   pub limit : ℕ
-
--- The files of a recorder, with their names.
-pub record RecorderFiles : Type 0 where
-  pub config_name : List ℕ
-  pub config : List ℕ
-  pub data_name : List ℕ
-  pub samples : List ℕ
-
-abbrev pub bytes_in : RecorderFiles → BytesValues
-bytes_in f = record { config = f.config; samples = f.samples }
 
 -- what comes next: a file is refused with this line; the work is done over all that was read; a file
 -- is read, and what comes then depends on its bytes; or a line with these values is made
@@ -43,17 +35,25 @@ config_file name = record { told = name; name = name; limit = 1048576 }
 abbrev pub data_file : List ℕ → NamedFile
 data_file name = record { told = name; name = name; limit = 67108864 }
 
-abbrev pub files_with : List ℕ → List ℕ → List ℕ → List ℕ → RecorderFiles
-files_with config_name config data_name samples =
-    record { config_name = config_name; config = config; data_name = data_name; samples = samples }
-
 -- the configuration of a recorder and its data, which lie beside the map
+abbrev pub pair_course : List ℕ → List ℕ → (RecorderFiles → Course) → Course
+pair_course map_name config_name next =
+    reads (config_file (beside map_name config_name))
+    (λ config. reads (data_file (beside map_name (data_name config_name)))
+    (λ samples. next (files_with (named (beside map_name config_name) config)
+    (Some (named (beside map_name (data_name config_name)) samples)))))
+
+-- a record in one file
+abbrev pub one_course : List ℕ → List ℕ → (RecorderFiles → Course) → Course
+one_course map_name name next =
+    reads (data_file (beside map_name name))
+    (λ bytes. next (files_with (named (beside map_name name) bytes) None))
+
+-- the files of a recorder
 abbrev pub recorder_course : List ℕ → RecorderValues → (RecorderFiles → Course) → Course
 recorder_course map_name r next =
-    reads (config_file (beside map_name r.config))
-    (λ config. reads (data_file (beside map_name (data_name r.config)))
-    (λ samples. next (files_with (beside map_name r.config) config
-    (beside map_name (data_name r.config)) samples)))
+    if is_one_file r.config then one_course map_name r.config next
+    else pair_course map_name r.config next
 
 -- those of all recorders, behind those that are there
 abbrev pub recorders_course : List ℕ → List RecorderValues → List RecorderFiles

@@ -2,6 +2,9 @@ pub mod Beside
 pub mod Halts
 pub mod Request
 pub mod Faults
+pub mod Parts
+pub mod RecordFaults
+pub mod SectionFaults
 pub mod Course
 pub mod Answers
 pub mod Files

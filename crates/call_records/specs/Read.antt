@@ -1,12 +1,15 @@
 -- What the readers of the call answer.
-use Rattle.std.specs.Prelude.{◌≡◌, ◌⊎◌, ℕ, List, [], Vec, Option, None, Some, Result, Ok, Err, slice_get, ⊤}
+use Rattle.std.specs.Prelude.{◌≡◌, ◌⊎◌, ℕ, List, [], Vec, Option, None, Some, Result, Ok, Err, option_map}
+use Rattle.std.specs.Prelude.{slice_get, ⊤}
 use Rattle.std.specs.declared.alloc.Global.{Global}
 use Rattle.file_comtrade.specs.declared.record.RecordFault.{RecordFault}
 use Rattle.file_records.specs.tracks.Tracks.{PlacedValues}
-use Rattle.call_records.specs.Faults.{record_refusal}
-use Rattle.call_records.specs.{Answers.Answers, Course.RecorderFiles, Course.files_with}
+use Rattle.call_records.specs.RecordFaults.{record_refusal}
+use Rattle.call_records.specs.{Answers.Answers}
+use Rattle.call_records.specs.Parts.{NamedText, Part, RecordParts, RecorderFiles, files_with, named}
 use Rattle.call_records.specs.Halts.{Tells}
 use Rattle.call_records.specs.declared.fetch as code
+use Rattle.call_records.specs.declared.parts as part_code
 use Rattle.call_records.specs.declared.halt.Halt.{Halt}
 use Rattle.call_records.specs.declared.halt.Halt.TheVariants as halt
 
@@ -27,16 +30,17 @@ abbrev pub Reads : {X Y F : Type 0} → (X → Y) → (F → List ℕ) → Resul
 Reads view told said (Ok x) = said ≡ Ok (view x)
 Reads view told said (Err why) = Stops told said why ⊎ IsMemory why
 
--- a source is refused by the names of its recorder's files, or memory ran out; a recorder has its files
-abbrev pub TellsOf : Option RecorderFiles → PlacedValues → RecordFault → Halt → Type 0
+-- a source is refused by the parts of its recorder's record, or memory ran out
+abbrev pub TellsOf : Option RecordParts → PlacedValues → RecordFault → Halt → Type 0
 TellsOf None source why stop = IsMemory stop
 TellsOf (Some own) source why stop =
-    Tells (record_refusal own.config_name own.data_name source.source.channel why) stop
+    Tells (record_refusal own source.source.channel why) stop
 
 -- so is the source at a place, where there is one
-abbrev pub TellsAt : Option PlacedValues → List RecorderFiles → RecordFault → Halt → Type 0
-TellsAt None files why stop = IsMemory stop
-TellsAt (Some source) files why stop = TellsOf (slice_get files source.recorder) source why stop
+abbrev pub TellsAt : Option PlacedValues → List RecordParts → RecordFault → Halt → Type 0
+TellsAt None records why stop = IsMemory stop
+TellsAt (Some source) records why stop =
+    TellsOf (slice_get records source.recorder) source why stop
 
 -- a text with its answer, or why there is none
 abbrev pub Gives : Answers → Result (Vec ℕ Global) Halt → Type 0
@@ -47,9 +51,18 @@ Gives allowed (Err halt.Sink) = ⊥
 Gives allowed (Err halt.Memory) = ⊤
 
 -- the files of a recorder, as the code holds them
+abbrev pub named_text : code.NamedBytes.NamedBytes → NamedText
+named_text f = named f.name.items f.bytes.items
+
 abbrev pub files_values : code.RecorderFiles.RecorderFiles → RecorderFiles
-files_values f =
-    files_with f.config.name.items f.config.bytes.items f.samples.name.items f.samples.bytes.items
+files_values f = files_with (named_text f.config) (option_map named_text f.samples)
+
+-- a part of a record, as the code sees it
+abbrev pub part_values : part_code.Part.Part → Part
+part_values p = record { name = p.name.now; bytes = p.bytes.now; line = p.line }
+
+abbrev pub record_values : part_code.RecordParts.RecordParts → RecordParts
+record_values p = record { config = part_values p.config; samples = part_values p.samples }
 
 -- a text as its bytes
 abbrev pub text_seen : Result (Vec ℕ Global) Halt → Result (List ℕ) Halt

@@ -1,16 +1,18 @@
 //! What is answered over all that was read.
 
-ghost use Rattle.std.specs.Prelude.{◌≡◌, ◌≤◌, IfOk, IsTrue, length, map as image, slice_get};
+ghost use Rattle.std.specs.Prelude.{◌≡◌, ◌≤◌, IfOk, IsTrue, Ok, length, map as image, slice_get};
 ghost use Rattle.model_line.specs.{Fits.deadline_fits, PlainNames.is_plain_name};
 ghost use Rattle.file_records.specs.map.Maps.{map_values};
 ghost use Rattle.file_records.specs.tracks.Tracks.{bytes_values, placed_values, track_values};
-ghost use Rattle.call_records.specs.{Answers.answer_of, Answers.over_work};
-ghost use Rattle.call_records.specs.{Course.bytes_in, Read.Gives, Read.TellsAt, Read.TellsOf};
-ghost use Rattle.call_records.specs.Read.{files_values};
+ghost use Rattle.call_records.specs.Answers.{answer_of, over_records as all_said, over_work};
+ghost use Rattle.call_records.specs.{Parts.bytes_in, Read.Gives, Read.TellsAt, Read.TellsOf};
+ghost use Rattle.call_records.specs.Read.{files_values, record_values};
 
 use crate::fetch::RecorderFiles;
 use crate::halt::Halt;
-use crate::refusal::{record_halt, too_many_halt};
+use crate::parts::{RecordParts, all_parts};
+use crate::record_refusal::record_halt;
+use crate::refusal::no_script_halt;
 use base_memory::Stopped;
 use call_ask::RecordsWork;
 use file_comtrade::RecordFault;
@@ -22,45 +24,49 @@ use file_records::tracks::{
 use model_line::{Line, Memory};
 use std::alloc::Global;
 
-// The bytes of the recorders' files.
-fn bytes_of(alloc: Global, files: &[RecorderFiles]) -> Result<Vec<RecordBytes<'_>>, Memory>
+// The bytes of the recorders' records.
+fn bytes_of<'a>(alloc: Global, records: &[RecordParts<'a>]) -> Result<Vec<RecordBytes<'a>>, Memory>
     ensures { IfOk result (λ v. image bytes_values v.items
-        ≡ image (λ f. bytes_in (files_values f)) files.now) }
+        ≡ image (λ r. bytes_in (record_values r)) records.now) }
 {
     let mut all = Vec::new(alloc);
-    for own in files {
+    for own in records {
         all.push(RecordBytes {
-            config: own.config.bytes.as_slice(),
-            samples: own.samples.bytes.as_slice(),
+            config: own.config.bytes,
+            samples: own.samples.bytes,
         })?;
     }
     Ok(all)
 }
 
 // Why a source that tells nothing is refused.
-fn source_halt(alloc: Global, source: &Placed, files: &[RecorderFiles], why: RecordFault) -> Halt
-    ensures { TellsOf (slice_get (image files_values files.now)
+fn source_halt(
+    alloc: Global,
+    source: &Placed,
+    records: &[RecordParts<'_>],
+    why: RecordFault,
+) -> Halt
+    ensures { TellsOf (slice_get (image record_values records.now)
         (placed_values source.now).recorder) (placed_values source.now) why result }
 {
-    match files.get(source.recorder as usize) {
-        Some(own) => record_halt(
-            alloc,
-            own.config.name.as_slice(),
-            own.samples.name.as_slice(),
-            &source.source.channel,
-            why,
-        ),
+    match records.get(source.recorder as usize) {
+        Some(own) => record_halt(alloc, own, &source.source.channel, why),
         None => Halt::Memory,
     }
 }
 
 // Why the source at the fault's place is refused.
-fn fault_halt(alloc: Global, placed: &[Placed], files: &[RecorderFiles], fault: TrackFault) -> Halt
+fn fault_halt(
+    alloc: Global,
+    placed: &[Placed],
+    records: &[RecordParts<'_>],
+    fault: TrackFault,
+) -> Halt
     ensures { TellsAt (slice_get (image placed_values placed.now) fault.place)
-        (image files_values files.now) fault.why result }
+        (image record_values records.now) fault.why result }
 {
     match placed.get(fault.place) {
-        Some(source) => source_halt(alloc, source, files, fault.why),
+        Some(source) => source_halt(alloc, source, records, fault.why),
         None => Halt::Memory,
     }
 }
@@ -80,9 +86,10 @@ fn text_over(
         (image track_values tracks.now)) result }
 {
     match work {
-        RecordsWork::Scripts => match scripts_text(alloc, line, map, tracks)? {
-            Some(text) => Ok(text),
-            None => Err(too_many_halt(alloc)),
+        RecordsWork::Scripts => match scripts_text(alloc, line, map, tracks) {
+            Ok(text) => Ok(text),
+            Err(Stopped::Fault(why)) => Err(no_script_halt(alloc, why)),
+            Err(Stopped::Memory) => Err(Halt::Memory),
         },
         RecordsWork::Record => {
             let text = record_text(alloc, line, map.script.bytes(), tracks)?;
@@ -101,6 +108,30 @@ fn text_over(
     }
 }
 
+// The text over the map's recorders and their records.
+fn over_records(
+    alloc: Global,
+    work: RecordsWork,
+    line: &Line,
+    map: &Map,
+    records: &[RecordParts<'_>],
+) -> Result<Vec<u8>, Halt>
+    requires many { length records.now ≡ length map.now.recorders.items }
+    requires few { length map.now.recorders.items ≤ 8 }
+    requires plain { IsTrue (is_plain_name map.now.script) }
+    requires deadline { IsTrue (deadline_fits line.now.horizon map.now.kind map.now.deadline) }
+    ensures { Gives (all_said work line.now (map_values map.now)
+        (Ok (image record_values records.now))) result }
+{
+    let bytes = bytes_of(alloc, records)?;
+    let placed = place(alloc, line, map.recorders.as_slice(), bytes.as_slice())?;
+    match read_tracks(alloc, placed.as_slice()) {
+        Ok(tracks) => text_over(alloc, work, line, map, placed.as_slice(), tracks.as_slice()),
+        Err(Stopped::Fault(fault)) => Err(fault_halt(alloc, placed.as_slice(), records, fault)),
+        Err(Stopped::Memory) => Err(Halt::Memory),
+    }
+}
+
 /// The text over the map's recorders and the bytes of their files.
 pub fn answer(
     alloc: Global,
@@ -116,11 +147,6 @@ pub fn answer(
     ensures { Gives (answer_of work line.now (map_values map.now) (image files_values files.now))
         result }
 {
-    let bytes = bytes_of(alloc, files)?;
-    let placed = place(alloc, line, map.recorders.as_slice(), bytes.as_slice())?;
-    match read_tracks(alloc, placed.as_slice()) {
-        Ok(tracks) => text_over(alloc, work, line, map, placed.as_slice(), tracks.as_slice()),
-        Err(Stopped::Fault(fault)) => Err(fault_halt(alloc, placed.as_slice(), files, fault)),
-        Err(Stopped::Memory) => Err(Halt::Memory),
-    }
+    let records = all_parts(alloc, files)?;
+    over_records(alloc, work, line, map, records.as_slice())
 }

@@ -3,8 +3,8 @@
 ghost use Rattle.std.specs.Prelude.{[], ◌≡◌, ◌≤◌, List, IfOk, length, map};
 ghost use Rattle.file_records.specs.{map.Recorders.recorder_values};
 ghost use Rattle.call_records.specs.{Beside.beside as name_beside, Halts.told_of};
-ghost use Rattle.call_records.specs.Course.{Course, RecorderFiles as Files, recorder_course};
-ghost use Rattle.call_records.specs.Course.{recorders_course};
+ghost use Rattle.call_records.specs.Course.{Course, one_course, pair_course, recorder_course};
+ghost use Rattle.call_records.specs.{Course.recorders_course, Parts.RecorderFiles as Files};
 ghost use Rattle.call_records.specs.{Files.Fetches, Files.Leads, Read.files_values, Read.bytes_seen};
 ghost use Rattle.call_records.specs.Read.{text_seen};
 
@@ -13,7 +13,7 @@ use crate::halt::{File, Halt};
 use crate::refusal::too_long;
 use base_memory::Stopped;
 use base_text::store::{FetchFault, Store, fetch};
-use file_records::map::{Recorder, data_name};
+use file_records::map::{Recorder, data_name, is_one_file};
 use std::alloc::Global;
 
 /// The most bytes of a line, a map or a configuration.
@@ -31,8 +31,10 @@ pub struct NamedBytes {
 /// The files of a recorder.
 #[derive(Drop)]
 pub struct RecorderFiles {
+    /// The configuration, or a record in one file.
     pub config: NamedBytes,
-    pub samples: NamedBytes,
+    /// The data; none of a record in one file.
+    pub samples: Option<NamedBytes>,
 }
 
 /// The bytes of a file of that name.
@@ -87,6 +89,46 @@ fn fetch_beside<S: Store>(
     }
 }
 
+// A configuration and its data.
+fn fetch_pair<S: Store>(
+    alloc: Global,
+    store: &mut S,
+    map_name: &str,
+    recorder: &Recorder,
+) -> Result<RecorderFiles, Halt>
+    ensures course { (next : Files → Course) → Leads (S.held store.old) (S.faults store.old)
+        (S.faults store.new) (pair_course map_name.now recorder.now.config.items next)
+        (λ f. next (files_values f)) result }
+    ensures held { S.held store.new ≡ S.held store.old }
+{
+    let config = fetch_beside(alloc, store, map_name, recorder.config.as_slice(), SMALL)?;
+    let data = data_name(alloc, recorder)?;
+    let samples = fetch_beside(alloc, store, map_name, data.as_slice(), LARGE)?;
+    Ok(RecorderFiles {
+        config,
+        samples: Some(samples),
+    })
+}
+
+// A record in one file.
+fn fetch_one<S: Store>(
+    alloc: Global,
+    store: &mut S,
+    map_name: &str,
+    recorder: &Recorder,
+) -> Result<RecorderFiles, Halt>
+    ensures course { (next : Files → Course) → Leads (S.held store.old) (S.faults store.old)
+        (S.faults store.new) (one_course map_name.now recorder.now.config.items next)
+        (λ f. next (files_values f)) result }
+    ensures held { S.held store.new ≡ S.held store.old }
+{
+    let config = fetch_beside(alloc, store, map_name, recorder.config.as_slice(), LARGE)?;
+    Ok(RecorderFiles {
+        config,
+        samples: None,
+    })
+}
+
 // The files of a recorder.
 fn fetch_recorder<S: Store>(
     alloc: Global,
@@ -99,10 +141,11 @@ fn fetch_recorder<S: Store>(
         (λ f. next (files_values f)) result }
     ensures held { S.held store.new ≡ S.held store.old }
 {
-    let config = fetch_beside(alloc, store, map_name, recorder.config.as_slice(), SMALL)?;
-    let data = data_name(alloc, recorder)?;
-    let samples = fetch_beside(alloc, store, map_name, data.as_slice(), LARGE)?;
-    Ok(RecorderFiles { config, samples })
+    if is_one_file(recorder.config.as_slice()) {
+        fetch_one(alloc, store, map_name, recorder)
+    } else {
+        fetch_pair(alloc, store, map_name, recorder)
+    }
 }
 
 /// The files of all recorders, in the order of the map.

@@ -9,8 +9,12 @@ mod answer;
 mod beside;
 mod fetch;
 mod halt;
+mod parts;
 mod read;
+mod record_refusal;
 mod refusal;
+mod section_refusal;
+mod told;
 mod top;
 
 pub use halt::{File, Halt, status_of};

@@ -3,3 +3,4 @@ pub mod Held
 pub mod Ids
 pub mod Later
 pub mod Steps
+pub mod Finding

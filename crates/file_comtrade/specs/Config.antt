@@ -1,15 +1,17 @@
 -- What a configuration says: its values, or its first fault.
-use Rattle.std.specs.Prelude.{◌&&◌, ◌==◌, ◌+◌, ℕ, Bool, true, nat_le, nat_lt}
-use Rattle.std.specs.Prelude.{List, [], ◌∷◌, ◌++◌, length, map, fold}
-use Rattle.std.specs.Prelude.{Option, option_map, Result, Ok, if◌then◌else◌}
-use Rattle.std.specs.List.{slice_get}
+use Rattle.std.specs.Prelude.{◌&&◌, ◌==◌, ◌+◌, ◌-◌, ℕ, Bool, true, nat_le, nat_lt}
+use Rattle.std.specs.Prelude.{List, [], ◌∷◌, ◌++◌, length, map, fold, drop}
+use Rattle.std.specs.Prelude.{Option, is_some, option_map, Result, Ok, Err, if◌then◌else◌}
+use Rattle.std.specs.List.{slice_get, list_all}
 use Rattle.std.specs.Option.{ok_or}
 use Rattle.base_memory.specs.Gives.{◌>>=◌, passes_or}
 use Rattle.file_comtrade.specs.ConfigLines.{Counts, counts_in, factor_in, form_in, id_in, moment_in}
 use Rattle.file_comtrade.specs.ConfigLines.{natural_in, order_of, rate_in, revision_in, unit_in}
-use Rattle.file_comtrade.specs.{Steps.steps, Text.fields_of, Text.lines_of}
+use Rattle.file_comtrade.specs.{Calendar.day_of, Steps.steps, Text.fields_of, Text.is_blank}
+use Rattle.file_comtrade.specs.{Text.lines_of, Text.unmarked}
 use Rattle.file_comtrade.specs.declared.config.Config.{Config}
 use Rattle.file_comtrade.specs.declared.config.DateOrder.{DateOrder}
+use Rattle.file_comtrade.specs.declared.config.DateOrder.TheVariants.{DayFirst, MonthFirst}
 use Rattle.file_comtrade.specs.declared.config.Form.{Form}
 use Rattle.file_comtrade.specs.declared.config.Manner.{Manner}
 use Rattle.file_comtrade.specs.declared.config.Rate.{Rate}
@@ -113,6 +115,19 @@ factor_at Of1991 lines at = Ok 1000000000
 factor_at Of1999 lines at = factor_later lines at
 factor_at Of2013 lines at = factor_later lines at
 
+abbrev pub other_order : DateOrder → DateOrder
+other_order DayFirst = MonthFirst
+other_order MonthFirst = DayFirst
+
+-- why a line says no instant: its date is none, or one in the other order alone, or its time is none
+abbrev pub moment_fault : DateOrder → ℕ → List (List ℕ) → ConfigFault
+moment_fault order n (date ∷ time ∷ []) =
+    if is_some (day_of order date) then fault.Time n
+    else if is_some (day_of (other_order order) date)
+    then fault.OtherOrder n (other_order order)
+    else fault.Date n
+moment_fault order n _ = fault.Moment n
+
 pub record End : Type 0 where
   pub first : ℕ
   pub form : Form
@@ -124,7 +139,7 @@ pub record End : Type 0 where
 unfoldable pub end_at : Manner → List (List ℕ) → ℕ → Said End
 end_at manner lines at = do
   date ← line_at lines at
-  first ← ok_or (moment_in manner.order date) (fault.Moment (at + 1))
+  first ← ok_or (moment_in manner.order date) (moment_fault manner.order (at + 1) date)
   trigger ← line_at lines (at + 1)
   word ← line_at lines (at + 2)
   form ← ok_or (form_in word) (fault.BadForm (at + 3))
@@ -174,6 +189,34 @@ config_in dates lines = do
   counts ← ok_or (counts_in second) fault.Counts
   body_of (manner_of dates revision) counts lines
 
--- what its bytes say
+-- ---- where the text ends
+
+-- the line of a fault
+abbrev pub line_of : ConfigFault → ℕ
+line_of (fault.Absent n) = n
+line_of fault.BadRevision = 1
+line_of fault.Counts = 2
+line_of (fault.Analog n) = n
+line_of (fault.Digital n) = n
+line_of (fault.Rates n) = n
+line_of (fault.BadRate n) = n
+line_of (fault.Moment n) = n
+line_of (fault.Date n) = n
+line_of (fault.OtherOrder n order) = n
+line_of (fault.Time n) = n
+line_of (fault.BadForm n) = n
+line_of (fault.Factor n) = n
+
+-- a line that is wrong is one before which the text ends, where it is blank, and so is all behind it
+abbrev pub or_absent : List (List ℕ) → ConfigFault → ConfigFault
+or_absent lines why =
+    if list_all is_blank (drop (line_of why - 1) lines) then fault.Absent (line_of why) else why
+
+abbrev pub ended : List (List ℕ) → Said ConfigValues → Said ConfigValues
+ended lines (Ok config) = Ok config
+ended lines (Err why) = Err (or_absent lines why)
+
+-- what the bytes of a configuration say
 abbrev pub config_of : Option DateOrder → List ℕ → Said ConfigValues
-config_of dates text = config_in dates (lines_of text)
+config_of dates text =
+    ended (lines_of (unmarked text)) (config_in dates (lines_of (unmarked text)))

@@ -119,7 +119,11 @@ abbrev pub natural_in : List (List ℕ) → Option ℕ
 natural_in (n ∷ []) = natural_of n
 natural_in _ = None
 
--- the factor of the stamps, in billionths
+abbrev pub above_0 : Option ℕ → Option ℕ
+above_0 None = None
+above_0 (Some n) = if nat_lt 0 n then Some n else None
+
+-- the factor of the stamps, in billionths, which is not 0
 abbrev pub factor_in : List (List ℕ) → Option ℕ
-factor_in (factor ∷ []) = scaled_of 9 factor
+factor_in (factor ∷ []) = above_0 (scaled_of 9 factor)
 factor_in _ = None

@@ -1,18 +1,18 @@
 -- What the data say of chosen digital channels: the samples, or the first fault.
 use Rattle.std.specs.Prelude.{◌==◌, ◌+◌, ◌-◌, ◌*◌, ℕ, Bool, true, false}
 use Rattle.std.specs.Prelude.{nat_le, List, [], ◌∷◌, ◌++◌, length, drop}
-use Rattle.std.specs.Prelude.{Option, Some, None, Ok, if◌then◌else◌}
+use Rattle.std.specs.Prelude.{Option, Some, None, Ok, Err, if◌then◌else◌}
 use Rattle.std.specs.List.{slice_get, list_all, before_first}
 use Rattle.std.specs.Option.{ok_or}
 use Rattle.base_memory.specs.Gives.{◌>>=◌, passes_or}
-use Rattle.base_records.specs.Fields.{is_empty}
-use Rattle.file_comtrade.specs.{Config.ConfigValues, Steps.steps, Text.lines_of, Text.trimmed}
-use Rattle.file_comtrade.specs.{Times.has_time, Times.time_of}
+use Rattle.file_comtrade.specs.{Config.ConfigValues, Steps.steps, Text.is_blank, Text.lines_of}
+use Rattle.file_comtrade.specs.{Text.unmarked, Times.has_time, Times.time_of}
 use Rattle.file_comtrade.specs.RawSample.{Said, RawSample, chunk_at, raw_in_bytes, raw_in_line}
 use Rattle.file_comtrade.specs.RawSample.{sample_bytes}
 use Rattle.file_comtrade.specs.declared.config.Form.{Form}
 use Rattle.file_comtrade.specs.declared.config.Form.TheVariants.{Ascii, Binary, Binary32, Float32}
 use Rattle.file_comtrade.specs.declared.shape.Shape.{Shape}
+use Rattle.file_comtrade.specs.declared.fault.DataFault.{DataFault}
 use Rattle.file_comtrade.specs.declared.fault.DataFault.TheVariants as fault
 
 abbrev pub is_ascii : Form → Bool
@@ -32,7 +32,7 @@ pub record SampleValues : Type 0 where
 
 -- the text ends at an end-of-file byte
 abbrev pub sample_lines : List ℕ → List (List ℕ)
-sample_lines bytes = lines_of (before_first (λ b. b == 26) bytes)
+sample_lines bytes = lines_of (before_first (λ b. b == 26) (unmarked bytes))
 
 abbrev pub raw_line_at : Shape → List ℕ → List (List ℕ) → ℕ → Said RawSample
 raw_line_at s chosen lines k =
@@ -74,16 +74,31 @@ sample_after config chosen lines bytes samples k = do
 unfoldable pub is_done : ConfigValues → List (List ℕ) → List ℕ → Bool
 is_done config lines bytes =
     if is_ascii config.form
-    then list_all (λ line. is_empty (trimmed line)) (drop config.sampling.samples lines)
+    then list_all is_blank (drop config.sampling.samples lines)
     else length bytes == config.sampling.samples * sample_bytes (shape_of config)
 
 unfoldable pub samples_in : ConfigValues → List ℕ → List (List ℕ) → List ℕ → Said (List SampleValues)
 samples_in config chosen lines bytes = do
   samples ← steps (sample_after config chosen lines bytes) [] config.sampling.samples
-  done ← passes_or (is_done config lines bytes) fault.Surplus
+  done ← passes_or (is_done config lines bytes) (fault.Surplus (config.sampling.samples + 1))
   Ok samples
+
+-- the lines of data in ASCII
+abbrev pub lines_in : ConfigValues → List ℕ → List (List ℕ)
+lines_in config bytes = if is_ascii config.form then sample_lines bytes else []
+
+-- a sample with too few fields is one before which the data end, where its line is blank, and so is
+-- all behind it
+abbrev pub or_absent : List (List ℕ) → DataFault → DataFault
+or_absent lines (fault.Fields n) =
+    if list_all is_blank (drop (n - 1) lines) then fault.Absent n else fault.Fields n
+or_absent lines why = why
+
+abbrev pub ended : List (List ℕ) → Said (List SampleValues) → Said (List SampleValues)
+ended lines (Ok samples) = Ok samples
+ended lines (Err why) = Err (or_absent lines why)
 
 -- what the data say of the chosen channels, by their indices
 unfoldable pub samples_of : ConfigValues → List ℕ → List ℕ → Said (List SampleValues)
 samples_of config chosen bytes =
-    samples_in config chosen (if is_ascii config.form then sample_lines bytes else []) bytes
+    ended (lines_in config bytes) (samples_in config chosen (lines_in config bytes) bytes)

@@ -7,9 +7,12 @@ pub mod LevelLaws
 pub mod Named
 pub mod Number
 pub mod Options
+pub mod Places
 pub mod RawSample
 pub mod Record
 pub mod SampleViews
+pub mod Sections
+pub mod SectionViews
 pub mod Steps
 pub mod Text
 pub mod Ticks

@@ -80,7 +80,7 @@ level_field s fields channel =
 unfoldable pub level_after : Shape → List ℕ → List (List ℕ) → ℕ → List Bool → ℕ → Said (List Bool)
 level_after s chosen fields k levels j = do
   level ← ok_or (level_field s fields (get_or chosen j 0))
-      (fault.Level (k + 1) (get_or chosen j 0 + 1))
+      (fault.Level (k + 1) (get_or chosen j 0 + 1) (2 + s.analog + get_or chosen j 0))
   Ok (levels ++ level ∷ [])
 
 -- a stamp may be left out

@@ -1,14 +1,10 @@
 -- What definitions see of samples.
-use Rattle.std.specs.Prelude.{◌≡◌, ◌≤◌, ◌<◌, ◌-◌, ℕ, Bool, List, [], ◌∷◌, ◌++◌, length, map, slice_index}
-use Rattle.base_records.specs.Fields.{is_empty}
-use Rattle.file_comtrade.specs.{Data.SampleValues, Text.trimmed}
+use Rattle.std.specs.Prelude.{◌≡◌, ◌≤◌, ◌<◌, ◌-◌, ℕ, List, [], ◌∷◌, ◌++◌, length, map, slice_index}
+use Rattle.file_comtrade.specs.{Data.SampleValues}
 use Rattle.file_comtrade.specs.declared.data_reader.Sample.{Sample}
 
 abbrev pub sample_values : Sample → SampleValues
 sample_values s = record { number = s.number; time = s.time; levels = s.levels.items }
-
-abbrev pub is_blank : List ℕ → Bool
-is_blank line = is_empty (trimmed line)
 
 abbrev pub times_in : List Sample → List ℕ
 times_in samples = map (λ s. s.time) samples

@@ -45,6 +45,7 @@ fn level_after(
         return Err(Stopped::Fault(DataFault::Level {
             sample: k as usize + 1,
             channel: channel as usize + 1,
+            field: 2 + shape.analog as usize + channel as usize,
         }));
     };
     levels.push(level)?;

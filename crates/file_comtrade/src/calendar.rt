@@ -20,8 +20,9 @@ pub fn moment(order: DateOrder, date: &[u8], time: &[u8]) -> Option<u128>
     Some(u128::from(day) * 86_400_000_000_000 + u128::from(nanos))
 }
 
+/// The number of the day of a date.
 #[tactic(auto, unfolding(crate::specs::Calendar::day_of))]
-fn day_of(order: DateOrder, date: &[u8]) -> Option<u32>
+pub fn day_of(order: DateOrder, date: &[u8]) -> Option<u32>
     ensures { result ≡ day_of order date.now }
 {
     let (first, rest) = cut(date, b'/')?;

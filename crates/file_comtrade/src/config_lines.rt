@@ -5,7 +5,8 @@ ghost use Rattle.base_memory.specs.Gives.{Gives};
 ghost use Rattle.file_comtrade.specs.Config.{line_at};
 ghost use Rattle.file_comtrade.specs.ConfigLines.{revision_named, revision_in, counted, counts_in};
 ghost use Rattle.file_comtrade.specs.ConfigLines.{id_in, rate_in, moment_in, form_named, form_in};
-ghost use Rattle.file_comtrade.specs.ConfigLines.{factor_in, natural_in, order_of, unit_by, unit_in};
+ghost use Rattle.file_comtrade.specs.ConfigLines.{above_0, factor_in, natural_in, order_of, unit_by};
+ghost use Rattle.file_comtrade.specs.ConfigLines.{unit_in};
 ghost use Rattle.file_comtrade.specs.Views.{texts, counts_of_channels};
 
 use crate::calendar::moment;
@@ -188,12 +189,21 @@ pub fn natural_in(line: &[&[u8]]) -> Option<u32>
     }
 }
 
-/// The factor of the stamps, in billionths, by its line.
+fn above_0(factor: Option<u64>) -> Option<u64>
+    ensures { result ≡ above_0 factor }
+{
+    match factor {
+        Some(n) if 0 < n => factor,
+        _ => None,
+    }
+}
+
+/// The factor of the stamps, in billionths, by its line; it is not 0.
 pub fn factor_in(line: &[&[u8]]) -> Option<u64>
     ensures { result ≡ factor_in (texts line.now) }
 {
     match line {
-        [factor] => scaled(factor, 9),
+        [factor] => above_0(scaled(factor, 9)),
         _ => None,
     }
 }

@@ -1,17 +1,19 @@
 //! Reading a configuration.
 
-ghost use Rattle.std.specs.Prelude.{◌<◌, ◌-◌, ◌^◌, IfOk, length};
+ghost use Rattle.std.specs.Prelude.{◌≡◌, ◌<◌, ◌-◌, ◌^◌, IfOk, length};
 ghost use Rattle.base_memory.specs.Gives.{Gives};
-ghost use Rattle.file_comtrade.specs.Config.{body_of, config_in, config_of, tail_at, values_of};
+ghost use Rattle.file_comtrade.specs.Config.{body_of, config_in, config_of, line_of, or_absent, tail_at};
+ghost use Rattle.file_comtrade.specs.Config.{values_of};
 ghost use Rattle.file_comtrade.specs.Views.{texts, counts_of_channels, tail_of};
 
+use crate::blank::blank_from;
 use crate::channel_lines::{analogs, digitals};
 use crate::config::{Config, DateOrder, Manner, Sampling};
 use crate::config_lines::{Channels, counts_in, line_at, natural_in, order_of, revision_in};
 use crate::ending::{Ending, end_at};
 use crate::fault::ConfigFault;
 use crate::rate_lines::{rate_lines, sampling_at};
-use crate::text::lines;
+use crate::text::{lines, unmarked};
 use base_memory::Stopped;
 use std::alloc::Global;
 
@@ -27,8 +29,45 @@ pub fn read_config(
     ensures early { IfOk result (λ c. c.first < 2 ^ 80) }
     ensures some { IfOk result (λ c. 0 < c.sampling.samples) }
 {
-    let lines = lines(alloc, text)?;
-    config_in(alloc, lines.as_slice(), dates)
+    let lines = lines(alloc, unmarked(text))?;
+    match config_in(alloc, lines.as_slice(), dates) {
+        Ok(config) => Ok(config),
+        Err(Stopped::Fault(why)) => Err(Stopped::Fault(or_absent(lines.as_slice(), why))),
+        Err(Stopped::Memory) => Err(Stopped::Memory),
+    }
+}
+
+// The line of a fault.
+fn line_of(why: ConfigFault) -> usize
+    ensures { result ≡ line_of why }
+{
+    match why {
+        ConfigFault::BadRevision => 1,
+        ConfigFault::Counts => 2,
+        ConfigFault::Absent(n)
+        | ConfigFault::Analog(n)
+        | ConfigFault::Digital(n)
+        | ConfigFault::Rates(n)
+        | ConfigFault::BadRate(n)
+        | ConfigFault::Moment(n)
+        | ConfigFault::Date(n)
+        | ConfigFault::OtherOrder { line: n, order: _ }
+        | ConfigFault::Time(n)
+        | ConfigFault::BadForm(n)
+        | ConfigFault::Factor(n) => n,
+    }
+}
+
+// The fault, or that the text ends before its line.
+fn or_absent(lines: &[&[u8]], why: ConfigFault) -> ConfigFault
+    ensures { result ≡ or_absent (texts lines.now) why }
+{
+    let n = line_of(why);
+    if blank_from(lines, n.saturating_sub(1)) {
+        ConfigFault::Absent(n)
+    } else {
+        why
+    }
 }
 
 #[tactic(auto, unfolding(crate::specs::Config::config_in))]

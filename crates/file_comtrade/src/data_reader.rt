@@ -1,21 +1,21 @@
 //! Reading the data.
 
 ghost use Rattle.std.specs.Prelude.{◌≡◌, ◌<◌, ◌-◌, ◌^◌, [], IfOk, map, length};
-ghost use Rattle.std.specs.List.{list_all};
 ghost use Rattle.std.specs.Bool.{OnTrue};
 ghost use Rattle.base_memory.specs.Gives.{Gives};
 ghost use Rattle.file_comtrade.specs.Config.{values_of};
 ghost use Rattle.file_comtrade.specs.Data.{samples_of, samples_in, sample_after, follows, not_before};
-ghost use Rattle.file_comtrade.specs.Data.{is_done, last_in, shape_of, sample_lines, is_ascii};
-ghost use Rattle.file_comtrade.specs.{Steps.steps, Text.trimmed, Views.texts};
-ghost use Rattle.file_comtrade.specs.SampleViews.{sample_values, is_blank, times_in, IsAfter, OneLater};
+ghost use Rattle.file_comtrade.specs.Data.{is_done, last_in, lines_in, or_absent, shape_of, sample_lines};
+ghost use Rattle.file_comtrade.specs.{Steps.steps, Views.texts};
+ghost use Rattle.file_comtrade.specs.SampleViews.{sample_values, times_in, IsAfter, OneLater};
 ghost use Rattle.file_comtrade.specs.Levels.{NeverFalls};
 
+use crate::blank::blank_from;
 use crate::config::{Config, Form};
 use crate::fault::DataFault;
 use crate::raw_sample::raw_at;
 use crate::shape::{Shape, sample_bytes};
-use crate::text::{before_byte, lines, trimmed};
+use crate::text::{before_byte, lines, unmarked};
 use crate::time::{has_time, time_of};
 use base_memory::Stopped;
 use std::alloc::{AllocError, Global};
@@ -44,21 +44,48 @@ pub fn read_samples(
     ensures many { IfOk result (λ v. length v.items ≡ config.now.sampling.samples) }
     ensures later { IfOk result (λ v. NeverFalls (times_in v.items)) }
 {
+    let lines = lines_in(alloc, config, bytes)?;
+    match samples_in(alloc, config, chosen, lines.as_slice(), bytes) {
+        Ok(samples) => Ok(samples),
+        Err(Stopped::Fault(why)) => Err(Stopped::Fault(or_absent(lines.as_slice(), why))),
+        Err(Stopped::Memory) => Err(Stopped::Memory),
+    }
+}
+
+// The lines of data in ASCII.
+fn lines_in<'a>(
+    alloc: Global,
+    config: &Config,
+    bytes: &'a [u8],
+) -> Result<Vec<&'a [u8]>, AllocError>
+    ensures { IfOk result (λ v. texts v.items ≡ lines_in (values_of config.now) bytes.now) }
+{
     match config.form {
-        Form::Ascii => {
-            let lines = sample_lines(alloc, bytes)?;
-            samples_in(alloc, config, chosen, lines.as_slice(), bytes)
+        Form::Ascii => sample_lines(alloc, bytes),
+        Form::Binary | Form::Binary32 | Form::Float32 => Ok(Vec::new(alloc)),
+    }
+}
+
+// The fault, or that the data end before its sample.
+fn or_absent(lines: &[&[u8]], why: DataFault) -> DataFault
+    ensures { result ≡ or_absent (texts lines.now) why }
+{
+    match why {
+        DataFault::Fields(n) => {
+            if blank_from(lines, n.saturating_sub(1)) {
+                DataFault::Absent(n)
+            } else {
+                why
+            }
         }
-        Form::Binary | Form::Binary32 | Form::Float32 => {
-            samples_in(alloc, config, chosen, &[], bytes)
-        }
+        _ => why,
     }
 }
 
 fn sample_lines(alloc: Global, bytes: &[u8]) -> Result<Vec<&[u8]>, AllocError>
     ensures { IfOk result (λ v. texts v.items ≡ sample_lines bytes.now) }
 {
-    lines(alloc, before_byte(bytes, 26))
+    lines(alloc, before_byte(unmarked(bytes), 26))
 }
 
 #[tactic(auto, unfolding(crate::specs::Data::samples_in))]
@@ -79,7 +106,7 @@ fn samples_in(
     if is_done(config, lines, bytes) {
         Ok(samples)
     } else {
-        Err(Stopped::Fault(DataFault::Surplus))
+        Err(Stopped::Fault(DataFault::Surplus(config.sampling.samples as usize + 1)))
     }
 }
 
@@ -185,24 +212,10 @@ fn is_done(config: &Config, lines: &[&[u8]], bytes: &[u8]) -> bool
 {
     let samples = config.sampling.samples;
     match config.form {
-        Form::Ascii => match lines.get(samples as usize..) {
-            Some(rest) => are_blank(rest),
-            None => true,
-        },
+        Form::Ascii => blank_from(lines, samples as usize),
         Form::Binary | Form::Binary32 | Form::Float32 => {
             let size = sample_bytes(shape_of(config));
             bytes.len() as u128 == u128::from(samples) * size as u128
         }
     }
-}
-
-fn are_blank(lines: &[&[u8]]) -> bool
-    ensures { result ≡ list_all is_blank (texts lines.now) }
-{
-    for line in lines {
-        if !trimmed(line).is_empty() {
-            return false;
-        }
-    }
-    true
 }

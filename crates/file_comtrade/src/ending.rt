@@ -8,6 +8,7 @@ ghost use Rattle.file_comtrade.specs.{Views.texts, Views.end_of};
 use crate::config::{Form, Manner, Revision, StampUnit};
 use crate::config_lines::{factor_in, form_in, line_at, moment_in, unit_in};
 use crate::fault::ConfigFault;
+use crate::moment_fault::moment_fault;
 use base_memory::Stopped;
 use std::alloc::Global;
 
@@ -33,7 +34,8 @@ pub fn end_at(
 {
     let date = line_at(alloc, lines, at)?;
     let Some(first) = moment_in(manner.order, date.as_slice()) else {
-        return Err(Stopped::Fault(ConfigFault::Moment(at + 1)));
+        let why = moment_fault(manner.order, at + 1, date.as_slice());
+        return Err(Stopped::Fault(why));
     };
     line_at(alloc, lines, at + 1)?;
     let word = line_at(alloc, lines, at + 2)?;

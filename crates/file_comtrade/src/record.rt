@@ -1,6 +1,6 @@
 //! A record's two files, and why they have no levels at ticks.
 
-use crate::config::DateOrder;
+use crate::config::{DateOrder, Form};
 use crate::fault::{ConfigFault, DataFault};
 use crate::ticks::TickFault;
 use base_memory::Stopped;
@@ -22,7 +22,8 @@ pub enum RecordFault {
     NoChannel,
     /// More than one has it.
     ManyChannels,
-    Data(DataFault),
+    /// In data of this form.
+    Data { form: Form, why: DataFault },
     Ticks(TickFault),
 }
 
@@ -41,12 +42,12 @@ impl RecordFault {
         }
     }
 
-    /// The same of its data.
-    pub fn of_data(why: Stopped<DataFault>) -> Stopped<RecordFault>
-        ensures { result ≡ seen_as (λ f. fault.Data f) why }
+    /// The same of its data, which have this form.
+    pub fn of_data(form: Form, why: Stopped<DataFault>) -> Stopped<RecordFault>
+        ensures { result ≡ seen_as (λ f. fault.Data form f) why }
     {
         match why {
-            Stopped::Fault(fault) => Stopped::Fault(RecordFault::Data(fault)),
+            Stopped::Fault(why) => Stopped::Fault(RecordFault::Data { form, why }),
             Stopped::Memory => Stopped::Memory,
         }
     }

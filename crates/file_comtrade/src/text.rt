@@ -2,7 +2,7 @@
 
 ghost use Rattle.std.specs.Prelude.{◌≡◌, ◌==◌, IfOk, MatchOption, map};
 ghost use Rattle.std.specs.List.{position_or_len, before_first};
-ghost use Rattle.file_comtrade.specs.Text.{trimmed, lines_of, fields_of, cut_at};
+ghost use Rattle.file_comtrade.specs.Text.{trimmed, lines_of, fields_of, cut_at, unmarked};
 
 use base_text::lines::find_byte;
 use std::alloc::{AllocError, Global};
@@ -12,6 +12,16 @@ pub fn trimmed(bytes: &[u8]) -> &[u8]
     ensures { result.now ≡ trimmed bytes.now }
 {
     bytes.trim_ascii()
+}
+
+/// The text behind the byte order mark that may stand before it.
+pub fn unmarked(text: &[u8]) -> &[u8]
+    ensures { result.now ≡ unmarked text.now }
+{
+    match text {
+        [0xEF, 0xBB, 0xBF, rest @ ..] => rest,
+        _ => text,
+    }
 }
 
 /// The lines of a text; what follows the last line feed is a line too.

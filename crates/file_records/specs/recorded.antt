@@ -1,4 +1,5 @@
 pub mod Spans
+pub mod Scripts
 pub mod Changes
 pub mod Shows
 pub mod Channels

@@ -15,7 +15,7 @@ mod signals;
 mod source;
 mod sources;
 
-pub use file_names::data_name;
+pub use file_names::{data_name, is_one_file};
 pub use map::Map;
 pub use read::read_map;
 pub use recorder::Recorder;

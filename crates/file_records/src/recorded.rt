@@ -25,4 +25,4 @@ pub use exported_laws::{
 };
 pub use laws::a_script_shows_what_is_told;
 pub use map::map_text;
-pub use script::scripts_text;
+pub use script::{NoScript, scripts_text};

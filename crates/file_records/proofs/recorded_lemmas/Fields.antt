@@ -2,7 +2,7 @@
 use Rattle.std.proofs.Common.{◌≡◌, ◌≢◌, ◌≤◌, ◌<◌, ◌+◌, ◌-◌, ◌++◌, ◌∙◌, ℕ, zero, suc, Bool, true, false}
 use Rattle.std.proofs.Common.{List, [], ◌∷◌, length, get_or, take, drop, map, Some, refl, ap, sym}
 use Rattle.std.proofs.Common.{arith, cond, inl, inr, ne_eqb, append_assoc, length-append}
-use Rattle.std.proofs.lemmas.Bool.{and_parts, and_from, and_right, eqb-true, lt-leb}
+use Rattle.std.proofs.lemmas.Bool.{and_parts, and_from, and_right, eqb-true, leb-true, lt-leb}
 use Rattle.std.proofs.lemmas.Bool.{ltb-true, or_cases, or_from, or_left}
 use Rattle.std.proofs.lemmas.List.{get_or_append_left, get_or_at, take_all, take_at}
 use Rattle.std.proofs.lemmas.List.Elements.{All-append, All-cons, All-nil, All-get_or}
@@ -11,8 +11,9 @@ use Rattle.std.proofs.lemmas.List.Sums.{position_or_len_is, suffix_len_is}
 use Rattle.std.specs.Char.{is_ascii_whitespace}
 use Rattle.std.specs.List.{All, AllByRecursion, before_first, list_all, prefix_len}
 use Rattle.std.specs.List.{slice_get, suffix_len}
-use Rattle.std.specs.Prelude.{◌==◌, ◌||◌, nat_lt}
-use Rattle.file_comtrade.specs.Text.{fields_of, lines_of, trimmed, trimmed_end}
+use Rattle.std.specs.Prelude.{◌==◌, ◌||◌, nat_le, nat_lt}
+use Rattle.base_text.specs.store.Number.{is_digit}
+use Rattle.file_comtrade.specs.Text.{fields_of, lines_of, trimmed, trimmed_end, unmarked}
 
 -- ---- fields
 
@@ -202,6 +203,36 @@ no_end rs all =
     (λ k below. All-get_or (λ b. (b == 26) ≡ false) text k 0 below none)
     (λ within. absurd (omega arith)))
     ∙ take_all (length text) text (omega arith)
+
+-- ---- no byte order mark
+
+no_mark : (b : ℕ) (bs : List ℕ) → (b == 239) ≡ false → unmarked (b ∷ bs) ≡ b ∷ bs
+no_mark b [] e = refl
+no_mark b (c ∷ []) e = refl
+no_mark b (c ∷ d ∷ ds) e = rw e refl
+
+not_mark : (d : ℕ) → is_digit d ≡ true → (d == 239) ≡ false
+not_mark d digit =
+    let parts = and_parts (nat_le 48 d) (nat_le d 57) digit in
+    let high : d ≤ 57 = leb-true d 57 parts.1 in
+    ne_eqb d 239 (λ e. omega arith)
+
+no_mark_row : (f : List ℕ) (fs : List (List ℕ)) (rest : List ℕ) → 0 < length f
+    → list_all is_digit f ≡ true → unmarked (row (f ∷ fs) ++ rest) ≡ row (f ∷ fs) ++ rest
+no_mark_row [] fs rest some digits = absurd (omega arith)
+no_mark_row (d ∷ ds) fs rest some digits =
+    no_mark d ((ds ++ behind fs) ++ rest)
+    (not_mark d (and_parts (is_digit d) (list_all is_digit ds) digits).0)
+
+-- of rows of which the first begins with a number
+pub no_mark_first : (rs : List (List (List ℕ))) (f : List ℕ) (fs : List (List ℕ)) → 0 < length rs
+    → get_or rs 0 [] ≡ f ∷ fs → 0 < length f → list_all is_digit f ≡ true
+    → unmarked (rows_text rs) ≡ rows_text rs
+no_mark_first [] f fs some is long digits = absurd (omega arith)
+no_mark_first (r ∷ rs) f fs some is long digits =
+    ap (λ (x : List (List ℕ)). unmarked (row x ++ 10 ∷ rows_text rs)) is
+    ∙ no_mark_row f fs (10 ∷ rows_text rs) long digits
+    ∙ ap (λ (x : List (List ℕ)). row x ++ 10 ∷ rows_text rs) (sym is)
 
 -- ---- the line at a place
 

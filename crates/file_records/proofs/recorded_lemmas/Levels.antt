@@ -209,6 +209,6 @@ module _ (files : Files) (channel : ChannelSaid) (ticks : Ticks) (config : Confi
   accepted (fault.Config f) refused = no_config f refused
   accepted fault.NoChannel refused = none_named Nothing (λ e. cc) refused.config refused.found
   accepted fault.ManyChannels refused = none_named More (λ e. cc) refused.config refused.found
-  accepted (fault.Data f) refused =
+  accepted (fault.Data form f) refused =
       no_data f refused.config refused.index refused.alone refused.refused
   accepted (fault.Ticks f) refused = no_gap f refused

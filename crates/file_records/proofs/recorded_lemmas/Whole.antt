@@ -4,6 +4,7 @@ use Rattle.std.proofs.Common.{List, [], ◌∷◌, length, get_or, map, drop, No
 use Rattle.std.proofs.Common.{length-append, subst}
 use Rattle.std.proofs.Math.Nat.{mul-le-mul}
 use Rattle.std.proofs.lemmas.Bool.{and_from}
+use Rattle.std.proofs.lemmas.Fmt.{decimal_nonempty}
 use Rattle.std.proofs.lemmas.List.{drop_at, get_or-append-add, get_or-map, get_or_append_left, length-map}
 use Rattle.std.proofs.lemmas.List.{take_all}
 use Rattle.std.proofs.lemmas.List.Elements.{All-from_get_or, recursion_from_All}
@@ -11,13 +12,15 @@ use Rattle.std.proofs.lemmas.List.Folds.{list_all-append}
 use Rattle.std.proofs.lemmas.List.FromFn.{get_or-map-range_with_len, length-map-range_with_len}
 use Rattle.std.specs.List.{AllByRecursion, list_all, range_with_len}
 use Rattle.std.specs.Prelude.{codes, decimal, nat_lt}
+use Rattle.base_text.specs.store.DecimalLaws.{are_digits}
 use Rattle.model_history.specs.Each.{each_below}
 use Rattle.model_line.specs.{declared.line.Line.Line, declared.script.Script.Script}
 use Rattle.model_line.specs.Parameters.{terminal_count}
 use Rattle.model_line.specs.PlainNames.{is_plain_name}
 use Rattle.model_logic.specs.Histories.{History}
 use Rattle.run_changes.specs.rows.PlayRows.{level_word}
-use Rattle.file_comtrade.specs.Config.{config_in, config_of, digital_after, line_at}
+use Rattle.file_comtrade.specs.Config.{config_of, digital_after, ended, line_at}
+use Rattle.file_comtrade.specs.Data.{ended as data_ended}
 use Rattle.file_comtrade.specs.{Data.raw_at, Data.samples_of, Data.shape_of}
 use Rattle.file_comtrade.specs.{RawSample.raw_in_line, Steps.steps}
 use Rattle.file_comtrade.specs.Text.{fields_of, lines_of}
@@ -33,7 +36,7 @@ use Rattle.file_records.proofs.recorded_lemmas.ConfigBack.{IsTail, channel_field
 use Rattle.file_records.proofs.recorded_lemmas.ConfigBack.{tail_back}
 use Rattle.file_records.proofs.recorded_lemmas.DataBack.{raw_back, samples_back, samples_steps, text_shape}
 use Rattle.file_records.proofs.recorded_lemmas.Fields.{AreRows, IsField, IsRow, are_rows_append, is_row, line_back, lines_back}
-use Rattle.file_records.proofs.recorded_lemmas.Fields.{no_end, row, row_back, rows_text, solid}
+use Rattle.file_records.proofs.recorded_lemmas.Fields.{no_end, no_mark_first, row, row_back, rows_text, solid}
 use Rattle.file_records.proofs.recorded_lemmas.Ids.{id_is_field, named_there, plain_name}
 use Rattle.file_records.proofs.recorded_lemmas.Levels.{AreSaid, accepted, are_at, levels_are, never_falls, only_levels}
 use Rattle.file_records.proofs.recorded_lemmas.Lists.{AtPlaces, length_below, places_append, places_at, places_below}
@@ -251,10 +254,11 @@ module _ (line : Line) (script : Script) (plain : is_plain_name script.name ≡ 
       let some = line.horizon_in_range.0 in
       let channels_few = few_channels line in
       let long = rows_long in
-      ap (λ (t : List ℕ). config_in None (lines_of t)) (config_is line script.name)
-      ∙ config_back lines script.name count line.horizon (map (id_of line) (signals_of line)) (omega arith)
+      ap (config_of None) (config_is line script.name)
+      ∙ ap (ended lines)
+      (config_back lines script.name count line.horizon (map (id_of line) (signals_of line)) (omega arith)
       (line_row rs 0 rows_are (omega arith)) (line_row rs 1 rows_are (omega arith)) channels_read
-      (tail_back lines (2 + count) line.horizon (omega arith) (omega arith) tail_is)
+      (tail_back lines (2 + count) line.horizon (omega arith) (omega arith) tail_is))
 
 pub configs_are_read_back : ConfigsAreReadBack
 configs_are_read_back line script plain = config_read line script plain
@@ -368,11 +372,16 @@ module _ (line : Line) (script : Script) (h : History) where
       let ids : List (List ℕ) = map (id_of line) (signals_of line) in
       let level = level_of script h (get_or (signals_of line) i d) in
       let bytes : List ℕ = rows_text data_rows in
-      rw (no_end data_rows data_rows_are)
+      let some = line.horizon_in_range.0 in
+      let long = data_long in
+      let unmarked_rows =
+      no_mark_first data_rows (decimal 1) _ (omega arith) (data_row_at 0 (omega arith))
+      (decimal_nonempty 1 (omega arith)) (are_digits 1 (omega arith)).digits in
+      rw (unmarked_rows, no_end data_rows data_rows_are) (ap (data_ended data_lines)
       (samples_back ids line.horizon line.tick_us i level data_lines bytes
       (samples_steps ids line.horizon line.tick_us i level data_lines bytes (raw_is i d inside)
       (λ t within. let stamp = small_stamp line t within in omega arith) line.horizon (omega arith))
-      rest_is)
+      rest_is))
 
 pub data_are_read_back : DataAreReadBack
 data_are_read_back line script h i d inside =

@@ -1,5 +1,5 @@
 -- Why a channel has no levels at ticks.
-use Rattle.std.proofs.Common.{◌≡◌, ◌∙◌, ◌∷◌, ℕ, List, [], Ok, Err, inl, inr, subst, sym}
+use Rattle.std.proofs.Common.{◌≡◌, ◌∙◌, ◌∷◌, ℕ, List, [], Ok, Err, inl, inr, refl, subst, sym}
 use Rattle.base_memory.specs.{Gives.Fails, Gives.OfFault, declared.stopped.Stopped.Stopped}
 use Rattle.base_memory.specs.declared.stopped.Stopped.TheVariants as stopped
 use Rattle.file_comtrade.specs.{Config.ConfigValues, Config.config_of, Data.SampleValues}
@@ -49,12 +49,18 @@ module _ (files : Files) (channel : ChannelSaid) (ticks : Ticks) where
 
   pub data_refused : (config : ConfigValues) (index : ℕ) (why : Stopped DataFault)
       (told : Stopped RecordFault) → IsPicked files channel config (One index)
-      → told ≡ seen_as (λ f. fault.Data f) why
+      → told ≡ seen_as (λ f. fault.Data config.form f) why
       → Fails why (samples_of config (index ∷ []) files.samples)
       → OfFault (IsRefused files channel ticks) told
   data_refused config index (stopped.Fault f) told alone is refused =
       subst (λ (t : Stopped RecordFault). OfFault (IsRefused files channel ticks) t) (sym is)
-      (record { config = config; index = index; alone = alone; refused = refused })
+      (record {
+        config = config;
+        written = refl;
+        index = index;
+        alone = alone;
+        refused = refused;
+      })
   data_refused config index stopped.Memory told alone is refused =
       subst (λ (t : Stopped RecordFault). OfFault (IsRefused files channel ticks) t) (sym is) tt
 
@@ -66,5 +72,5 @@ module _ (files : Files) (channel : ChannelSaid) (ticks : Ticks) where
   gap_refused config samples (stopped.Fault (fault.Config f)) said gap = absurd gap
   gap_refused config samples (stopped.Fault fault.NoChannel) said gap = absurd gap
   gap_refused config samples (stopped.Fault fault.ManyChannels) said gap = absurd gap
-  gap_refused config samples (stopped.Fault (fault.Data f)) said gap = absurd gap
+  gap_refused config samples (stopped.Fault (fault.Data form f)) said gap = absurd gap
   gap_refused config samples stopped.Memory said gap = tt

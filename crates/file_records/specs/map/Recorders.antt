@@ -1,5 +1,5 @@
 -- The recorders of a map.
-use Rattle.std.specs.Prelude.{◌+◌, ◌++◌, ℕ, List, [], ◌∷◌, Option, None, Some, Result, Ok, Err}
+use Rattle.std.specs.Prelude.{◌+◌, ◌++◌, ◌||◌, ℕ, List, [], ◌∷◌, Option, None, Some, Result, Ok, Err}
 use Rattle.std.specs.Prelude.{codes, if◌then◌else◌}
 use Rattle.std.specs.Str.{bytes_eq}
 use Rattle.toml.specs.Data.{Data, Members, Items, no_items, item, get_member}
@@ -17,7 +17,7 @@ use Rattle.file_document.specs.{Keys.text_at, Keys.text_in}
 use Rattle.file_records.specs.{map.Signals.signals_values, map.Signals.signals_of}
 use Rattle.file_records.specs.map.DataNames.{is_config, is_one_file}
 
--- A recorder: its terminal, the name of its configuration, the order in its dates where it keeps to
+-- A recorder: its terminal, the name of its configuration or of its record in one file, the order in its dates where it keeps to
 -- none of its revision's, the instant of tick 0 in its clock, and the signals that it tells.
 pub record RecorderValues : Type 0 where
   pub terminal : ℕ
@@ -50,12 +50,10 @@ terminal_at line path ms = do
   name ← text_at path (codes "terminal") ms
   terminal_in (under path (codes "terminal")) (terminal_named line name)
 
--- the name of a configuration
+-- the name of a configuration, or of a record in one file
 abbrev pub config_in : List ℕ → List ℕ → Result (List ℕ) DocumentFault
 config_in path name =
-    if is_config name then Ok name
-    else if is_one_file name then Err (fault.OneFile path)
-    else Err (fault.BadName path)
+    if is_config name || is_one_file name then Ok name else Err (fault.BadName path)
 
 unfoldable pub config_at : List ℕ → Members → Result (List ℕ) DocumentFault
 config_at path ms = do

@@ -7,6 +7,7 @@ use Rattle.file_comtrade.specs.Record.{Files, AreAt, times_of}
 use Rattle.file_comtrade.specs.Ticks.{IsTickFault}
 use Rattle.file_comtrade.specs.declared.channel.Named.{Named}
 use Rattle.file_comtrade.specs.declared.channel.Named.TheVariants.{Nothing, One, More}
+use Rattle.file_comtrade.specs.declared.config.Form.{Form}
 use Rattle.file_comtrade.specs.declared.fault.DataFault.{DataFault}
 use Rattle.file_comtrade.specs.declared.record.RecordFault.{RecordFault}
 use Rattle.file_comtrade.specs.declared.record.RecordFault.TheVariants as fault
@@ -50,8 +51,11 @@ pub record NamesNone (files : Files) (channel : ChannelSaid) (named : Named) : T
   pub config : ConfigValues
   pub found : IsPicked files channel config named
 
-pub record AreRefused (files : Files) (channel : ChannelSaid) (f : DataFault) : Type 0 where
+-- data of this form
+pub record AreRefused (files : Files) (channel : ChannelSaid) (form : Form) (f : DataFault)
+    : Type 0 where
   pub config : ConfigValues
+  pub written : config.form ≡ form
   pub index : ℕ
   pub alone : IsPicked files channel config (One index)
   pub refused : samples_of config (index ∷ []) files.samples ≡ Err f
@@ -72,5 +76,5 @@ abbrev pub IsRefused : Files → ChannelSaid → Ticks → RecordFault → Type 
 IsRefused files channel ticks (fault.Config f) = config_of files.dates files.config ≡ Err f
 IsRefused files channel ticks fault.NoChannel = NamesNone files channel Nothing
 IsRefused files channel ticks fault.ManyChannels = NamesNone files channel More
-IsRefused files channel ticks (fault.Data f) = AreRefused files channel f
+IsRefused files channel ticks (fault.Data form f) = AreRefused files channel form f
 IsRefused files channel ticks (fault.Ticks f) = AreMissing files channel ticks f

@@ -33,7 +33,8 @@ pub fn is_config(name: &[u8]) -> bool
 
 /// Whether the name is that of a record in one file: it ends in `.cff`.
 pub fn is_one_file(name: &[u8]) -> bool
-    ensures { result ≡ is_one_file name.now }
+    ensures value { result ≡ is_one_file name.now }
+    ensures long { OnTrue result (4 ≤ length name.now) }
 {
     ends_in(b'c', b'f', b'f', name)
 }

@@ -10,7 +10,8 @@ use file_comtrade::DateOrder;
 pub struct Recorder {
     /// By its place in the line.
     pub terminal: u32,
-    /// The name of its configuration, which ends in `.cfg`.
+    /// The name of its configuration, which ends in `.cfg`, or of its record in one file, which ends in
+    /// `.cff`.
     pub config: Vec<u8>,
     /// The order in its dates, where it is not that of its revision.
     pub dates: Option<DateOrder>,

@@ -51,16 +51,13 @@ fn terminal(line: &Line, path: Path, table: &Table) -> Result<u32, DocumentFault
     terminal_in(line, path.key(b"terminal"), name.as_bytes())
 }
 
-// The name of a configuration.
+// The name of a configuration, or of a record in one file.
 fn config_in(alloc: Global, path: Path, name: &[u8]) -> Result<Vec<u8>, Stopped<DocumentFault>>
     ensures said { Gives (λ v. v.items) result (config_in path name.now) }
     ensures long { IfOk result (λ v. 4 ≤ length v.items) }
 {
-    if is_config(name) {
-        return Ok(Vec::from_slice(alloc, name)?);
-    }
-    if is_one_file(name) {
-        Err(Stopped::Fault(DocumentFault::OneFile(path)))
+    if is_config(name) || is_one_file(name) {
+        Ok(Vec::from_slice(alloc, name)?)
     } else {
         Err(Stopped::Fault(DocumentFault::BadName(path)))
     }

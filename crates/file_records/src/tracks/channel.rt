@@ -83,7 +83,7 @@ fn channel_samples(
     let chosen = [index];
     match read_samples(alloc, config, &chosen, files.samples) {
         Ok(samples) => Ok(samples),
-        Err(why) => Err(RecordFault::of_data(why)),
+        Err(why) => Err(RecordFault::of_data(config.form, why)),
     }
 }
 

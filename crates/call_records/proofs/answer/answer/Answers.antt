@@ -1,35 +1,23 @@
-use Rattle.std.proofs.Common.{◌≡◌, List, map}
+use Rattle.std.proofs.Common.{[], List, Result, map, subst, sym}
+use Rattle.std.proofs.lemmas.Result.{err_from_is_err_and}
 use Rattle.file_records.specs.map.Maps.{map_values}
-use Rattle.file_records.specs.tracks.Tracks.{PlacedValues, bytes_values, placed_values, track_values}
-use Rattle.call_records.specs.Answers.{placed_of}
-use Rattle.call_records.specs.Read.{files_values}
-use Rattle.call_records.proofs.Answering.{over_all, over_none, placed_are}
+use Rattle.call_records.specs.Answers.{over_records}
+use Rattle.call_records.specs.Parts.{RecordParts, SectionRefusal, parts_from}
+use Rattle.call_records.specs.Read.{Gives, files_values, record_values}
+use Rattle.call_records.proofs.Answering.{over_refused}
 use Rattle.call_records.proofs.answer.answer.Goals as goal
 
-pub returns-in-Ok : goal.returns-in-Ok
-returns-in-Ok c =
-    let line = c.args.line.now in
-    let m = map_values c.args.map.now in
-    let files = c.args.files.now in
-    let placed : List PlacedValues = map placed_values c.in_ok-placed.placed.items in
-    let is : placed ≡ placed_of line m (map files_values files) =
-    placed_are line m files placed (map bytes_values c.in_ok-bytes.bytes.items) c.in_ok-bytes.ensures
-    (rw (c.as_slice.ensures.value, c.as_slice-2.ensures.value) at c.in_ok-placed.ensures) in
-    over_all c.args.work line m (map files_values files) placed
-    (map track_values c.in-Ok.tracks.items) c.text_over.result is
-    (rw c.as_slice-3.ensures.value at c.in-Ok.ensures)
-    (rw (c.as_slice-in-Ok.ensures.value, c.as_slice-in-Ok-2.ensures.value) at c.text_over.ensures)
+pub returns-in_err-records : goal.returns-in_err-records
+returns-in_err-records c =
+    let p = err_from_is_err_and c.from_residual.result c.from_residual.ensures.1 in
+    rw (p.1, p.2) (over_refused c.args.work c.args.line.now (map_values c.args.map.now)
+    (parts_from (map files_values c.args.files.now) []) c.in_err-records.field-0.0
+    c.in_err-records.ensures.reads)
 
-pub returns-in-Err-Fault : goal.returns-in-Err-Fault
-returns-in-Err-Fault c =
-    let line = c.args.line.now in
-    let m = map_values c.args.map.now in
-    let files = c.args.files.now in
-    let placed : List PlacedValues = map placed_values c.in_ok-placed.placed.items in
-    let is : placed ≡ placed_of line m (map files_values files) =
-    placed_are line m files placed (map bytes_values c.in_ok-bytes.bytes.items) c.in_ok-bytes.ensures
-    (rw (c.as_slice.ensures.value, c.as_slice-2.ensures.value) at c.in_ok-placed.ensures) in
-    over_none c.args.work line m (map files_values files) placed c.in-Err-Fault.fault.place
-    c.in-Err-Fault.fault.why c.fault_halt.result is
-    (rw (c.as_slice-3.ensures.value, c.in-Err-Fault.field-0-is) at c.in-Err-Fault.ensures)
-    (rw (c.as_slice-in-Err-Fault.ensures.value, c.in-Err-Fault.field-0-is) at c.fault_halt.ensures)
+pub returns : goal.returns
+returns c =
+    let records = map record_values c.in_ok-records.records.items in
+    let given = rw c.as_slice.ensures.value at c.over_records.ensures in
+    subst (λ (s : Result (List RecordParts) SectionRefusal).
+    Gives (over_records c.args.work c.args.line.now (map_values c.args.map.now) s) c.over_records.result)
+    (sym c.in_ok-records.ensures.reads) given

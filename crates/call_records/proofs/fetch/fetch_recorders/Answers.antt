@@ -4,7 +4,8 @@ use Rattle.std.proofs.lemmas.List.{map-append}
 use Rattle.std.proofs.lemmas.Result.{err_from_is_err_and}
 use Rattle.file_records.specs.map.Recorders.{recorder_values}
 use Rattle.file_records.specs.declared.map.recorder.Recorder.{Recorder}
-use Rattle.call_records.specs.Course.{RecorderFiles, recorder_course, recorders_course}
+use Rattle.call_records.specs.Course.{recorder_course, recorders_course}
+use Rattle.call_records.specs.Parts.{RecorderFiles}
 use Rattle.call_records.specs.{Files.Held, Files.Runs, Read.files_values}
 use Rattle.call_records.specs.declared.halt.Halt.{Halt}
 use Rattle.call_records.specs.declared.halt.Halt.TheVariants as halt

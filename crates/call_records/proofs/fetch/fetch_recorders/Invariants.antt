@@ -1,6 +1,7 @@
 use Rattle.std.proofs.Common.{◌≡◌, [], ℕ, List, Result, drop, length, map}
 use Rattle.file_records.specs.map.Recorders.{recorder_values}
-use Rattle.call_records.specs.Course.{Course, RecorderFiles, recorders_course}
+use Rattle.call_records.specs.Course.{Course, recorders_course}
+use Rattle.call_records.specs.Parts.{RecorderFiles}
 use Rattle.call_records.specs.{Files.Runs, Read.files_values}
 use Rattle.call_records.specs.declared.halt.Halt.{Halt}
 use Rattle.call_records.proofs.fetch.fetch_recorders.Given as goal

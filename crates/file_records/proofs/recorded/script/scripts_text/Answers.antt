@@ -1,4 +1,4 @@
-use Rattle.std.proofs.Common.{◌≡◌, ◌≤◌, ◌∷◌, ◌++◌, ◌∙◌, ℕ, List, [], ap, arith, length, map, subst, sym}
+use Rattle.std.proofs.Common.{◌≡◌, ◌≤◌, ◌<◌, ◌∷◌, ◌++◌, ◌∙◌, ℕ, List, [], ap, arith, length, map, refl, subst, sym}
 use Rattle.std.specs.List.{All}
 use Rattle.std.proofs.lemmas.List.Elements.{All-cons, All-nil}
 use Rattle.model_line.specs.Fits.{Fits}
@@ -12,6 +12,15 @@ use Rattle.file_records.specs.recorded.Spans.{script_told}
 use Rattle.file_records.proofs.recorded_lemmas.Fitting.{told_fit}
 use Rattle.file_records.proofs.recorded.script.scripts_text.Goals as goal
 
+none_there : (spans : List SeenSpan) → length spans ≡ 0 → spans ≡ []
+none_there [] none = refl
+none_there (s ∷ ss) none = absurd (omega arith)
+
+pub returns-then-count-eq0 : goal.returns-then-count-eq0
+returns-then-count-eq0 c =
+    subst (λ (l : List SeenSpan). l ≡ []) c.in_ok-spans.ensures
+    (none_there c.in_ok-spans.spans.items (omega (arith, c.if-count-eq0.true, c.len-count.ensures)))
+
 pub print_scripts-requires-clause-fit : goal.print_scripts-requires-clause-fit
 print_scripts-requires-clause-fit c =
     let line = c.args.line.now in
@@ -23,7 +32,7 @@ print_scripts-requires-clause-fit c =
       deadline = m.deadline;
       spans = c.in_ok-spans.spans;
     } in
-    let few : length c.in_ok-spans.spans.items ≤ 200 = omega (arith, c.if-len-gt200.false, c.len.ensures) in
+    let few : length c.in_ok-spans.spans.items ≤ 200 = omega (arith, c.if-count-gt200.false, c.len-count.ensures) in
     let fits : Fits line own = record {
       plain_name = c.requires.plain;
       few_spans = few;
@@ -47,7 +56,7 @@ returns c =
       spans = c.in_ok-spans.spans;
     } in
     let told : ScriptValues = script_told line (map_values m) tracks in
-    let few : length c.in_ok-spans.spans.items ≤ 200 = omega (arith, c.if-len-gt200.false, c.len.ensures) in
+    let few : length c.in_ok-spans.spans.items ≤ 200 = omega (arith, c.if-count-gt200.false, c.len-count.ensures) in
     let fits : ValuesFit line told = record {
       plain_name = c.requires.plain;
       few_spans = subst (λ (l : List SeenSpan). length l ≤ 200) c.in_ok-spans.ensures few;
@@ -67,8 +76,12 @@ returns c =
     v ∷ []) in
     let are : map values_of c.as_slice.result.now ≡ told ∷ [] =
     ap (map values_of) same ∙ ap with_spans c.in_ok-spans.ensures in
-    subst (λ (t : List ℕ). SaysScripts line (told ∷ []) t)
-    (sym (c.in_ok-text.ensures.text
-    ∙ ap (λ (v : List ScriptValues). records_text (file_records line v)) are))
-    (c.printed_scripts_are_read_back.ensures line (told ∷ [])
-    (All-cons (ValuesFit line) told [] fits (All-nil (ValuesFit line))) one_file)
+    let some : 0 < length c.in_ok-spans.spans.items =
+    omega (arith, c.if-count-eq0.false, c.len-count.ensures) in (
+      subst (λ (l : List SeenSpan). 0 < length l) c.in_ok-spans.ensures some,
+      subst (λ (t : List ℕ). SaysScripts line (told ∷ []) t)
+          (sym (c.in_ok-text.ensures.text
+          ∙ ap (λ (v : List ScriptValues). records_text (file_records line v)) are))
+          (c.printed_scripts_are_read_back.ensures line (told ∷ [])
+          (All-cons (ValuesFit line) told [] fits (All-nil (ValuesFit line))) one_file),
+    )

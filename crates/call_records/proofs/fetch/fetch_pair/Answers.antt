@@ -1,11 +1,12 @@
 use Rattle.std.proofs.Common.{◌≡◌, ℕ, List, ◌∙◌, ap}
-use Rattle.std.proofs.Common.{subst}
+use Rattle.std.proofs.Common.{Some, subst}
 use Rattle.file_records.specs.map.DataNames.{data_name}
 use Rattle.call_records.specs.Beside.{beside}
-use Rattle.call_records.specs.Course.{config_file, data_file, files_with, reads}
+use Rattle.call_records.specs.Course.{config_file, data_file, reads}
+use Rattle.call_records.specs.Parts.{files_with, named}
 use Rattle.call_records.specs.Files.{Runs}
 use Rattle.call_records.proofs.Running.{runs_next}
-use Rattle.call_records.proofs.fetch.fetch_recorder.Goals as goal
+use Rattle.call_records.proofs.fetch.fetch_pair.Goals as goal
 
 pub returns-clause-course : goal.returns-clause-course
 returns-clause-course g c = λ next now r run.
@@ -27,15 +28,17 @@ returns-clause-course g c = λ next now r run.
     let is_samples : c.in_ok-samples.samples.name.items ≡ samples_name =
     c.in_ok-samples.ensures.named
     ∙ ap (beside c.args.map_name.now) (c.as_slice-2.ensures.value ∙ c.in_ok-data.ensures) in
-    let named = subst (λ (b : List ℕ). Runs held c3 now (next (files_with config_name config b samples)) r)
+    let both = subst (λ (b : List ℕ).
+    Runs held c3 now (next (files_with (named config_name config) (Some (named b samples)))) r)
     is_samples
     (subst (λ (a : List ℕ).
-    Runs held c3 now (next (files_with a config c.in_ok-samples.samples.name.items samples)) r)
+    Runs held c3 now
+    (next (files_with (named a config) (Some (named c.in_ok-samples.samples.name.items samples)))) r)
     is_config run) in
     runs_next held (config_file config_name)
     (λ config. reads (data_file samples_name)
-    (λ samples. next (files_with config_name config samples_name samples)))
+    (λ samples. next (files_with (named config_name config) (Some (named samples_name samples)))))
     config one.1 one.2 r c1 c2 now one.0
     (runs_next held (data_file samples_name)
-    (λ samples. next (files_with config_name config samples_name samples))
-    samples two.1 two.2 r c2 c3 now two.0 named)
+    (λ samples. next (files_with (named config_name config) (Some (named samples_name samples))))
+    samples two.1 two.2 r c2 c3 now two.0 both)

@@ -1,4 +1,4 @@
-use Rattle.call_records.proofs.refusal.gap_refused.Goals as goal
+use Rattle.call_records.proofs.record_refusal.gap_halt.Goals as goal
 
 pub returns : goal.returns
 returns c =
@@ -7,4 +7,4 @@ returns c =
       c.format.ensures.text,
       c.as_bytes-to.ensures.value,
       c.format-2.ensures.text,
-    ) at c.refused.ensures
+    ) at c.of_file.ensures
