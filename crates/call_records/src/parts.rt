@@ -44,7 +44,7 @@ fn whole(file: &NamedBytes) -> Part<'_>
 
 // Sections of a file of that name.
 fn sections<'a>(name: &'a [u8], parts: Parts<'a>) -> RecordParts<'a>
-    ensures { record_values result ≡ in_sections name.now (parts_values parts) }
+    ensures { record_values result ≡ in_sections name.now (parts_values parts.entry) }
 {
     RecordParts {
         config: Part {
