@@ -2,9 +2,10 @@ use Rattle.std.proofs.Common.{◌++◌, [], List, ap, get_or, sym, ◌∙◌}
 use Rattle.std.specs.Prelude.{None}
 use Rattle.std.specs.List.{cons_option}
 use Rattle.judge_settle.specs.declared.settle.answer.By.TheVariants.{Rules}
+use Rattle.judge_settle.specs.declared.settle.answer.Times.TheVariants.{All}
 use Rattle.call_verdicts.specs.Faults.{verdict_at}
 use Rattle.call_verdicts.specs.declared.finding.Finding.{Finding}
-use Rattle.call_verdicts.specs.declared.finding.Standing.TheVariants.{Open}
+use Rattle.call_verdicts.specs.declared.finding.Standing.TheVariants.{Held}
 use Rattle.call_verdicts.specs.declared.verdict.Verdict.{Verdict}
 use Rattle.call_verdicts.proofs.Kept.{filter_map_more}
 use Rattle.call_verdicts.proofs.verdict.verdicts_of.Goals as goal
@@ -12,7 +13,7 @@ use Rattle.call_verdicts.proofs.verdict.verdicts_of.Goals as goal
 pub loop-one-preserved : goal.loop-one-preserved
 loop-one-preserved c =
     let d : Finding =
-    record { script = 0; terminal = 0; standing = Open; by = Rules; first_must = None } in
+    record { script = 0; terminal = 0; standing = Held All; by = Rules; first_must = None } in
     c.in_ok-push_verdict.ensures
     ∙ ap (λ (vs : List Verdict).
     vs ++ cons_option (verdict_at c.args.scripts.now c.args.terminal
