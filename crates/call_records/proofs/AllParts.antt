@@ -39,11 +39,11 @@ module _ (fs : List code.RecorderFiles) (i : ℕ) (d : code.RecorderFiles) (done
       → Stops section_refusal said why ⊎ IsMemory why
   parts_stop said why so_far stops = elim stops [
     | inl by ↦ inl (record {
-        fault = by.fault;
-        fails = so_far ∙ here ∙ fails_at (files_values (get_or fs i d))
-            (map files_values (drop (i + 1) fs)) done by.fault by.fails;
-        tells = by.tells;
-      })
+      fault = by.fault;
+      fails = so_far ∙ here ∙ fails_at (files_values (get_or fs i d))
+          (map files_values (drop (i + 1) fs)) done by.fault by.fails;
+      tells = by.tells;
+    })
     | inr is ↦ inr is
   ]
 
