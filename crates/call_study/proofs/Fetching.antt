@@ -62,6 +62,10 @@ module _ (files : List ℕ → Option (List ℕ)) where
     | inr later ↦ later_first later (long_first rest f later.1 all.1)
   ]
     where
+      itself : (o : Option (List ℕ)) → IfSome o (λ b. b ≡ unwrap_or o [])
+      itself None = tt
+      itself (Some b) = refl
+
       later_first : IfSome (files a.name) (λ b. length b ≤ limit_of a.file) × IsTooLong files rest f
           → contents files rest ≡ Err f → contents files (a ∷ rest) ≡ Err f
       later_first later is =
@@ -69,10 +73,6 @@ module _ (files : List ℕ → Option (List ℕ)) where
           (opened (files a.name) all.0 (λ b. length b ≤ limit_of a.file) later.0)
           (itself (files a.name)) all
           ∙ ap (in_front (unwrap_or (files a.name) [])) is
-
-      itself : (o : Option (List ℕ)) → IfSome o (λ b. b ≡ unwrap_or o [])
-      itself None = tt
-      itself (Some b) = refl
 
   over_kinds : (script : Option (List ℕ)) (asked : Asked) (source : Source) (b : Bytes)
       (further : List (List ℕ)) (end : End) (text : List ℕ)

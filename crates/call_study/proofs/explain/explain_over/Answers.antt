@@ -4,14 +4,14 @@ use Rattle.std.proofs.lemmas.Result.{err_from_is_err_and}
 use Rattle.call_study.proofs.Explaining.{explain_halts}
 use Rattle.call_study.proofs.explain.explain_over.Goals as goal
 
-pub returns-in_ok-why-in_default : goal.returns-in_ok-why-in_default
-returns-in_ok-why-in_default c =
+pub returns-in_default : goal.returns-in_default
+returns-in_default c =
     rw (sym (rw c.as_slice-scripts.ensures.value at c.in_default.ensures))
-    (_, rw c.as_slice-scripts.ensures.value at c.in_ok-why-in_default.ensures, (refl, refl))
+    (_, rw c.as_slice-scripts.ensures.value at c.in_ok-why.ensures, (refl, refl))
 
 pub returns-in_err-said : goal.returns-in_err-said
 returns-in_err-said c =
-    let p = err_from_is_err_and c.from_residual.result c.from_residual.ensures.1 in
+    let p = err_from_is_err_and c.from_residual-in_err-said.result c.from_residual-in_err-said.ensures.1 in
     let study = c.args.study.now in
     rw (p.1, p.2) (explain_halts c.args.how.within c.args.how.form study.line study.scripts.items
     c.args.recording.now (option_copied c.args.script) c.in-Some.which

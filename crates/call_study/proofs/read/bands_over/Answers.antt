@@ -5,12 +5,12 @@ use Rattle.call_work.specs.load.Chosen.{chosen_script}
 use Rattle.call_study.proofs.Reading.{none_placed, one_placed}
 use Rattle.call_study.proofs.read.bands_over.Goals as goal
 
-pub returns-in_ok-why-in_default : goal.returns-in_ok-why-in_default
-returns-in_ok-why-in_default c =
+pub returns-in_default : goal.returns-in_default
+returns-in_default c =
     let scripts = c.args.loaded.now.study.scripts.items in
     none_placed scripts (chosen_script scripts (option_copied c.args.script)) _ _ _
     (rw c.as_slice.ensures.value at c.in_default.ensures.is)
-    (_, rw c.as_slice-in_default.ensures.value at c.in_ok-why-in_default.ensures, (refl, refl))
+    (_, rw c.as_slice-in_default.ensures.value at c.in_ok-why.ensures, (refl, refl))
 
 pub returns : goal.returns
 returns c =

@@ -8,15 +8,15 @@ use Rattle.call_study.proofs.Chosen.{chosen-map}
 use Rattle.call_study.proofs.Reading.{none_placed, one_placed, placed_at}
 use Rattle.call_study.proofs.read.played.Goals as goal
 
-pub returns-in_ok-why-in_default : goal.returns-in_ok-why-in_default
-returns-in_ok-why-in_default c =
+pub returns-in_default : goal.returns-in_default
+returns-in_default c =
     let scripts = c.args.study.now.scripts.items in
     none_placed scripts (chosen_script scripts (option_copied c.args.script)) _ _ _
     (rw c.as_slice.ensures.value at c.in_default.ensures.is)
-    (_, rw c.as_slice-in_default.ensures.value at c.in_ok-why-in_default.ensures, (refl, refl))
+    (_, rw c.as_slice-in_default.ensures.value at c.in_ok-why.ensures, (refl, refl))
 
-pub returns-in_ok-why-in_default-choose_timing : goal.returns-in_ok-why-in_default-choose_timing
-returns-in_ok-why-in_default-choose_timing c =
+pub returns-in_default-choose_timing : goal.returns-in_default-choose_timing
+returns-in_default-choose_timing c =
     let scripts = c.args.study.now.scripts.items in
     let timings = c.args.timings.now in
     let script = rw c.as_slice.ensures.value at c.in-Some.ensures in
@@ -29,7 +29,7 @@ returns-in_ok-why-in_default-choose_timing c =
     ∙ sym (chosen-map values_of (λ timing. timing.name) timings (option_copied c.args.timing))) (
       _,
       rw (map-map (λ (timing : NamedValues). timing.name) values_of timings)
-          c.in_ok-why-in_default-choose_timing.ensures,
+          c.in_ok-why-2.ensures,
       (refl, refl),
     ))
 

@@ -7,12 +7,12 @@ use Rattle.model_history.specs.ListLaws.{all_at}
 use Rattle.model_line.specs.Fits.{Fits}
 use Rattle.call_study.proofs.read.timings_of.Goals as goal
 
-pub returns-in_ok-why-in_default : goal.returns-in_ok-why-in_default
-returns-in_ok-why-in_default c =
+pub returns-in_default : goal.returns-in_default
+returns-in_default c =
     let scripts = c.args.study.scripts.items in
     none_placed scripts (chosen_script scripts (option_copied c.args.script)) _ _ _
     (rw c.as_slice.ensures.value at c.in_default.ensures.is)
-    (_, rw c.as_slice-in_default.ensures.value at c.in_ok-why-in_default.ensures, (refl, refl))
+    (_, rw c.as_slice-in_default.ensures.value at c.in_ok-why.ensures, (refl, refl))
 
 pub failing_said-requires-clause-study : goal.failing_said-requires-clause-study
 failing_said-requires-clause-study c =

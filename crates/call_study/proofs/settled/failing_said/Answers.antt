@@ -4,7 +4,7 @@ use Rattle.call_study.proofs.settled.failing_said.Goals as goal
 pub returns-in-Some : goal.returns-in-Some
 returns-in-Some c = λ script one.
     let at : slice_get c.args.study.now.scripts.items 0 ≡ Some script = rw one refl in
-    let found = rw (c.as_slice-found.ensures.value, c.in-Some.is) at (c.in_ok-found.ensures script at) in
+    let found = rw (c.as_slice-2.ensures.value, c.in-Some.is) at (c.in_ok-found.ensures script at) in
     record {
       rows = c.in_ok-rows.rows.items;
       are = rw one at c.in_ok-rows.ensures;
@@ -12,10 +12,10 @@ returns-in-Some c = λ script one.
       failing = inr found;
     }
 
-pub returns-in-None : goal.returns-in-None
-returns-in-None c = λ script one.
+pub returns : goal.returns
+returns c = λ script one.
     let at : slice_get c.args.study.now.scripts.items 0 ≡ Some script = rw one refl in
-    let found = rw (c.as_slice-found.ensures.value, c.in-None.is) at (c.in_ok-found.ensures script at) in
+    let found = rw (c.as_slice-2.ensures.value, c.in-None.is) at (c.in_ok-found.ensures script at) in
     record {
       rows = c.in_ok-rows.rows.items;
       are = rw one at c.in_ok-rows.ensures;

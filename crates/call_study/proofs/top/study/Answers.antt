@@ -26,8 +26,10 @@ returns-in-Ok-clause-clauses g c =
     let fetched = c.in-Ok.fetched in
     let (same, are) = c.in-Ok.ensures.files in
     let end = c.answer_told.result in
-    let (e1, e2) = (err c.args.err.now, err c.answer_told.new.err) in
-    let (o1, o2) = (c.args.out.now, c.answer_told.new.out) in
+    let e1 = err c.args.err.now in
+    let e2 = err c.answer_told.new.err in
+    let o1 = c.args.out.now in
+    let o2 = c.answer_told.new.out in
     closed out o1 o2 held old new request why e1 e2 end
     (ends_answered held out o1 o2 old new request fetched same are end c.answer_told.ensures.answered)
     (tells_wider request (λ file bytes. bytes ≡ bytes_at fetched file)
@@ -58,7 +60,8 @@ returns-in-Err-clause-clauses g c =
     let unread = c.in-Err.unread in
     let end = c.tell.result in
     let by = rw c.from.ensures at c.tell.ensures.end in
-    let (e1, e2) = (err c.args.err.now, err c.tell.new.err) in
+    let e1 = err c.args.err.now in
+    let e2 = err c.tell.new.err in
     let o = c.args.out.now in
     closed out o o held old new request why e1 e2 (Err end)
     (ends_told out (answer_over request) held (files_of request) old new o o unread end
