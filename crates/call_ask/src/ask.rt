@@ -22,12 +22,13 @@ pub struct Ask<'a> {
     pub work: Work<'a>,
 }
 
-/// Which work.
+/// Which work. A picture, a map and a page say in the words of `made` what made them.
 #[derive(Clone, Copy)]
 pub enum Work<'a> {
     /// A picture of every choice of delays, with these rows.
     Bands {
         rows: Rows,
+        made: &'a [u8],
     },
     /// A picture of a play, that of a timing of a third file, of the first where none is named.
     Play {
@@ -59,12 +60,10 @@ pub enum Work<'a> {
     },
     /// Over which numbers of one setting or two each obligation is held.
     Map(MapAsk<'a>),
-    /// The page of the whole study, which says that this program made it, of a version that this kit
-    /// proved, with at most so many analyses for each obligation.
+    /// The page of the whole study, with at most so many analyses for each obligation.
     Page {
         analyses: u32,
-        program: &'a [u8],
-        kit: &'a [u8],
+        made: &'a [u8],
     },
 }
 
@@ -93,7 +92,7 @@ pub enum Table {
 /// configuration, the data or the map of a record of it (COMTRADE), whose files go by this name.
 #[derive(Clone, Copy)]
 pub enum Form<'a> {
-    Diagram { rows: Rows },
+    Diagram { rows: Rows, made: &'a [u8] },
     Dump,
     Config,
     Data,

@@ -7,10 +7,12 @@ pub enum MapForm {
     Records,
 }
 
-/// The words of the axis of the columns, and those of the rows, if there are any: `P=FROM..TO:STEP`.
+/// The words of the axis of the columns, and those of the rows, if there are any: `P=FROM..TO:STEP`;
+/// and what a drawing says made it.
 #[derive(Clone, Copy)]
 pub struct MapAsk<'a> {
     pub x: &'a [u8],
     pub y: Option<&'a [u8]>,
     pub form: MapForm,
+    pub made: &'a [u8],
 }

@@ -7,9 +7,6 @@ use Rattle.model_line.specs.NamesByNumber.{terminal_name}
 use Rattle.judge_report.specs.Deadlines.{deadline_of}
 use Rattle.judge_settle.specs.declared.settle.answer.Answer.{Answer}
 use Rattle.judge_settle.specs.declared.settle.answer.Answer.TheVariants.{Held, Fails, Open}
-use Rattle.judge_settle.specs.declared.settle.answer.Times.{Times}
-use Rattle.judge_settle.specs.declared.settle.answer.Times.TheVariants.{All, Ticks}
-use Rattle.judge_settle.specs.settle.Times.{times_of}
 use Rattle.judge_verdict.specs.verdict.OneEach.{OneEach}
 use Rattle.draw_page.specs.declared.page.{Standing.Standing, Verdict.Verdict}
 use Rattle.draw_page.specs.declared.page.Standing.TheVariants as standing
@@ -17,14 +14,9 @@ use Rattle.call_tables.specs.declared.row.Row.{Row}
 use Rattle.call_facts.specs.declared.firsts.Firsts.{Firsts}
 use Rattle.call_facts.specs.{FirstTicks.place, Lists.At}
 
--- how an obligation stands that is held for these times
-abbrev pub standing_for : Times → Standing
-standing_for All = standing.Held
-standing_for Ticks = standing.HeldOnTicks
-
 -- how an obligation with this answer stands
 abbrev pub standing_of : Answer → Standing
-standing_of (Held nodes) = standing_for (times_of nodes.items)
+standing_of (Held nodes) = standing.Held
 standing_of (Fails timing) = standing.Fails
 standing_of (Open nodes) = standing.Open
 

@@ -15,8 +15,7 @@ pub struct HeadWords {
     pub title: Vec<u8>,
     pub scheme: Vec<u8>,
     pub terminals: Vec<Vec<u8>>,
-    pub program: Vec<u8>,
-    pub kit: Vec<u8>,
+    pub made: Vec<u8>,
 }
 
 /// What is asked for, and the line's own words.
@@ -29,15 +28,13 @@ pub fn head(alloc: Global, line: &Line, asked: &Asked<'_>) -> Result<HeadWords, 
 {
     let title = Vec::from_slice(alloc, asked.title)?;
     let scheme = Vec::from_slice(alloc, scheme_word(line.scheme))?;
-    let program = Vec::from_slice(alloc, asked.program)?;
-    let kit = Vec::from_slice(alloc, asked.kit)?;
+    let made = Vec::from_slice(alloc, asked.made)?;
     let terminals = terminal_names(alloc, line)?;
     Ok(HeadWords {
         title,
         scheme,
         terminals,
-        program,
-        kit,
+        made,
     })
 }
 

@@ -79,8 +79,7 @@ fn page_of(
         times: few.times,
         files: told.files,
         digests: few.digests,
-        program: head.program,
-        kit: head.kit,
+        made: head.made,
     })
 }
 

@@ -20,13 +20,12 @@ use file_study::sweeps::Group;
 use model_line::Memory;
 use std::alloc::Global;
 
-/// What a page is asked to say: its title, the program and what proved it, each in words; and at
-/// most how many analyses each obligation is settled with.
+/// What a page is asked to say: its title, and what made it, in words; and at most how many analyses
+/// each obligation is settled with.
 #[derive(Clone, Copy)]
 pub struct Asked<'a> {
     pub title: &'a [u8],
-    pub program: &'a [u8],
-    pub kit: &'a [u8],
+    pub made: &'a [u8],
     pub analyses: u32,
 }
 

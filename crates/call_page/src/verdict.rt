@@ -5,15 +5,14 @@ ghost use Rattle.model_line.specs.Parameters.{terminal_count};
 ghost use Rattle.judge_verdict.specs.verdict.OneEach.{OneEach};
 ghost use Rattle.call_page.specs.Facts.{AreKnown};
 ghost use Rattle.call_facts.specs.{FirstTicks.place, Lists.At};
-ghost use Rattle.call_page.specs.Verdicts.{IsVerdictOf, standing_for as standing_for_times};
-ghost use Rattle.call_page.specs.Verdicts.{standing_of as standing_of_answer};
+ghost use Rattle.call_page.specs.Verdicts.{IsVerdictOf, standing_of as standing_of_answer};
 
 use crate::known::{Known, firsts_at, row_at};
 use crate::parts::Part;
 use crate::worst::worst;
 use draw_page::{Means, Standing, Verdict};
 use judge_report::deadline;
-use judge_settle::settle::{Answer, By, Times, times_of};
+use judge_settle::settle::{Answer, By};
 use model_line::{Memory, name_of_terminal};
 use std::alloc::Global;
 
@@ -87,19 +86,9 @@ fn standing_of(answer: &Answer) -> Standing
     ensures { result ≡ standing_of_answer answer.now }
 {
     match answer {
-        Answer::Held(nodes) => standing_for(times_of(nodes.as_slice())),
+        Answer::Held(_) => Standing::Held,
         Answer::Fails(_) => Standing::Fails,
         Answer::Open(_) => Standing::Open,
-    }
-}
-
-// How an obligation stands that is held for these times.
-fn standing_for(times: Times) -> Standing
-    ensures { result ≡ standing_for_times times }
-{
-    match times {
-        Times::All => Standing::Held,
-        Times::Ticks => Standing::HeldOnTicks,
     }
 }
 

@@ -13,12 +13,12 @@ use Rattle.call_work.specs.load.Reading.{map_halt, map_of}
 use Rattle.call_work.specs.declared.load.sources.Loaded.{Loaded}
 
 -- the words ask for none, or memory ran out
-pub map_halts : (form : MapForm) (x : List ℕ) (y : Option (List ℕ)) (l : Loaded)
+pub map_halts : (form : MapForm) (x : List ℕ) (y : Option (List ℕ)) (made : List ℕ) (l : Loaded)
     (stop : Stopped MapDenial) (result : Result Said (Stopped MapDenial))
     → at_most 4096 (length l.study.scripts.items) ≡ None → result ≡ Err stop
     → ((why : MapDenial) → result ≡ Err (stopped.Fault why)
     → asked_of l.study.line x y ≡ Err why)
-    → Gives (answer_by (map_of form x y (as_read (studied l)))) (Err (halt_by map_halt stop))
-map_halts form x y l (stopped.Fault why) result few of denied =
+    → Gives (answer_by (map_of form x y made (as_read (studied l)))) (Err (halt_by map_halt stop))
+map_halts form x y made l (stopped.Fault why) result few of denied =
     rw (few, denied why of) (refl, refl)
-map_halts form x y l stopped.Memory result few of denied = tt
+map_halts form x y made l stopped.Memory result few of denied = tt

@@ -104,7 +104,7 @@ module _ (files : List ℕ → Option (List ℕ)) where
   beside_told : (asked : Asked) (b : List ℕ) (f : File)
       → AreToldAs files (files_beside asked) (further_list (files_beside asked) b)
       → IfSome (name_beside asked f) (λ n. IfSome (files n) (λ told. told ≡ b))
-  beside_told (request.bands which) b f are = tt
+  beside_told (request.bands which made) b f are = tt
   beside_told (request.play form name timing) b file.Line are = tt
   beside_told (request.play form name timing) b file.Scripts are = tt
   beside_told (request.play form name timing) b file.Timings are = are.0.1
@@ -129,7 +129,7 @@ module _ (files : List ℕ → Option (List ℕ)) where
   beside_told (request.explain name within form) b file.Record are = are.0.1
   beside_told (request.explain name within form) b file.Trees are = tt
   beside_told (request.explain name within form) b file.Study are = tt
-  beside_told (request.map form x y) b f are = tt
+  beside_told (request.map form x y made) b f are = tt
   beside_told request.page b f are = tt
 
   -- they are those that the store tells

@@ -35,9 +35,9 @@ halts why end text = (end ≡ Err why) × (text ≡ [])
 
 -- the status and the text of what is wanted
 abbrev pub answer_of : Wanted → commands.Answers
-answer_of (reading.bands which line script) = prints (IsBandsText line script which)
-answer_of (reading.play (form.Diagram which) line script timing) =
-    prints (IsRunText line script timing which)
+answer_of (reading.bands which made line script) = prints (IsBandsText line script which made)
+answer_of (reading.play (form.Diagram which made) line script timing) =
+    prints (IsRunText line script timing which made.now)
 answer_of (reading.play form.Dump line script timing) = prints (IsDumpText line script timing)
 answer_of (reading.play form.Config line script timing) =
     prints (λ text. text ≡ config_text line script.name)
@@ -59,7 +59,8 @@ answer_of (reading.recheck of trees) = recheck_answer of.line of.scripts trees
 answer_of (reading.lint from) = lint_answer from
 answer_of (reading.explain within form which line scripts record_bytes) =
     explain_answer line scripts record_bytes which within form
-answer_of (reading.map form x y both of) = map_answer of.line of.scripts form x y both
+answer_of (reading.map form x y made both of) =
+    map_answer of.line of.scripts form x y made both
 answer_of (reading.page of) = page_answer of.line of.scripts of.groups of.title
 
 -- it is done

@@ -24,13 +24,14 @@ use Rattle.draw_run.specs.declared.layout.subject.Subject.TheVariants as subject
 use Rattle.draw_run.specs.layout.Drawings.{drawing_of}
 use Rattle.file_records.specs.recorded.Data.{data_text}
 
--- the text of a diagram
-abbrev pub text_of : Line → Script → Subject → Diagram → List ℕ
-text_of line script what diagram = svg_of (drawing_of line script what diagram)
+-- the text of a diagram, made by what these words say
+abbrev pub text_of : Line → Script → List ℕ → Subject → Diagram → List ℕ
+text_of line script made what diagram = svg_of made (drawing_of line script what diagram)
 
 -- the text is that of the one interval history over the declared intervals, in which each gate of
 -- the line's net has the pair of the tree that it stands for, with these rows
-pub record IsBandsText (line : Line) (script : Script) (which : Rows) (text : List ℕ) : Type 0 where
+pub record IsBandsText (line : Line) (script : Script) (which : Rows) (made text : List ℕ)
+    : Type 0 where
   pub net : NetOf
   pub of_line : IsNetOf line net
   pub history : PairHistory
@@ -47,13 +48,13 @@ pub record IsBandsText (line : Line) (script : Script) (which : Rows) (text : Li
   pub same : IsSamePairHistory line history judged
   pub rules : map rule_named diagram.rules.items
       ≡ first_ticks (λ k. rule_of line script (judged.trip k)) (terminal_count line)
-  pub printed : text ≡ text_of line script subject.EveryChoice diagram
+  pub printed : text ≡ text_of line script made subject.EveryChoice diagram
 
 -- the text is that of the one history at the choice of the timing, in which each gate of the line's
 -- net has the value of the tree that it stands for, with these rows and the timing's steps; in a play
 -- nothing is open
 pub record IsRunText (line : Line) (script : Script) (timing : NamedValues) (which : Rows)
-    (text : List ℕ) : Type 0 where
+    (made text : List ℕ) : Type 0 where
   pub net : NetOf
   pub of_line : IsNetOf line net
   pub history : History
@@ -68,7 +69,7 @@ pub record IsRunText (line : Line) (script : Script) (timing : NamedValues) (whi
       (pairs_shown (known_history history) (λ gate t. both (gates gate t))) timing.timing.steps which
       diagram
   pub no_rules : diagram.rules.items ≡ []
-  pub printed : text ≡ text_of line script (subject.Play timing.name) diagram
+  pub printed : text ≡ text_of line script made (subject.Play timing.name) diagram
 
 -- the text is the dump of every gate of the line's net in the history at the choice of the timing
 pub record IsDumpText (line : Line) (script : Script) (timing : NamedValues) (text : List ℕ)

@@ -14,7 +14,7 @@ use std::alloc::Global;
 
 /// Over which numbers of one setting or two each obligation is held.
 pub fn map(alloc: Global, bytes: &Bytes, ask: &MapAsk<'_>) -> Result<Said, Halt>
-    ensures { Gives (answer_by (map_by ask.now.form ask.now.x.now (option_copied ask.now.y)
+    ensures { Gives (answer_by (map_by ask.now.form ask.now.x.now (option_copied ask.now.y) ask.now.made.now
         (given_of bytes.now))) result }
 {
     let loaded = load(alloc, bytes)?;
@@ -23,7 +23,7 @@ pub fn map(alloc: Global, bytes: &Bytes, ask: &MapAsk<'_>) -> Result<Said, Halt>
 
 fn map_over(alloc: Global, loaded: &Loaded, ask: &MapAsk<'_>) -> Result<Said, Halt>
     requires { IsLoaded loaded.now }
-    ensures { Gives (answer_by (map_by ask.now.form ask.now.x.now (option_copied ask.now.y)
+    ensures { Gives (answer_by (map_by ask.now.form ask.now.x.now (option_copied ask.now.y) ask.now.made.now
         (as_read (studied loaded.now)))) result }
 {
     match at_most(4096, loaded.study.scripts.as_slice()) {

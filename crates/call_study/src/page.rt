@@ -10,26 +10,24 @@ use call_page::{Asked, page_said};
 use call_work::load::{Bytes, Halt, Loaded, load};
 use std::alloc::Global;
 
-/// The page of a study, by a program and a kit of these names.
+/// The page of a study, made by what these words say.
 pub fn page(
     alloc: Global,
     bytes: &Bytes,
     analyses: u32,
-    program: &[u8],
-    kit: &[u8],
+    made: &[u8],
 ) -> Result<Said, Halt>
     ensures { Gives (answer_by (page_of (given_of bytes.now))) result }
 {
     let loaded = load(alloc, bytes)?;
-    page_over(alloc, &loaded, analyses, program, kit)
+    page_over(alloc, &loaded, analyses, made)
 }
 
 fn page_over(
     alloc: Global,
     loaded: &Loaded,
     analyses: u32,
-    program: &[u8],
-    kit: &[u8],
+    made: &[u8],
 ) -> Result<Said, Halt>
     requires { IsLoaded loaded.now }
     ensures { Gives (answer_by (page_of (as_read (studied loaded.now)))) result }
@@ -39,8 +37,7 @@ fn page_over(
         None => {
             let asked = Asked {
                 title: loaded.title.as_bytes(),
-                program,
-                kit,
+                made,
                 analyses,
             };
             let said = page_said(alloc, &loaded.study, loaded.groups.as_slice(), &asked)?;

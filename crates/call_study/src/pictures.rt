@@ -19,40 +19,43 @@ use model_timing::{NamedTiming, timings_inside_are_choices_inside};
 use net_gates::Compiled;
 use std::alloc::Global;
 
-/// The timing diagram of every choice of delays: well-formed SVG.
+/// The timing diagram of every choice of delays, made by what these words say: well-formed SVG.
 pub fn bands_text(
     alloc: Global,
     compiled: &Compiled<'_>,
     script: &Script,
     which: Rows,
+    made: &[u8],
 ) -> Result<Vec<u8>, Memory>
     requires fits { Fits compiled.now.line.now script.now }
     ensures well_formed { IfOk result (λ text. ∥ IsContent text.items ∥₁) }
     ensures drawn { IfOk result (λ text. IsBandsText compiled.now.line.now script.now which
-        text.items) }
+        made.now text.items) }
 {
     deadlines_are_below_the_horizon();
     let judged = analyse(alloc, compiled, script)?;
     let waves = every_choice_waves(alloc, compiled, script)?;
     let diagram = history_diagram(alloc, compiled, script, &judged, &waves, which)?;
     let drawn = draw(alloc, compiled.line, script, Subject::EveryChoice, &diagram)?;
-    let markup = svg(alloc, &drawn)?;
+    let markup = svg(alloc, &drawn, made)?;
     Ok(markup.text)
 }
 
-/// The timing diagram of a play: well-formed SVG.
+/// The timing diagram of a play, made by what these words say: well-formed SVG.
 pub fn run_text(
     alloc: Global,
     compiled: &Compiled<'_>,
     script: &Script,
     timing: &NamedTiming,
     which: Rows,
+    made: &[u8],
 ) -> Result<Vec<u8>, Memory>
     requires fits { Fits compiled.now.line.now script.now }
     requires inside { IsTimingInside compiled.now.line.now timing.now.timing }
     ensures well_formed { IfOk result (λ text. ∥ IsContent text.items ∥₁) }
     ensures drawn { IfOk result (λ text.
-        IsRunText compiled.now.line.now script.now (values_of timing.now) which text.items) }
+        IsRunText compiled.now.line.now script.now (values_of timing.now) which made.now
+        text.items) }
 {
     deadlines_are_below_the_horizon();
     let waves = play_waves(alloc, compiled, script, timing)?;
@@ -71,7 +74,7 @@ pub fn run_text(
         Subject::Play(timing.name),
         &diagram,
     )?;
-    let markup = svg(alloc, &drawn)?;
+    let markup = svg(alloc, &drawn, made)?;
     Ok(markup.text)
 }
 

@@ -36,13 +36,19 @@ use model_timing::NamedTiming;
 use net_gates::Compiled;
 use std::alloc::Global;
 
-/// The diagram of every choice of delays.
-pub fn bands(alloc: Global, which: Rows, bytes: &Bytes, script: Option<&str>) -> Result<Said, Halt>
-    ensures { Gives (answer_by (bands_of which (given_of bytes.now) (option_copied script.entry)))
+/// The diagram of every choice of delays, made by what these words say.
+pub fn bands(
+    alloc: Global,
+    which: Rows,
+    bytes: &Bytes,
+    script: Option<&str>,
+    made: &[u8],
+) -> Result<Said, Halt>
+    ensures { Gives (answer_by (bands_of which made.now (given_of bytes.now) (option_copied script.entry)))
         result }
 {
     let loaded = load(alloc, bytes)?;
-    bands_over(alloc, which, &loaded, script)
+    bands_over(alloc, which, &loaded, script, made)
 }
 
 fn bands_over(
@@ -50,9 +56,10 @@ fn bands_over(
     which: Rows,
     loaded: &Loaded,
     script: Option<&str>,
+    made: &[u8],
 ) -> Result<Said, Halt>
     requires { IsLoaded loaded.now }
-    ensures { Gives (answer_by (bands_of which (as_read (studied loaded.now))
+    ensures { Gives (answer_by (bands_of which made.now (as_read (studied loaded.now))
         (option_copied script.entry))) result }
 {
     let study = &loaded.study;
@@ -64,7 +71,7 @@ fn bands_over(
         line: &study.line,
         net: &study.net,
     };
-    let text = bands_text(alloc, &compiled, &study.scripts[i], which)?;
+    let text = bands_text(alloc, &compiled, &study.scripts[i], which, made)?;
     Ok(Said::good(text))
 }
 
@@ -343,7 +350,7 @@ fn play_text(
         text.items) }
 {
     match form {
-        Form::Diagram { rows } => run_text(alloc, compiled, script, timing, rows),
+        Form::Diagram { rows, made } => run_text(alloc, compiled, script, timing, rows, made),
         Form::Dump => dump_text(alloc, compiled, script, timing),
         Form::Config => config_text(alloc, compiled.line, script),
         Form::Data => record_data(alloc, compiled, script, timing),

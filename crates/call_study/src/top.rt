@@ -110,7 +110,7 @@ fn said_over(alloc: Global, ask: &Ask<'_>, fetched: &Fetched) -> Result<Said, Ha
     let further = fetched.further.as_slice();
     let script = ask.script;
     match ask.work {
-        Work::Bands { rows } => bands(alloc, rows, bytes, script),
+        Work::Bands { rows, made } => bands(alloc, rows, bytes, script, made),
         Work::Play { form, timing, .. } => play(alloc, form, bytes, further, script, timing),
         Work::Table(which) => table(alloc, which, bytes),
         Work::Timings { analyses } => timings(alloc, bytes, script, analyses),
@@ -133,10 +133,6 @@ fn said_over(alloc: Global, ask: &Ask<'_>, fetched: &Fetched) -> Result<Said, Ha
             explain(alloc, how, bytes, further, script)
         }
         Work::Map(axes) => map(alloc, bytes, &axes),
-        Work::Page {
-            analyses,
-            program,
-            kit,
-        } => page(alloc, bytes, analyses, program, kit),
+        Work::Page { analyses, made } => page(alloc, bytes, analyses, made),
     }
 }

@@ -4,8 +4,8 @@ use Rattle.std.specs.List.{flat_map}
 use Rattle.csv.specs.Writing.{row_text, default_writer}
 use Rattle.model_line.specs.{declared.line.Line.Line, declared.script.Script.Script}
 use Rattle.model_line.specs.NamesByNumber.{script_name, terminal_name}
-use Rattle.judge_settle.specs.{declared.settle.answer.Answer.Answer, settle.Times.times_of}
-use Rattle.judge_settle.specs.settle.Words.{by_word, times_word}
+use Rattle.judge_settle.specs.declared.settle.answer.Answer.{Answer}
+use Rattle.judge_settle.specs.settle.Words.{by_word}
 use Rattle.judge_settle.specs.declared.settle.answer.Answer.TheVariants.{Held, Fails, Open}
 use Rattle.call_tables.specs.declared.row.Row.{Row}
 
@@ -13,12 +13,6 @@ abbrev pub answer_word : Answer → List ℕ
 answer_word (Held nodes) = codes "held"
 answer_word (Fails timing) = codes "fails"
 answer_word (Open nodes) = codes "open"
-
--- of which times a held answer speaks; nothing of another
-abbrev pub times_text : Answer → List ℕ
-times_text (Held nodes) = times_word (times_of nodes.items)
-times_text (Fails timing) = []
-times_text (Open nodes) = []
 
 -- the name of the timing that fails: that of its terminal
 abbrev pub timing_name : Answer → List ℕ → List ℕ
@@ -28,14 +22,14 @@ timing_name (Open nodes) terminal = []
 
 abbrev pub header_record : List (List ℕ)
 header_record =
-    codes "script" ∷ codes "terminal" ∷ codes "answer" ∷ codes "by" ∷ codes "times"
-    ∷ codes "analyses" ∷ codes "timing" ∷ []
+    codes "script" ∷ codes "terminal" ∷ codes "answer" ∷ codes "by" ∷ codes "analyses"
+    ∷ codes "timing" ∷ []
 
 -- the fields of an obligation
 abbrev pub row_record : Line → List Script → Row → List (List ℕ)
 row_record line scripts row =
     script_name scripts row.script ∷ terminal_name line row.terminal
-    ∷ answer_word row.settled.answer ∷ by_word row.settled.by ∷ times_text row.settled.answer
+    ∷ answer_word row.settled.answer ∷ by_word row.settled.by
     ∷ decimal row.settled.analyses
     ∷ timing_name row.settled.answer (terminal_name line row.terminal) ∷ []
 

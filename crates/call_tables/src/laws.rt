@@ -27,8 +27,8 @@ pub fn rows_are_printable()
     declared_intervals_are_in_order();
 }
 
-/// The text of the trees and timings of all rows is accepted by whoever checks it: each split and
-/// each pair of cases can be made, each yes leaf is shown over its part, and each timing is inside
+/// The text of the trees and timings of all rows is accepted by whoever checks it: each part can be
+/// made, each pair of cases told apart, each yes leaf is shown over its part, and each timing is inside
 /// and its history fails its obligation. So `check_settle` gives its counts, but for want of memory.
 pub fn what_settle_writes_is_accepted()
     ensures { (line : Line) (scripts : List Script) (rows : List Row) →

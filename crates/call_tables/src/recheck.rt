@@ -3,7 +3,7 @@
 ghost use Rattle.std.specs.Prelude.{◌≡◌, IfOk};
 ghost use Rattle.std.specs.List.{concat};
 ghost use Rattle.call_answer.specs.{Answers.Says, Study.IsStudy};
-ghost use Rattle.call_tables.specs.Recheck.{recheck_answer, rejected_pieces};
+ghost use Rattle.call_tables.specs.Recheck.{recheck_answer, rejected_pieces, refused_pieces};
 
 use base_memory::{Memory, Stopped};
 use call_answer::{Said, Study, text_of};
@@ -29,16 +29,43 @@ pub fn recheck_settled(alloc: Global, study: &Study, trees: &[u8]) -> Result<Sai
     match check_settle(alloc, &compiled, study.scripts.as_slice(), trees) {
         Ok(counts) => Ok(Said::good(accepted_text(alloc, counts)?)),
         Err(Stopped::Memory) => Err(Memory),
-        Err(Stopped::Fault(fault)) => Ok(Said::rejected(rejected_text(alloc, study, fault)?)),
+        Err(Stopped::Fault(fault)) => Ok(Said::rejected(rejected_text(
+            alloc, study, trees, fault,
+        )?)),
     }
 }
 
-fn rejected_text(alloc: Global, study: &Study, fault: SettleFault) -> Result<Vec<u8>, Memory>
+// The first line that leaves the grammar, with a hint where an earlier version wrote the text.
+fn refused_text(alloc: Global, trees: &[u8], number: usize) -> Result<Vec<u8>, Memory>
+    ensures { IfOk result (λ text. text.items ≡ concat (refused_pieces trees.now number)) }
+{
+    if !trees.starts_with(b"study-trees 1\n") {
+        return rejected_line(alloc, number);
+    }
+    let mut digits = Buffer::new();
+    let number = digits.format(number).as_bytes();
+    text_of(
+        alloc,
+        &[
+            b"rejected Line ",
+            number,
+            b"\n",
+            b"an earlier version wrote these trees: make them again with `study settle --trees`\n",
+        ],
+    )
+}
+
+fn rejected_text(
+    alloc: Global,
+    study: &Study,
+    trees: &[u8],
+    fault: SettleFault,
+) -> Result<Vec<u8>, Memory>
     ensures { IfOk result (λ text. text.items
-        ≡ concat (rejected_pieces study.now.line study.now.scripts.items fault)) }
+        ≡ concat (rejected_pieces study.now.line study.now.scripts.items trees.now fault)) }
 {
     match fault {
-        SettleFault::Line(number) => rejected_line(alloc, number),
+        SettleFault::Line(number) => refused_text(alloc, trees, number),
         SettleFault::NotShown {
             script,
             terminal,

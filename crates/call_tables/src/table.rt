@@ -5,14 +5,14 @@ ghost use Rattle.csv.specs.Writing.{row_text, default_writer};
 ghost use Rattle.model_line.specs.Parameters.{terminal_count};
 ghost use Rattle.call_tables.specs.Rows.{AreRows};
 ghost use Rattle.call_tables.specs.Table.{answer_word as word_of_answer};
-ghost use Rattle.call_tables.specs.Table.{row_record, table_text as table_text_of, times_text};
+ghost use Rattle.call_tables.specs.Table.{row_record, table_text as table_text_of};
 ghost use Rattle.call_tables.specs.Table.{timing_name};
 
 use crate::row::Row;
 use base_records::push_record;
 use call_answer::Study;
 use itoa::Buffer;
-use judge_settle::settle::{Answer, by_word, times_of, times_word};
+use judge_settle::settle::{Answer, by_word};
 use model_line::Memory;
 use std::alloc::Global;
 
@@ -31,7 +31,6 @@ pub fn table_text(alloc: Global, study: &Study, rows: &[Row]) -> Result<Vec<u8>,
             b"terminal",
             b"answer",
             b"by",
-            b"times",
             b"analyses",
             b"timing",
         ],
@@ -63,7 +62,6 @@ fn push_row(alloc: Global, text: &mut Vec<u8>, study: &Study, row: &Row) -> Resu
             terminal.bytes(),
             answer_word(answer),
             by_word(row.settled.by),
-            times_in(answer),
             analyses,
             timing_of(answer, terminal.bytes()),
         ],
@@ -78,16 +76,6 @@ fn answer_word(answer: &Answer) -> &'static [u8]
         Answer::Held(_) => b"held",
         Answer::Fails(_) => b"fails",
         Answer::Open(_) => b"open",
-    }
-}
-
-// `all` or `ticks` of an answer that is held; nothing of another.
-fn times_in(answer: &Answer) -> &'static [u8]
-    ensures { result.now ≡ times_text answer.now }
-{
-    match answer {
-        Answer::Held(nodes) => times_word(times_of(nodes.as_slice())),
-        Answer::Fails(_) | Answer::Open(_) => b"",
     }
 }
 

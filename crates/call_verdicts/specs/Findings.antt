@@ -6,14 +6,15 @@ use Rattle.model_settle.specs.Schemes.{IsOneRailedBy}
 use Rattle.model_timing.specs.Timing.{TimingValues}
 use Rattle.judge_verdict.specs.verdict.OneEach.{OneEach}
 use Rattle.judge_report.specs.Firsts.{IsFirstMust}
-use Rattle.judge_settle.specs.settle.{Times.IsHeldFor, Trees.IsFailing}
+use Rattle.model_fine.specs.Fine.{EveryFineChoiceMeets}
+use Rattle.judge_settle.specs.settle.Trees.{IsFailing}
 use Rattle.call_verdicts.specs.declared.finding.{Finding.Finding, Standing.Standing}
 use Rattle.call_verdicts.specs.declared.finding.Standing.TheVariants.{Held, Fails, Open}
 
--- held: every choice inside meets the obligation, of these times; fails: the history of a timing
--- inside does not; a line whose scheme makes every trip one-railed leaves none open
+-- held: every choice of fractions inside meets the obligation; fails: the history of a timing inside
+-- does not; a line whose scheme makes every trip one-railed leaves none open
 abbrev pub IsStanding : Line → Script → ℕ → Standing → Type 0
-IsStanding line script k (Held times) = IsHeldFor line script k times
+IsStanding line script k Held = EveryFineChoiceMeets line script k
 IsStanding line script k Fails = (timing : TimingValues) × IsFailing line script k timing
 IsStanding line script k Open = ¬ (IsOneRailedBy line.scheme line)
 

@@ -11,7 +11,7 @@ use Rattle.call_verdicts.specs.declared.stretches.Mark.TheVariants.{First, Next,
 use Rattle.call_verdicts.specs.declared.verdict.Verdict.{Verdict}
 
 abbrev pub holds_so : Standing → Bool
-holds_so (Held times) = true
+holds_so Held = true
 holds_so Fails = false
 holds_so Open = false
 

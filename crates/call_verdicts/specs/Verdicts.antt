@@ -9,12 +9,12 @@ use Rattle.call_verdicts.specs.declared.finding.{Finding.Finding, Standing.Stand
 use Rattle.call_verdicts.specs.declared.finding.Standing.TheVariants.{Held, Fails, Open}
 
 abbrev pub fails_so : Standing → Bool
-fails_so (Held times) = false
+fails_so Held = false
 fails_so Fails = true
 fails_so Open = false
 
 abbrev pub is_left : Standing → Bool
-is_left (Held times) = false
+is_left Held = false
 is_left Fails = false
 is_left Open = true
 

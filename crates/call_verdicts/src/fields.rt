@@ -5,13 +5,11 @@ ghost use Rattle.model_line.specs.declared.script.Kind.TheVariants.{Internal};
 ghost use Rattle.base_text.specs.lines.Milliseconds.{ticks_text};
 ghost use Rattle.call_verdicts.specs.Records.{answer_word as word_of_answer};
 ghost use Rattle.call_verdicts.specs.Records.{margin_text as margin_text_of, times_text};
-ghost use Rattle.call_verdicts.specs.Records.{times_held as times_held_text};
 ghost use Rattle.call_verdicts.specs.Records.{trip_text as trip_text_of};
 
 use crate::finding::Standing;
 use base_text::lines::push_ticks;
 use itoa::Buffer;
-use judge_settle::settle::times_word;
 use model_line::{Kind, Memory};
 use std::alloc::Global;
 
@@ -128,22 +126,12 @@ pub fn number_words<'a>(digits: &'a mut Buffer, number: Option<usize>) -> &'a [u
     }
 }
 
-/// `all` or `ticks`, of which times an obligation is held; nothing of another.
-pub fn times_held(standing: Standing) -> &'static [u8]
-    ensures { result.now ≡ times_held_text standing }
-{
-    match standing {
-        Standing::Held(times) => times_word(times),
-        Standing::Fails | Standing::Open => b"",
-    }
-}
-
 /// `held`, `fails` or `open`.
 pub fn answer_word(standing: Standing) -> &'static [u8]
     ensures { result.now ≡ word_of_answer standing }
 {
     match standing {
-        Standing::Held(_) => b"held",
+        Standing::Held => b"held",
         Standing::Fails => b"fails",
         Standing::Open => b"open",
     }

@@ -14,7 +14,7 @@ ghost use Rattle.call_verdicts.specs.Findings.{AreFindings, IsFinding, IsStandin
 ghost use Rattle.judge_report.specs.Firsts.{IsFirstMust};
 
 use crate::cases::Cases;
-use judge_settle::settle::{Answer, By, Times, settle, times_of};
+use judge_settle::settle::{Answer, By, settle};
 use judge_verdict::verdict::{PairWaves, analyse};
 use model_line::Memory;
 use std::alloc::Global;
@@ -22,8 +22,8 @@ use std::alloc::Global;
 /// The answer to an obligation.
 #[derive(Clone, Copy)]
 pub enum Standing {
-    /// Every choice inside the declared intervals meets it, of these times.
-    Held(Times),
+    /// Every choice of fractions inside the declared intervals meets it.
+    Held,
     /// A timing inside, which may have steps, does not meet it.
     Fails,
     /// Nothing is said.
@@ -149,7 +149,7 @@ fn standing_of(answer: &Answer) -> Standing
         IsStanding line script k result }
 {
     match answer {
-        Answer::Held(nodes) => Standing::Held(times_of(nodes.as_slice())),
+        Answer::Held(_) => Standing::Held,
         Answer::Fails(_) => Standing::Fails,
         Answer::Open(_) => Standing::Open,
     }

@@ -7,7 +7,7 @@ ghost use Rattle.call_verdicts.specs.Findings.{AreFindings};
 ghost use Rattle.call_verdicts.specs.Records.{finding_record, header_record, verdicts_text};
 
 use crate::cases::Cases;
-use crate::fields::{answer_word, number_words, times_held, told_of_trip};
+use crate::fields::{answer_word, number_words, told_of_trip};
 use crate::finding::Finding;
 use crate::told::{fault_name, number_in, swept_text};
 use base_records::push_record;
@@ -47,7 +47,6 @@ fn push_header(alloc: Global, text: &mut Vec<u8>) -> Result<(), Memory>
             b"kind",
             b"answer",
             b"by",
-            b"times",
             b"swept_ms",
             b"trip_ms",
             b"margin_ms",
@@ -81,7 +80,6 @@ fn push_finding<'a>(
     let kind_said: &'a [u8] = kind_word(kind);
     let answer: &'a [u8] = answer_word(found.standing);
     let by: &'a [u8] = by_word(found.by);
-    let times: &'a [u8] = times_held(found.standing);
     push_record(
         alloc,
         text,
@@ -93,7 +91,6 @@ fn push_finding<'a>(
             kind_said,
             answer,
             by,
-            times,
             swept.as_slice(),
             told.trip.as_slice(),
             told.margin.as_slice(),

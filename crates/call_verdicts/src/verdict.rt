@@ -108,7 +108,7 @@ pub fn open_count(verdicts: &[Verdict]) -> usize
 pub fn is_held(verdict: &Verdict) -> bool
     ensures { result ≡ verdict_is_held verdict.now }
 {
-    matches!(verdict.standing, Standing::Held(_))
+    matches!(verdict.standing, Standing::Held)
 }
 
 fn fails(standing: Standing) -> bool

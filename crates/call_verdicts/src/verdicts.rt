@@ -60,7 +60,7 @@ fn is_failing(one: &Finding) -> bool
 {
     match one.standing {
         Standing::Fails => true,
-        Standing::Held(_) | Standing::Open => false,
+        Standing::Held | Standing::Open => false,
     }
 }
 
@@ -69,6 +69,6 @@ fn is_open(one: &Finding) -> bool
 {
     match one.standing {
         Standing::Open => true,
-        Standing::Held(_) | Standing::Fails => false,
+        Standing::Held | Standing::Fails => false,
     }
 }

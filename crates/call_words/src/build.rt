@@ -6,8 +6,5 @@
 /// What `study --version` says below the version.
 pub const BUILD: &str = "proved with Rattle, logic dac8208d650f15bf";
 
-/// What a page says made it: the program and its version; and what proved it, by the sum of its
-/// logic, which `rt version` says too.
-pub const PROGRAM: &[u8] = b"study 0.28.0";
-
-pub const KIT: &[u8] = b"Rattle, logic dac8208d650f15bf";
+/// What a page and a drawing say made them: the program and its version, and the same of its build.
+pub const MADE: &[u8] = b"study 0.29.0, proved with Rattle, logic dac8208d650f15bf";

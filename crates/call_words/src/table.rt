@@ -5,7 +5,7 @@ use clap::{Arg, ArgAction, Command};
 use std::alloc::{AllocError, Global};
 
 // The version of the program.
-const VERSION: &str = "0.28.0";
+const VERSION: &str = "0.29.0";
 
 // A command: its word, what it is for, its files, its options beside `-o`, and whether it writes three
 // files.

@@ -2,7 +2,7 @@
 
 ghost use Rattle.std.specs.Prelude.{◌≤◌, length};
 
-use crate::build::{KIT, PROGRAM};
+use crate::build::MADE;
 use crate::fault::WordFault;
 use base_text::store::number;
 use call_ask::{
@@ -192,14 +192,16 @@ fn work_of<'a>(
         "map" => map_of(own, *last, files)?,
         "page" => Work::Page {
             analyses,
-            program: PROGRAM,
-            kit: KIT,
+            made: MADE,
         },
         "recheck" => Work::Recheck { trees: *last },
         "margins" => Work::Table(Table::Margins),
-        "run" => played(own, *last, Form::Diagram { rows: rows_of(own) }),
+        "run" => played(own, *last, diagram(own)),
         "vcd" => played(own, *last, Form::Dump),
-        _ => Work::Bands { rows: rows_of(own) },
+        _ => Work::Bands {
+            rows: rows_of(own),
+            made: MADE,
+        },
     })
 }
 
@@ -264,6 +266,14 @@ fn before_axes(files: &[&str]) -> usize
     files.len()
 }
 
+// A timing diagram.
+fn diagram(own: &ArgMatches<'_>) -> Form<'static> {
+    Form::Diagram {
+        rows: rows_of(own),
+        made: MADE,
+    }
+}
+
 // The rows that change, or all.
 fn rows_of(own: &ArgMatches<'_>) -> Rows {
     if own.get_flag("all") {
@@ -302,6 +312,7 @@ fn map_of<'a>(
         } else {
             MapForm::Drawing
         },
+        made: MADE,
     }))
 }
 

@@ -17,6 +17,7 @@ pub use choose::{choose_script, choose_timing};
 pub use denial::Denial;
 pub use fetched::{Fetched, Unread, fetch_files};
 pub use halt::{Halt, status_of};
+pub(crate) use lines::one_line;
 pub use nearest::{unknown_script, unknown_timing};
 pub use sources::{Bytes, Loaded, load};
 pub use telling::tell;

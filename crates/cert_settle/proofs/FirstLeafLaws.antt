@@ -1,12 +1,13 @@
 -- The first yes leaf that is not shown, in a list of leaves and a longer one.
-use Rattle.std.proofs.Common.{◌≡◌, ◌+◌, ⊎_elim, ℕ, zero, suc, List, ◌++◌, true, false}
+use Rattle.std.proofs.Common.{◌≡◌, ◌+◌, ⊎_elim, ℕ, zero, suc, List, ◌++◌}
 use Rattle.std.proofs.Common.{Some, length, ◌∙◌, arith, IsTrue}
 use Rattle.std.proofs.lemmas.Option.{slice_get_within}
 use Rattle.std.specs.Prelude.{slice_get}
 use Rattle.model_line.specs.{declared.line.Line.Line, declared.script.Script.Script}
-use Rattle.model_settle.specs.CaseTrees.{CaseTree, Yes, Undecided, Split, Case}
+use Rattle.model_settle.specs.CaseTrees.{CaseTree, Yes, Undecided, Parted, Wanted}
+use Rattle.model_settle.specs.Assumed.{Throughout, Interrupted}
 use Rattle.model_history.specs.ListLaws.{at_append, before_append, after_append}
-use Rattle.cert_settle.specs.CaseParts.{Leaf, leaves, lower_of, upper_of, case_of, CasePart}
+use Rattle.cert_settle.specs.CaseParts.{Leaf, leaves, lower_of, upper_of, under, CasePart}
 use Rattle.cert_settle.specs.CaseParts.{IsShownOver, AreSoundOver}
 use Rattle.cert_settle.specs.FirstLeaf.{IsFirstNotShown}
 
@@ -32,15 +33,15 @@ module _ (line : Line) (script : Script) (k : ℕ) where
   sound_shown Yes part shown (suc i) leaf at on = absurd (cc)
   sound_shown Undecided part shown zero leaf at on = absurd (cc)
   sound_shown Undecided part shown (suc i) leaf at on = absurd (cc)
-  sound_shown (Split param mid first second) part sound i leaf at on =
+  sound_shown (Parted param mid first second) part sound i leaf at on =
       both_shown (leaves (lower_of part param mid) first) (leaves (upper_of part param mid) second)
       (sound_shown first (lower_of part param mid) sound.1.0)
       (sound_shown second (upper_of part param mid) sound.1.1) i leaf at on
-  sound_shown (Case terminal tick first second) part sound i leaf at on =
-      both_shown (leaves (case_of part terminal tick false) first)
-      (leaves (case_of part terminal tick true) second)
-      (sound_shown first (case_of part terminal tick false) sound.1.0)
-      (sound_shown second (case_of part terminal tick true) sound.1.1) i leaf at on
+  sound_shown (Wanted span first second) part sound i leaf at on =
+      both_shown (leaves (under part (Throughout span)) first)
+      (leaves (under part (Interrupted span)) second)
+      (sound_shown first (under part (Throughout span)) sound.1.0)
+      (sound_shown second (under part (Interrupted span)) sound.1.1) i leaf at on
 
   -- the first of some leaves is the first also of more
   pub not_shown_first : (xs ys : List Leaf) (n : ℕ) → IsFirstNotShown line script k xs n

@@ -9,7 +9,6 @@ pub mod NodeLaws
 pub mod TreeLaws
 pub mod TimingLaws
 pub mod StepLaws
-pub mod SplitLaws
 pub mod FirstLeafLaws
 pub mod WalkLaws
 pub mod ResultLaws

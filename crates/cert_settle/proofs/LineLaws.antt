@@ -1,6 +1,6 @@
 -- A line tells what it says.
 use Rattle.std.proofs.Common.{◌≡◌, ◌<◌, ◌^◌, ℕ, List, ◌∷◌, ◌++◌, drop, refl, sym, ◌∙◌, ap}
-use Rattle.std.proofs.Common.{arith, decimal, inl, inr}
+use Rattle.std.proofs.Common.{arith, decimal, inl, inr, append_assoc}
 use Rattle.std.proofs.lemmas.Bool.{cases_order}
 use Rattle.std.proofs.lemmas.List.{append_cancel_left}
 use Rattle.model_line.specs.{declared.line.Line.Line, Parameters.param_count}
@@ -8,8 +8,10 @@ use Rattle.model_line.specs.Parameters.{terminal_count}
 use Rattle.model_line.specs.NamesByNumber.{parameter_name}
 use Rattle.model_timing.specs.{declared.step.Step.Step, Inside.IsStepInside}
 use Rattle.base_text.specs.lines.Named.{named}
+use Rattle.model_settle.specs.Assumed.{HasSpan}
+use Rattle.judge_cases.specs.AssumedAt.{span_at}
 use Rattle.cert_settle.specs.Known.{Known}
-use Rattle.cert_settle.specs.Grammar.{name_of_terminal, step_line, step_text}
+use Rattle.cert_settle.specs.Grammar.{name_of_terminal, step_line, step_text, span_line}
 use Rattle.cert_settle.proofs.NumberLaws.{IsAt, no_at}
 use Rattle.cert_split.specs.text.StretchLaws.{backs_tell, fronts_tell, Unmarked}
 use Rattle.cert_split.specs.text.NumberLaws.{IsSpace, no_space, one_number}
@@ -24,6 +26,32 @@ one_named word name other n m small little same =
     (ap (drop 1) (append_cancel_left word (32 ∷ (name ++ (32 ∷ decimal n)))
     (32 ∷ (other ++ (32 ∷ decimal m))) same)) in
     (parts.0, one_number n m small little parts.1)
+
+-- a line of a terminal and its ticks tells all three
+pub one_span : (name other : List ℕ) (from since to until : ℕ) → from < 2 ^ 32 → since < 2 ^ 32
+    → to < 2 ^ 32 → until < 2 ^ 32 → span_line name from to ≡ span_line other since until
+    → (name ≡ other) × ((from ≡ since) × (to ≡ until))
+one_span name other from since to until a b c d same =
+    let whole : name ++ (32 ∷ (decimal from ++ (32 ∷ decimal to)))
+    ≡ other ++ (32 ∷ (decimal since ++ (32 ∷ decimal until))) = ap (drop 3) same in
+    let joined : (name ++ (32 ∷ decimal from)) ++ (32 ∷ decimal to)
+    ≡ (other ++ (32 ∷ decimal since)) ++ (32 ∷ decimal until) =
+    append_assoc name (32 ∷ decimal from) (32 ∷ decimal to) ∙ whole
+    ∙ sym (append_assoc other (32 ∷ decimal since) (32 ∷ decimal until)) in
+    let ends = backs_tell IsSpace (name ++ (32 ∷ decimal from)) (other ++ (32 ∷ decimal since))
+    (decimal to) (decimal until) 32 32 refl refl (no_space to c) (no_space until d) joined in
+    let fronts = backs_tell IsSpace name other (decimal from) (decimal since) 32 32 refl refl
+    (no_space from a) (no_space since b) ends.0 in
+    (fronts.0, (one_number from since a b fronts.1, one_number to until c d ends.1))
+
+-- the ticks of a span are small
+pub span_small : (line : Line) (terminal from to : ℕ) → HasSpan line (span_at terminal from to)
+    → (from < 2 ^ 32) × (to < 2 ^ 32)
+span_small line terminal from to has =
+    let range = line.horizon_in_range.1 in (
+      omega (arith, has.some, has.run, range),
+      omega (arith, has.run, range),
+    )
 
 pub one_terminal : (line : Line) (p q : ℕ) → p < terminal_count line → q < terminal_count line
     → name_of_terminal line p ≡ name_of_terminal line q → p ≡ q
@@ -87,6 +115,13 @@ one_step known line s t a b same =
 pub one_after : (word name : List ℕ) (n m : ℕ) → n < 2 ^ 32 → m < 2 ^ 32
     → named word name (decimal n) ≡ named word name (decimal m) → n ≡ m
 one_after word name n m small little same = (one_named word name name n m small little same).1
+
+-- a line of a terminal and its ticks tells the ticks
+pub one_ticks : (name : List ℕ) (from since to until : ℕ) → from < 2 ^ 32 → since < 2 ^ 32
+    → to < 2 ^ 32 → until < 2 ^ 32 → span_line name from to ≡ span_line name since until
+    → (from ≡ since) × (to ≡ until)
+one_ticks name from since to until a b c d same =
+    (one_span name name from since to until a b c d same).1
 
 -- a line of a delay, a tick and a number tells the step that it is of
 pub told_step : Known → (line : Line) (step : Step ℕ) (param from value : ℕ)

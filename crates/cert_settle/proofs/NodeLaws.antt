@@ -1,85 +1,79 @@
--- What a node's line can say over the box of a part.
-use Rattle.std.proofs.Common.{◌≡◌, ◌≢◌, ◌<◌, ◌^◌, ℕ, List, Bool, false, arith}
+-- What a node's line can say over the box of a view.
+use Rattle.std.proofs.Common.{◌≡◌, ◌≢◌, ◌<◌, ◌^◌, ℕ, List, Bool, false, refl, subst}
 use Rattle.std.specs.Prelude.{codes}
 use Rattle.std.specs.Bool.{Decides}
-use Rattle.model_line.specs.{declared.line.Line.Line, SetBounds.SameButParams}
+use Rattle.model_history.specs.Rails.{Ends}
+use Rattle.model_line.specs.declared.line.Line.{Line}
 use Rattle.model_line.specs.NamesByNumber.{parameter_name}
-use Rattle.model_logic.specs.Choice.{Box, declared_box}
-use Rattle.model_settle.specs.CaseTrees.{HasCases}
-use Rattle.model_logic.specs.Boxes.{CanSplit, CanSplit as CanSplitPart}
-use Rattle.judge_split.specs.Parts.{IsPart}
+use Rattle.model_logic.specs.Choice.{Box}
+use Rattle.model_settle.specs.{Assumed.Assumption, Assumed.HasSpan, Parts.CanPart}
+use Rattle.judge_cases.specs.AssumedAt.{span_at}
 use Rattle.judge_cases.specs.declared.node.CaseNode.{CaseNode}
 use Rattle.judge_cases.specs.declared.node.CaseNode.TheVariants as node
-use Rattle.cert_settle.specs.Known.{Known}
-use Rattle.cert_settle.specs.Grammar.{MayStand, node_text, case_line, Root}
-use Rattle.cert_split.specs.text.Grammar.{split_line}
-use Rattle.cert_settle.specs.Grammar.{name_of_terminal}
+use Rattle.judge_cases.specs.{declared.view.View.View, Views.Views, Views.IsView, Views.view_box}
+use Rattle.cert_settle.specs.Grammar.{MayStand, node_text, part_line, span_line, Root}
+use Rattle.cert_settle.specs.{Grammar.name_of_terminal, Reading.IsOverBox}
 
--- a split is the same here and there
-pub as_part : (line : Line) (box : Box) (param mid : ℕ) → CanSplit line box param mid
-    → CanSplitPart line box param mid
-as_part line box param mid can =
-    record { exists = can.exists; number = can.number; above = can.above; below = can.below }
+-- ---- views of boxes
 
-pub as_case : (line : Line) (box : Box) (param mid : ℕ) → CanSplitPart line box param mid
-    → CanSplit line box param mid
-as_case line box param mid can =
-    record { exists = can.exists; number = can.number; above = can.above; below = can.below }
+-- a view is over its own box
+pub own_box : (line : Line) (view : View) → IsView line view
+    → IsOverBox line (view_box line view) view
+own_box line view is = record {
+  is = is;
+  same = record { numbers = λ i lt. refl; delays = λ c t lt early. refl };
+}
 
--- what can be split in a box can be split in a part that stands for it
-pub in_part : Known → (line part : Line) (box : Box) (param mid : ℕ) → IsPart line box part
-    → CanSplit line box param mid → CanSplitPart part (declared_box part) param mid
-in_part known line part box param mid is can =
-    (known.parts.split line part box param mid is).1 (as_part line box param mid can)
+pub as_views : (line : Line) (box : Box) (view : View) → IsOverBox line box view
+    → Views line box view.assumed.items view
+as_views line box view over = record { is = over.is; same = over.same; assumes = refl }
 
-pub in_box : Known → (line part : Line) (box : Box) (param mid : ℕ) → IsPart line box part
-    → CanSplitPart part (declared_box part) param mid → CanSplit line box param mid
-in_box known line part box param mid is can =
-    as_case line box param mid ((known.parts.split line part box param mid is).0 can)
+pub over_box : (line : Line) (box : Box) (assumed : List Assumption) (view : View)
+    → Views line box assumed view → IsOverBox line box view
+over_box line box assumed view views = record { is = views.is; same = views.same }
 
--- the middle of a split has 32 bits
-pub middle_small : Known → (line part : Line) (box : Box) (param mid : ℕ) → IsPart line box part
-    → CanSplit line box param mid → mid < 2 ^ 32
-middle_small known line part box param mid is can =
-    let small : mid < 4000 =
-    known.middles part param mid (in_part known line part box param mid is can) in
-    omega (arith, small)
+-- boxes with the same interval of a parameter can be parted there alike
+pub parted_alike : (line : Line) (a b : Box) (param mid : ℕ) → a.ends param ≡ b.ends param
+    → CanPart line a param mid → CanPart line b param mid
+parted_alike line a b param mid same can = record {
+  exists = can.exists;
+  number = can.number;
+  above = subst (λ (e : Ends). e.least < mid) same can.above;
+  below = subst (λ (e : Ends). mid < e.greatest) same can.below;
+}
 
--- a tick of cases has 32 bits
-pub tick_small : (line : Line) (terminal tick : ℕ) → HasCases line terminal tick → tick < 2 ^ 32
-tick_small line terminal tick has =
-    let early = has.run in let range = line.horizon_in_range.1 in omega arith
+-- ---- nodes
 
--- a line that no node has: neither `yes` nor `undecided`, and no split and no cases that can be made
+-- a line that no node has: neither `yes` nor `undecided`, and no part and no span that can be told
 pub no_node : (line : Line) (room : ℕ) (root : Root) (bytes : List ℕ) (a b : Bool) → a ≡ false
     → b ≡ false → Decides a (bytes ≡ codes "yes") → Decides b (bytes ≡ codes "undecided")
-    → ((param mid : ℕ) → 0 < root.depth → 0 < room → CanSplit line root.box param mid
-    → bytes ≢ split_line (parameter_name line param) mid)
-    → ((terminal tick : ℕ) → 0 < root.depth → 0 < room → HasCases line terminal tick
-    → bytes ≢ case_line (name_of_terminal line terminal) tick)
+    → ((param mid : ℕ) → 0 < root.depth → 0 < room → mid < 2 ^ 32
+    → CanPart line root.box param mid → bytes ≢ part_line (parameter_name line param) mid)
+    → ((terminal from to : ℕ) → 0 < root.depth → 0 < room
+    → HasSpan line (span_at terminal from to)
+    → bytes ≢ span_line (name_of_terminal line terminal) from to)
     → (n : CaseNode) → MayStand line room root n → bytes ≢ node_text line n
-no_node line room root bytes a b x y da db splits cases node.Yes may is = (let t = da.1 is in cc)
-no_node line room root bytes a b x y da db splits cases node.Undecided may is =
+no_node line room root bytes a b x y da db parts spans node.Yes may is = (let t = da.1 is in cc)
+no_node line room root bytes a b x y da db parts spans node.Undecided may is =
     (let t = db.1 is in cc)
-no_node line room root bytes a b x y da db splits cases (node.Split param mid) may is =
-    splits param mid may.left.deep may.left.many may.can is
-no_node line room root bytes a b x y da db splits cases (node.Case terminal tick) may is =
-    cases terminal tick may.left.deep may.left.many may.can is
+no_node line room root bytes a b x y da db parts spans (node.Parted param mid) may is =
+    parts param mid may.left.deep may.left.many may.number may.can is
+no_node line room root bytes a b x y da db parts spans (node.Wanted terminal from to) may is =
+    spans terminal from to may.left.deep may.left.many may.can is
 
--- what may stand over the box of a part may stand over each box that it stands for
-pub may_in_box : Known → (line part : Line) (room depth : ℕ) (box : Box) (n : CaseNode)
-    → SameButParams line part → IsPart line box part
-    → MayStand line room (record { depth = depth; box = declared_box part }) n
+-- what may stand over the box of a view may stand over each box that it is over
+pub may_in_box : (line : Line) (view : View) (room depth : ℕ) (box : Box) (n : CaseNode)
+    → IsOverBox line box view
+    → MayStand line room (record { depth = depth; box = view_box line view }) n
     → MayStand line room (record { depth = depth; box = box }) n
-may_in_box known line part room depth box node.Yes same is may = tt
-may_in_box known line part room depth box node.Undecided same is may = tt
-may_in_box known line part room depth box (node.Split param mid) same is may =
-    let own = known.parts.own line part same in
+may_in_box line view room depth box node.Yes over may = tt
+may_in_box line view room depth box node.Undecided over may = tt
+may_in_box line view room depth box (node.Parted param mid) over may =
     record {
       left = may.left;
       number = may.number;
-      can = in_box known line part box param mid is
-          (in_part known line part (declared_box part) param mid own may.can);
+      can = parted_alike line (view_box line view) box param mid
+          (over.same.numbers param may.can.exists) may.can;
     }
-may_in_box known line part room depth box (node.Case terminal tick) same is may =
+may_in_box line view room depth box (node.Wanted terminal from to) over may =
     record { left = may.left; can = may.can }

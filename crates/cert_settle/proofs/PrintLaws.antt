@@ -9,8 +9,9 @@ use Rattle.model_line.specs.{declared.line.Line.Line}
 use Rattle.model_logic.specs.Choice.{Box}
 use Rattle.cert_claims.specs.text.Text.{fed}
 use Rattle.model_timing.specs.{declared.step.Step.Step, Inside.IsStepInside}
-use Rattle.model_settle.specs.CaseTrees.{CaseTree, Yes, Undecided, Split, Case}
-use Rattle.model_logic.specs.Boxes.{lower_half, upper_half}
+use Rattle.model_settle.specs.CaseTrees.{CaseTree, Yes, Undecided, Parted, Wanted}
+use Rattle.model_settle.specs.Parts.{upper_from}
+use Rattle.model_logic.specs.Boxes.{lower_half}
 use Rattle.judge_cases.specs.declared.node.CaseNode.{CaseNode}
 use Rattle.judge_cases.specs.declared.node.CaseNode.TheVariants as node
 use Rattle.cert_settle.specs.Known.{Known}
@@ -29,14 +30,14 @@ known_preorder line box Yes branches =
     All-cons (IsNodeOfLine line) node.Yes [] tt (All-nil (IsNodeOfLine line))
 known_preorder line box Undecided branches =
     All-cons (IsNodeOfLine line) node.Undecided [] tt (All-nil (IsNodeOfLine line))
-known_preorder line box (Split param mid first second) branches =
-    All-cons (IsNodeOfLine line) (node.Split param mid) (preorder first ++ preorder second)
+known_preorder line box (Parted param mid first second) branches =
+    All-cons (IsNodeOfLine line) (node.Parted param mid) (preorder first ++ preorder second)
     branches.0.exists
     (All-append (IsNodeOfLine line) (preorder first) (preorder second)
     (known_preorder line (lower_half box param mid) first branches.1.0)
-    (known_preorder line (upper_half box param mid) second branches.1.1))
-known_preorder line box (Case terminal tick first second) branches =
-    All-cons (IsNodeOfLine line) (node.Case terminal tick) (preorder first ++ preorder second)
+    (known_preorder line (upper_from box param mid) second branches.1.1))
+known_preorder line box (Wanted span first second) branches =
+    All-cons (IsNodeOfLine line) (node.Wanted span.terminal span.from span.to) (preorder first ++ preorder second)
     branches.0.exists
     (All-append (IsNodeOfLine line) (preorder first) (preorder second)
     (known_preorder line box first branches.1.0) (known_preorder line box second branches.1.1))

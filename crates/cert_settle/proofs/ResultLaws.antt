@@ -2,13 +2,11 @@
 use Rattle.std.proofs.Common.{◌≡◌, ◌<◌, ◌+◌, ◌*◌, ◌^◌, ◌&&◌, ℕ, Bool, List, length, refl}
 use Rattle.std.proofs.Common.{sym, ◌∙◌, ap, subst, arith, length-append}
 use Rattle.std.proofs.lemmas.List.Folds.{list_all-append}
-use Rattle.std.proofs.lemmas.List.Elements.{All-nil}
 use Rattle.std.specs.List.{list_all}
 use Rattle.model_line.specs.{declared.line.Line.Line, declared.script.Script.Script}
 use Rattle.model_line.specs.Parameters.{terminal_count}
-use Rattle.model_logic.specs.Choice.{LeastFromOne, declared_box}
-use Rattle.model_settle.specs.CaseTrees.{CaseTree, Yes, Undecided, Split, Case, are_yes}
-use Rattle.model_settle.specs.{CaseLaws.SoundTreesMeet, Assumed.Agrees}
+use Rattle.model_settle.specs.CaseTrees.{CaseTree, Yes, Undecided, Parted, Wanted, are_yes}
+use Rattle.model_fine.specs.SpanLaws.{SoundTreesMeet}
 use Rattle.judge_cases.specs.declared.node.CaseNode.{CaseNode}
 use Rattle.judge_cases.specs.Trees.{branch_count}
 use Rattle.judge_cases.specs.Nodes.{preorder}
@@ -26,14 +24,14 @@ use Rattle.cert_settle.specs.{CaseParts.leaves, CaseParts.whole_part, Counts.is_
 nodes_count : (t : CaseTree) → length (preorder t) ≡ 2 * branch_count t + 1
 nodes_count Yes = omega arith
 nodes_count Undecided = omega arith
-nodes_count (Split param mid first second) =
+nodes_count (Parted param mid first second) =
     omega (
       arith,
       nodes_count first,
       nodes_count second,
       length-append (preorder first) (preorder second),
     )
-nodes_count (Case terminal tick first second) =
+nodes_count (Wanted span first second) =
     omega (
       arith,
       nodes_count first,
@@ -67,21 +65,19 @@ whole_not_shown line script k nodes t fault are h =
 decided_yes : (t : CaseTree) → list_all is_decided (preorder t) ≡ are_yes t
 decided_yes Yes = refl
 decided_yes Undecided = refl
-decided_yes (Split param mid first second) =
+decided_yes (Parted param mid first second) =
     list_all-append is_decided (preorder first) (preorder second)
     ∙ ap (λ (b : Bool). b && list_all is_decided (preorder second)) (decided_yes first)
     ∙ ap (λ (b : Bool). are_yes first && b) (decided_yes second)
-decided_yes (Case terminal tick first second) =
+decided_yes (Wanted span first second) =
     list_all-append is_decided (preorder first) (preorder second)
     ∙ ap (λ (b : Bool). b && list_all is_decided (preorder second)) (decided_yes first)
     ∙ ap (λ (b : Bool). are_yes first && b) (decided_yes second)
 
 pub supported_told : SoundTreesMeet → (line : Line) (script : Script) (k : ℕ)
     (result : SettleResult) → script.deadline < line.horizon → k < terminal_count line
-    → LeastFromOne line (declared_box line) → IsSupported line script k result
-    → IsTold line script k result
-supported_told meet line script k (tree nodes) early there least shown = λ yes choice h inside is.
-    meet line script k (declared_box line) _ shown.tree early least there shown.sound
-    (sym (ap (list_all is_decided) shown.are ∙ decided_yes shown.tree) ∙ yes) choice h inside is
-    (All-nil (Agrees line script choice h))
-supported_told meet line script k (fails steps values) early there least refuted = refuted
+    → IsSupported line script k result → IsTold line script k result
+supported_told meet line script k (tree nodes) early there shown = λ yes.
+    meet.declared line script k shown.tree early there shown.sound
+    (sym (ap (list_all is_decided) shown.are ∙ decided_yes shown.tree) ∙ yes)
+supported_told meet line script k (fails steps values) early there refuted = refuted

@@ -4,7 +4,8 @@ use Rattle.std.proofs.Common.{◌⊎◌, inl, inr, subst}
 use Rattle.model_line.specs.{declared.line.Line.Line, Parameters.param_count}
 use Rattle.model_timing.specs.{declared.step.Step.Step, Inside.IsStepInside}
 use Rattle.model_line.specs.NamesByNumber.{parameter_name}
-use Rattle.model_settle.specs.CaseTrees.{HasCases}
+use Rattle.model_settle.specs.Assumed.{HasSpan}
+use Rattle.judge_cases.specs.AssumedAt.{span_at}
 use Rattle.std.specs.Prelude.{codes}
 use Rattle.cert_split.specs.text.ParamLaws.{one_param}
 use Rattle.base_text.specs.lines.NamedLaws.{first_same}
@@ -15,15 +16,15 @@ use Rattle.cert_settle.specs.Known.{Known}
 use Rattle.cert_settle.specs.Grammar.{Place, fixed, result_over, roots, after_step, Stands}
 use Rattle.cert_settle.specs.Grammar.{Said, says_nothing, says_step, says_no, says_node}
 use Rattle.cert_settle.specs.Grammar.{MayStand, node_text, step_text, Root, name_of_terminal}
-use Rattle.cert_settle.proofs.LineLaws.{one_named, one_terminal, one_step}
+use Rattle.cert_settle.proofs.LineLaws.{one_named, one_span, span_small, one_terminal, one_step}
 
 -- ---- what a line can say wherever it stands
 
 abbrev pub IsOfLine : Line → CaseNode → Type 0
 IsOfLine line node.Yes = Unit {0}
 IsOfLine line node.Undecided = Unit {0}
-IsOfLine line (node.Split param mid) = (param < param_count line) × (mid < 2 ^ 32)
-IsOfLine line (node.Case terminal tick) = HasCases line terminal tick
+IsOfLine line (node.Parted param mid) = (param < param_count line) × (mid < 2 ^ 32)
+IsOfLine line (node.Wanted terminal from to) = HasSpan line (span_at terminal from to)
 
 abbrev IsSaid : Line → Said → Type 0
 IsSaid line says_nothing = ⊥
@@ -41,8 +42,8 @@ pub of_line : (line : Line) (room : ℕ) (root : Root) (n : CaseNode) → MaySta
     → IsOfLine line n
 of_line line room root node.Yes may = tt
 of_line line room root node.Undecided may = tt
-of_line line room root (node.Split param mid) may = (may.can.exists, may.number)
-of_line line room root (node.Case terminal tick) may = may.can
+of_line line room root (node.Parted param mid) may = (may.can.exists, may.number)
+of_line line room root (node.Wanted terminal from to) may = may.can
 
 says : (line : Line) (place : Place) (m : Said) (text : List ℕ) → Stands line place m text
     → ((word : List ℕ) → ¬ (place ≡ fixed word)) → IsSaid line m × (text ≡ said_text line m)
@@ -69,40 +70,43 @@ module _ (known : Known) (line : Line) where
   one_node node.Yes node.Yes may can same = refl
   one_node node.Yes node.Undecided may can same =
       absurd (let e : ◌≡◌ {A = ℕ} 121 117 = first_same _ _ same in omega arith)
-  one_node node.Yes (node.Split p mid) may can same =
-      absurd (let e : ◌≡◌ {A = ℕ} 121 115 = first_same _ _ same in omega arith)
-  one_node node.Yes (node.Case k t) may can same =
-      absurd (let e : ◌≡◌ {A = ℕ} 121 99 = first_same _ _ same in omega arith)
+  one_node node.Yes (node.Parted q middle) may can same =
+      absurd (let e : ◌≡◌ {A = ℕ} 121 112 = first_same _ _ same in omega arith)
+  one_node node.Yes (node.Wanted l since until) may can same =
+      absurd (let e : ◌≡◌ {A = ℕ} 121 111 = first_same _ _ same in omega arith)
   one_node node.Undecided node.Yes may can same =
       absurd (let e : ◌≡◌ {A = ℕ} 117 121 = first_same _ _ same in omega arith)
   one_node node.Undecided node.Undecided may can same = refl
-  one_node node.Undecided (node.Split p mid) may can same =
-      absurd (let e : ◌≡◌ {A = ℕ} 117 115 = first_same _ _ same in omega arith)
-  one_node node.Undecided (node.Case k t) may can same =
-      absurd (let e : ◌≡◌ {A = ℕ} 117 99 = first_same _ _ same in omega arith)
-  one_node (node.Split p mid) node.Yes may can same =
-      absurd (let e : ◌≡◌ {A = ℕ} 115 121 = first_same _ _ same in omega arith)
-  one_node (node.Split p mid) node.Undecided may can same =
-      absurd (let e : ◌≡◌ {A = ℕ} 115 117 = first_same _ _ same in omega arith)
-  one_node (node.Split p mid) (node.Split q middle) may can same =
-      let parts = one_named (codes "split") (parameter_name line p) (parameter_name line q) mid middle
+  one_node node.Undecided (node.Parted q middle) may can same =
+      absurd (let e : ◌≡◌ {A = ℕ} 117 112 = first_same _ _ same in omega arith)
+  one_node node.Undecided (node.Wanted l since until) may can same =
+      absurd (let e : ◌≡◌ {A = ℕ} 117 111 = first_same _ _ same in omega arith)
+  one_node (node.Parted p mid) node.Yes may can same =
+      absurd (let e : ◌≡◌ {A = ℕ} 112 121 = first_same _ _ same in omega arith)
+  one_node (node.Parted p mid) node.Undecided may can same =
+      absurd (let e : ◌≡◌ {A = ℕ} 112 117 = first_same _ _ same in omega arith)
+  one_node (node.Parted p mid) (node.Parted q middle) may can same =
+      let parts = one_named (codes "part") (parameter_name line p) (parameter_name line q) mid middle
       may.1 can.1 same in
       let param : p ≡ q = one_param line (known.names line) p q may.0 can.0 parts.0 in
-      ap (λ (i : ℕ). node.Split i mid) param ∙ ap (λ (i : ℕ). node.Split q i) parts.1
-  one_node (node.Split p mid) (node.Case k t) may can same =
-      absurd (let e : ◌≡◌ {A = ℕ} 115 99 = first_same _ _ same in omega arith)
-  one_node (node.Case k t) node.Yes may can same =
-      absurd (let e : ◌≡◌ {A = ℕ} 99 121 = first_same _ _ same in omega arith)
-  one_node (node.Case k t) node.Undecided may can same =
-      absurd (let e : ◌≡◌ {A = ℕ} 99 117 = first_same _ _ same in omega arith)
-  one_node (node.Case k t) (node.Split p mid) may can same =
-      absurd (let e : ◌≡◌ {A = ℕ} 99 115 = first_same _ _ same in omega arith)
-  one_node (node.Case k t) (node.Case l u) may can same =
-      let range = line.horizon_in_range.1 in
-      let parts = one_named (codes "case") (name_of_terminal line k) (name_of_terminal line l) t u
-      (omega (arith, may.run, range)) (omega (arith, can.run, range)) same in
+      ap (λ (i : ℕ). node.Parted i mid) param ∙ ap (λ (i : ℕ). node.Parted q i) parts.1
+  one_node (node.Parted p mid) (node.Wanted l since until) may can same =
+      absurd (let e : ◌≡◌ {A = ℕ} 112 111 = first_same _ _ same in omega arith)
+  one_node (node.Wanted k from to) node.Yes may can same =
+      absurd (let e : ◌≡◌ {A = ℕ} 111 121 = first_same _ _ same in omega arith)
+  one_node (node.Wanted k from to) node.Undecided may can same =
+      absurd (let e : ◌≡◌ {A = ℕ} 111 117 = first_same _ _ same in omega arith)
+  one_node (node.Wanted k from to) (node.Parted q middle) may can same =
+      absurd (let e : ◌≡◌ {A = ℕ} 111 112 = first_same _ _ same in omega arith)
+  one_node (node.Wanted k from to) (node.Wanted l since until) may can same =
+      let small = span_small line k from to may in
+      let little = span_small line l since until can in
+      let parts = one_span (name_of_terminal line k) (name_of_terminal line l) from since to until
+      small.0 little.0 small.1 little.1 same in
       let terminal : k ≡ l = one_terminal line k l may.exists can.exists parts.0 in
-      ap (λ (i : ℕ). node.Case i t) terminal ∙ ap (λ (i : ℕ). node.Case l i) parts.1
+      ap (λ (i : ℕ). node.Wanted i from to) terminal
+      ∙ ap (λ (i : ℕ). node.Wanted l i to) parts.1.0
+      ∙ ap (λ (i : ℕ). node.Wanted l since i) parts.1.1
 
   -- the line of a `no` is no node's, and that of a step neither
   no_and_node : (numbers : List ℕ) (root : CaseNode) → ¬ (no_words numbers ≡ node_text line root)
@@ -110,20 +114,20 @@ module _ (known : Known) (line : Line) where
       let e : ◌≡◌ {A = ℕ} 110 121 = first_same _ _ same in omega arith
   no_and_node numbers node.Undecided same =
       let e : ◌≡◌ {A = ℕ} 110 117 = first_same _ _ same in omega arith
-  no_and_node numbers (node.Split p mid) same =
-      let e : ◌≡◌ {A = ℕ} 110 115 = first_same _ _ same in omega arith
-  no_and_node numbers (node.Case k t) same =
-      let e : ◌≡◌ {A = ℕ} 110 99 = first_same _ _ same in omega arith
+  no_and_node numbers (node.Parted p mid) same =
+      let e : ◌≡◌ {A = ℕ} 110 112 = first_same _ _ same in omega arith
+  no_and_node numbers (node.Wanted k from to) same =
+      let e : ◌≡◌ {A = ℕ} 110 111 = first_same _ _ same in omega arith
 
   step_and_node : (step : Step ℕ) (root : CaseNode) → ¬ (step_text line step ≡ node_text line root)
   step_and_node step node.Yes same =
       let e : ◌≡◌ {A = ℕ} 115 121 = first_same _ _ same in omega arith
   step_and_node step node.Undecided same =
       let e : ◌≡◌ {A = ℕ} 115 117 = first_same _ _ same in omega arith
-  step_and_node step (node.Split p mid) same =
-      let e : ◌≡◌ {A = ℕ} 116 112 = first_same _ _ (ap (drop 1) same) in omega arith
-  step_and_node step (node.Case k t) same =
-      let e : ◌≡◌ {A = ℕ} 115 99 = first_same _ _ same in omega arith
+  step_and_node step (node.Parted p mid) same =
+      let e : ◌≡◌ {A = ℕ} 115 112 = first_same _ _ same in omega arith
+  step_and_node step (node.Wanted k from to) same =
+      let e : ◌≡◌ {A = ℕ} 115 111 = first_same _ _ same in omega arith
 
   no_and_step : (numbers : List ℕ) (step : Step ℕ) → ¬ (no_words numbers ≡ step_text line step)
   no_and_step numbers step same =

@@ -4,8 +4,10 @@ use Rattle.std.proofs.Common.{◌∙◌, ap}
 use Rattle.std.proofs.Common.{subst, arith, append_assoc}
 use Rattle.std.proofs.lemmas.List.{map-append}
 use Rattle.model_line.specs.declared.line.Line.{Line}
-use Rattle.model_settle.specs.CaseTrees.{CaseTree, Yes, Undecided, Split, Case}
-use Rattle.model_logic.specs.Boxes.{lower_half, upper_half}
+use Rattle.model_settle.specs.CaseTrees.{CaseTree, Yes, Undecided, Parted, Wanted}
+use Rattle.model_logic.specs.Boxes.{lower_half}
+use Rattle.model_settle.specs.Parts.{upper_from}
+use Rattle.judge_cases.specs.AssumedAt.{span_at}
 use Rattle.base_memory.specs.declared.stopped.Stopped.{Stopped}
 use Rattle.base_text.specs.declared.lines.fault.TextFault.{TextFault}
 use Rattle.base_text.specs.{lines.LineLaws.goes_then, lines.Grammar.IsFault}
@@ -15,18 +17,18 @@ use Rattle.judge_cases.specs.Nodes.{preorder}
 use Rattle.cert_settle.specs.Reading.{GoesOn, IsBelow, IsOver, AreTwo}
 use Rattle.cert_settle.specs.Grammar.{Place, Root, Said, says_nothing, says_step, says_no}
 use Rattle.cert_settle.specs.Grammar.{says_node, Stands, opens, expected, IsNode, node_text}
-use Rattle.cert_settle.specs.Grammar.{MayStand, MaySplit, MayCase, grammar_of, after_node}
+use Rattle.cert_settle.specs.Grammar.{MayStand, MayPart, MayTell, grammar_of, after_node}
 
--- what a split or a pair of cases that can stand says, of a root that is one
-pub split_can : (line : Line) (room : ℕ) (root : Root) (n : CaseNode) (param mid : ℕ)
-    → n ≡ node.Split param mid → MayStand line room root n → MaySplit line room root param mid
-split_can line room root n param mid is may =
+-- what a part or a pair of cases that can stand says, of a root that is one
+pub part_can : (line : Line) (room : ℕ) (root : Root) (n : CaseNode) (param mid : ℕ)
+    → n ≡ node.Parted param mid → MayStand line room root n → MayPart line room root param mid
+part_can line room root n param mid is may =
     subst (λ (r : CaseNode). MayStand line room root r) is may
 
-pub case_can : (line : Line) (room : ℕ) (root : Root) (n : CaseNode) (terminal tick : ℕ)
-    → n ≡ node.Case terminal tick → MayStand line room root n
-    → MayCase line room root terminal tick
-case_can line room root n terminal tick is may =
+pub tell_can : (line : Line) (room : ℕ) (root : Root) (n : CaseNode) (terminal from to : ℕ)
+    → n ≡ node.Wanted terminal from to → MayStand line room root n
+    → MayTell line room root terminal from to
+tell_can line room root n terminal from to is may =
     subst (λ (r : CaseNode). MayStand line room root r) is may
 
 -- below a node, what it opens is expected
@@ -123,22 +125,22 @@ added_nodes n old one between new pre post a b c =
     ∙ append_assoc (old ++ n ∷ []) pre post
     ∙ append_assoc old (n ∷ []) (pre ++ post)
 
-pub below_split : (line : Line) (room left : ℕ) (root : Root) (n : CaseNode) (param mid : ℕ)
+pub below_part : (line : Line) (room left : ℕ) (root : Root) (n : CaseNode) (param mid : ℕ)
     (old one new : List CaseNode) (others : List Root) (text : List ℕ) (a : ℕ)
-    (later : List Place) (rest : List ℕ) (c : ℕ) → n ≡ node.Split param mid
-    → MaySplit line room root param mid → one ≡ old ++ n ∷ []
+    (later : List Place) (rest : List ℕ) (c : ℕ) → n ≡ node.Parted param mid
+    → MayPart line room root param mid → one ≡ old ++ n ∷ []
     → AreTwo line (record { depth = root.depth - 1; box = lower_half root.box param mid })
-    (record { depth = root.depth - 1; box = upper_half root.box param mid })
+    (record { depth = root.depth - 1; box = upper_from root.box param mid })
     (room - 1) left one new others text a later rest c
     → IsBelow line root n room left old new others text a later rest c
-below_split line room left root n param mid old one new others text a later rest c is can added two =
+below_part line room left root n param mid old one new others text a later rest c is can added two =
     let first : CaseTree = two.one.tree in
     let second : CaseTree = two.two.tree in
     subst (λ (r : CaseNode). IsBelow line root r room left old new others text a later rest c)
     (sym is) (record {
       is = record {
-        tree = Split param mid first second;
-        nodes = added_nodes (node.Split param mid) old one two.between new (preorder first)
+        tree = Parted param mid first second;
+        nodes = added_nodes (node.Parted param mid) old one two.between new (preorder first)
             (preorder second) (added ∙ ap (λ (r : CaseNode). old ++ r ∷ []) is) two.one.nodes
             two.two.nodes;
         branches = (can.can, (two.one.branches, two.two.branches));
@@ -151,23 +153,23 @@ below_split line room left root n param mid old one new others text a later rest
       reads = two.reads;
     })
 
-pub below_case : (line : Line) (room left : ℕ) (root : Root) (n : CaseNode) (terminal tick : ℕ)
+pub below_span : (line : Line) (room left : ℕ) (root : Root) (n : CaseNode) (terminal from to : ℕ)
     (old one new : List CaseNode) (others : List Root) (text : List ℕ) (a : ℕ)
-    (later : List Place) (rest : List ℕ) (c : ℕ) → n ≡ node.Case terminal tick
-    → MayCase line room root terminal tick → one ≡ old ++ n ∷ []
+    (later : List Place) (rest : List ℕ) (c : ℕ) → n ≡ node.Wanted terminal from to
+    → MayTell line room root terminal from to → one ≡ old ++ n ∷ []
     → AreTwo line (record { depth = root.depth - 1; box = root.box })
     (record { depth = root.depth - 1; box = root.box })
     (room - 1) left one new others text a later rest c
     → IsBelow line root n room left old new others text a later rest c
-below_case line room left root n terminal tick old one new others text a later rest c is can added
+below_span line room left root n terminal from to old one new others text a later rest c is can added
     two =
     let first : CaseTree = two.one.tree in
     let second : CaseTree = two.two.tree in
     subst (λ (r : CaseNode). IsBelow line root r room left old new others text a later rest c)
     (sym is) (record {
       is = record {
-        tree = Case terminal tick first second;
-        nodes = added_nodes (node.Case terminal tick) old one two.between new (preorder first)
+        tree = Wanted (span_at terminal from to) first second;
+        nodes = added_nodes (node.Wanted terminal from to) old one two.between new (preorder first)
             (preorder second) (added ∙ ap (λ (r : CaseNode). old ++ r ∷ []) is) two.one.nodes
             two.two.nodes;
         branches = (can.can, (two.one.branches, two.two.branches));

@@ -1,6 +1,6 @@
 -- What a walk finds of a tree, from its root and what it finds of both trees below it.
 use Rattle.std.proofs.Common.{◌≡◌, ◌<◌, ◌≤◌, ◌+◌, ℕ, List, [], ◌∷◌, ◌++◌, length, drop, get_or}
-use Rattle.std.proofs.Common.{true, false, refl, sym, ◌∙◌, ap, subst, arith, length-append}
+use Rattle.std.proofs.Common.{true, refl, sym, ◌∙◌, ap, subst, arith, length-append}
 use Rattle.std.proofs.Common.{append_assoc, Option, None, Some}
 use Rattle.std.proofs.Math.Seq.{drop-append_seam}
 use Rattle.std.proofs.lemmas.List.{drop-drop, get_or-drop, length-drop}
@@ -8,20 +8,20 @@ use Rattle.std.proofs.lemmas.Option.{same_Some}
 use Rattle.base_memory.specs.{Gives.OfFault, declared.stopped.Stopped.Stopped}
 use Rattle.base_memory.specs.declared.stopped.Stopped.TheVariants as stopped
 use Rattle.model_line.specs.{declared.line.Line.Line, declared.script.Script.Script}
-use Rattle.model_history.specs.Rails.{Ends}
-use Rattle.model_settle.specs.CaseTrees.{CaseTree, Yes, Undecided, Split, Case}
-use Rattle.model_logic.specs.Boxes.{CanSplit}
+use Rattle.model_settle.specs.CaseTrees.{CaseTree, Yes, Undecided, Parted, Wanted}
+use Rattle.model_settle.specs.Assumed.{Throughout, Interrupted}
 use Rattle.judge_cases.specs.{declared.view.View.View, Views.view_box}
 use Rattle.judge_cases.specs.declared.node.CaseNode.{CaseNode}
 use Rattle.judge_cases.specs.declared.node.CaseNode.TheVariants as node
 use Rattle.judge_cases.specs.Trees.{Branches}
 use Rattle.judge_cases.specs.Nodes.{preorder}
 use Rattle.cert_settle.specs.declared.tree.{NotShown.NotShown, Passed.Passed}
-use Rattle.cert_settle.specs.CaseParts.{CasePart, Leaf, leaves, lower_of, upper_of, case_of}
+use Rattle.cert_settle.specs.CaseParts.{CasePart, Leaf, leaves, lower_of, upper_of, under}
 use Rattle.cert_settle.specs.CaseParts.{parts_below, IsShownOver, AreSoundOver}
 use Rattle.cert_settle.specs.FirstLeaf.{IsFirstNotShown}
 use Rattle.cert_settle.specs.Walks.{IsWalked, IsNotShownFrom, IsLeafFault}
 use Rattle.cert_settle.specs.Walks.{IsViewOf, CanStand}
+use Rattle.cert_settle.proofs.NodeLaws.{parted_alike}
 use Rattle.cert_settle.proofs.FirstLeafLaws.{sound_shown, not_shown_first, not_shown_second}
 
 -- ---- the root
@@ -29,20 +29,20 @@ use Rattle.cert_settle.proofs.FirstLeafLaws.{sound_shown, not_shown_first, not_s
 abbrev pub root_of : CaseTree → CaseNode
 root_of Yes = node.Yes
 root_of Undecided = node.Undecided
-root_of (Split param mid first second) = node.Split param mid
-root_of (Case terminal tick first second) = node.Case terminal tick
+root_of (Parted param mid first second) = node.Parted param mid
+root_of (Wanted span first second) = node.Wanted span.terminal span.from span.to
 
 abbrev below_root : CaseTree → List CaseNode
 below_root Yes = []
 below_root Undecided = []
-below_root (Split param mid first second) = preorder first ++ preorder second
-below_root (Case terminal tick first second) = preorder first ++ preorder second
+below_root (Parted param mid first second) = preorder first ++ preorder second
+below_root (Wanted span first second) = preorder first ++ preorder second
 
 root_then : (tree : CaseTree) → preorder tree ≡ root_of tree ∷ below_root tree
 root_then Yes = refl
 root_then Undecided = refl
-root_then (Split param mid first second) = refl
-root_then (Case terminal tick first second) = refl
+root_then (Parted param mid first second) = refl
+root_then (Wanted span first second) = refl
 
 -- the node at the place where a tree begins is its root
 pub root_at : (tree : CaseTree) (after nodes : List CaseNode) (at : ℕ) (d root : CaseNode)
@@ -114,10 +114,10 @@ two_next line part Yes root a b after nodes at branches are is below =
 two_next line part Undecided root a b after nodes at branches are is below =
     absurd (let none : None ≡ Some (a, b) =
     subst (λ (r : CaseNode). parts_below part r ≡ Some (a, b)) (sym is) below in cc)
-two_next line part (Split param mid first second) root a b after nodes at branches are is below =
+two_next line part (Parted param mid first second) root a b after nodes at branches are is below =
     let pre : List CaseNode = preorder first in
     let post : List CaseNode = preorder second in
-    pair_as (λ x y. AreTwoNext line part (Split param mid first second) x y after nodes at)
+    pair_as (λ x y. AreTwoNext line part (Parted param mid first second) x y after nodes at)
     (lower_of part param mid) (upper_of part param mid) a b
     (subst (λ (r : CaseNode). parts_below part r ≡ Some (a, b)) (sym is) below) (record {
       first = first;
@@ -127,14 +127,14 @@ two_next line part (Split param mid first second) root a b after nodes at branch
       lower = branches.1.0;
       upper = branches.1.1;
       sound = λ script k one two. (branches.0, (one, two));
-      first_next = first_after (node.Split param mid) pre post after nodes at are;
-      second_next = second_after (node.Split param mid) pre post after nodes at are;
+      first_next = first_after (node.Parted param mid) pre post after nodes at are;
+      second_next = second_after (node.Parted param mid) pre post after nodes at are;
     })
-two_next line part (Case terminal tick first second) root a b after nodes at branches are is below =
+two_next line part (Wanted span first second) root a b after nodes at branches are is below =
     let pre : List CaseNode = preorder first in
     let post : List CaseNode = preorder second in
-    pair_as (λ x y. AreTwoNext line part (Case terminal tick first second) x y after nodes at)
-    (case_of part terminal tick false) (case_of part terminal tick true) a b
+    pair_as (λ x y. AreTwoNext line part (Wanted span first second) x y after nodes at)
+    (under part (Throughout span)) (under part (Interrupted span)) a b
     (subst (λ (r : CaseNode). parts_below part r ≡ Some (a, b)) (sym is) below) (record {
       first = first;
       second = second;
@@ -143,8 +143,8 @@ two_next line part (Case terminal tick first second) root a b after nodes at bra
       lower = branches.1.0;
       upper = branches.1.1;
       sound = λ script k one two. (branches.0, (one, two));
-      first_next = first_after (node.Case terminal tick) pre post after nodes at are;
-      second_next = second_after (node.Case terminal tick) pre post after nodes at are;
+      first_next = first_after (node.Wanted span.terminal span.from span.to) pre post after nodes at are;
+      second_next = second_after (node.Wanted span.terminal span.from span.to) pre post after nodes at are;
     })
 
 -- a tree has no more leaves than nodes
@@ -152,7 +152,7 @@ pub few_leaves : (tree : CaseTree) (part : CasePart)
     → length (leaves part tree) ≤ length (preorder tree)
 few_leaves Yes part = omega arith
 few_leaves Undecided part = omega arith
-few_leaves (Split param mid first second) part =
+few_leaves (Parted param mid first second) part =
     omega (
       arith,
       few_leaves first (lower_of part param mid),
@@ -161,13 +161,13 @@ few_leaves (Split param mid first second) part =
           (leaves (upper_of part param mid) second),
       length-append (preorder first) (preorder second),
     )
-few_leaves (Case terminal tick first second) part =
+few_leaves (Wanted span first second) part =
     omega (
       arith,
-      few_leaves first (case_of part terminal tick false),
-      few_leaves second (case_of part terminal tick true),
-      length-append (leaves (case_of part terminal tick false) first)
-          (leaves (case_of part terminal tick true) second),
+      few_leaves first (under part (Throughout span)),
+      few_leaves second (under part (Interrupted span)),
+      length-append (leaves (under part (Throughout span)) first)
+          (leaves (under part (Interrupted span)) second),
       length-append (preorder first) (preorder second),
     )
 
@@ -188,11 +188,11 @@ module _ (line : Line) (script : Script) (k : ℕ) where
     leaves = count;
     sound = tt;
   }
-  walked_leaf (Split p m first second) part root passed walked is below shown nodes count =
+  walked_leaf (Parted p m first second) part root passed walked is below shown nodes count =
       absurd (let some : Some (lower_of part p m, upper_of part p m) ≡ None =
       subst (λ (r : CaseNode). parts_below part r ≡ None) (sym is) below in cc)
-  walked_leaf (Case p m first second) part root passed walked is below shown nodes count =
-      absurd (let some : Some (case_of part p m false, case_of part p m true) ≡ None =
+  walked_leaf (Wanted span first second) part root passed walked is below shown nodes count =
+      absurd (let some : Some (under part (Throughout span), under part (Interrupted span)) ≡ None =
       subst (λ (r : CaseNode). parts_below part r ≡ None) (sym is) below in cc)
 
   yes_not_shown : (tree : CaseTree) (part : CasePart) (leaf : ℕ) (fault : NotShown)
@@ -210,8 +210,8 @@ module _ (line : Line) (script : Script) (k : ℕ) where
     };
   }
   yes_not_shown Undecided part leaf fault is at never = absurd (cc)
-  yes_not_shown (Split p m first second) part leaf fault is at never = absurd (cc)
-  yes_not_shown (Case p m first second) part leaf fault is at never = absurd (cc)
+  yes_not_shown (Parted p m first second) part leaf fault is at never = absurd (cc)
+  yes_not_shown (Wanted span first second) part leaf fault is at never = absurd (cc)
 
   -- what is wrong with a leaf is wrong with the tree that it is
   pub fault_leaf : (tree : CaseTree) (part : CasePart) (root : CaseNode) (leaf : ℕ)
@@ -271,20 +271,6 @@ module _ (line : Line) (script : Script) (k : ℕ) where
 
 -- ---- what can stand
 
--- a split of a box that a view is of is one of the view's box
-split_in_view : (line : Line) (part : CasePart) (view : View) (param mid : ℕ)
-    → IsViewOf line part view → CanSplit line part.box param mid
-    → CanSplit line (view_box line view) param mid
-split_in_view line part view param mid is can =
-    let same : (view_box line view).ends param ≡ part.box.ends param =
-    is.same.numbers param can.exists in
-    record {
-      exists = can.exists;
-      number = can.number;
-      above = subst (λ (e : Ends). e.least ≤ mid) (sym same) can.above;
-      below = subst (λ (e : Ends). mid < e.greatest) (sym same) can.below;
-    }
-
 pub can_stand : (line : Line) (part : CasePart) (view : View) (tree : CaseTree) (root : CaseNode)
     → IsViewOf line part view → Branches line part.box tree → root_of tree ≡ root
     → CanStand line view root
@@ -292,8 +278,9 @@ can_stand line part view Yes root is branches same =
     subst (λ (r : CaseNode). CanStand line view r) same tt
 can_stand line part view Undecided root is branches same =
     subst (λ (r : CaseNode). CanStand line view r) same tt
-can_stand line part view (Split param mid first second) root is branches same =
+can_stand line part view (Parted param mid first second) root is branches same =
     subst (λ (r : CaseNode). CanStand line view r) same
-    (split_in_view line part view param mid is branches.0)
-can_stand line part view (Case terminal tick first second) root is branches same =
+    (parted_alike line part.box (view_box line view) param mid
+    (sym (is.same.numbers param branches.0.exists)) branches.0)
+can_stand line part view (Wanted span first second) root is branches same =
     subst (λ (r : CaseNode). CanStand line view r) same branches.0

@@ -13,9 +13,9 @@ use Rattle.cert_claims.specs.text.Grammar.{terminal_names}
 use Rattle.judge_cases.specs.declared.node.CaseNode.{CaseNode}
 use Rattle.judge_cases.specs.declared.node.CaseNode.TheVariants as node
 use Rattle.cert_settle.specs.Known.{Known}
-use Rattle.cert_settle.specs.Grammar.{node_text, step_text, name_of_terminal}
+use Rattle.cert_settle.specs.Grammar.{node_text, step_text, name_of_terminal, two_numbers}
 use Rattle.cert_split.specs.text.NameLaws.{IsLineUpTo, param_stands, terminals_stand}
-use Rattle.cert_settle.proofs.{StandsLaws.IsOfLine, LineLaws.step_small}
+use Rattle.cert_settle.proofs.{StandsLaws.IsOfLine, LineLaws.step_small, LineLaws.span_small}
 
 name_in : (names : List (List ℕ)) (k : ℕ) → All (IsLineUpTo 16) names
     → is_one_line (get_or names k []) ≡ true
@@ -27,16 +27,18 @@ pub node_whole : (line : Line) (n : CaseNode) → IsOfLine line n
     → is_one_line (node_text line n) ≡ true
 node_whole line node.Yes may = refl
 node_whole line node.Undecided may = refl
-node_whole line (node.Split param mid) may =
+node_whole line (node.Parted param mid) may =
     let small = may.1 in
-    named_whole (codes "split") (parameter_name line param) (decimal mid) refl
+    named_whole (codes "part") (parameter_name line param) (decimal mid) refl
     (param_stands line param).whole (decimal_whole mid (omega arith))
-node_whole line (node.Case terminal tick) may =
-    let early = may.run in
-    let range = line.horizon_in_range.1 in
-    named_whole (codes "case") (name_of_terminal line terminal) (decimal tick) refl
+node_whole line (node.Wanted terminal from to) may =
+    let small = span_small line terminal from to may in
+    let early = small.0 in
+    let late = small.1 in
+    named_whole (codes "on") (name_of_terminal line terminal) (two_numbers from to) refl
     (name_in (terminal_names line) terminal (terminals_stand line))
-    (decimal_whole tick (omega arith))
+    (whole_append (decimal from) (32 ∷ decimal to) (decimal_whole from (omega arith))
+    (whole_more 32 (decimal to) refl (decimal_whole to (omega arith))))
 
 pub step_whole : Known → (line : Line) (step : Step ℕ) → IsStepInside line step
     → is_one_line (step_text line step) ≡ true

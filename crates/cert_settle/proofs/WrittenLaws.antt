@@ -1,9 +1,9 @@
 -- The text of results is a text of settled trees that says them.
-use Rattle.std.proofs.Common.{◌≡◌, ◌≤◌, ◌-◌, ◌+◌, ℕ, true, List}
+use Rattle.std.proofs.Common.{◌≡◌, ◌≤◌, ◌<◌, ◌-◌, ◌+◌, ℕ, true, List}
 use Rattle.std.proofs.Common.{[], ◌∷◌, ◌++◌, length, map, refl, sym, ◌∙◌, ap, subst, arith}
-use Rattle.std.proofs.Common.{append_assoc}
+use Rattle.std.proofs.Common.{append_assoc, inl, inr}
 use Rattle.std.proofs.Math.Nat.{le-max_left, le-max_right}
-use Rattle.std.proofs.lemmas.Bool.{and_parts}
+use Rattle.std.proofs.lemmas.Bool.{and_parts, cases_order}
 use Rattle.std.proofs.lemmas.List.{map-append}
 use Rattle.std.proofs.lemmas.List.Concat.{flat_map-append}
 use Rattle.std.proofs.lemmas.List.Elements.{All-head, All-tail}
@@ -11,11 +11,14 @@ use Rattle.std.specs.Prelude.{codes}
 use Rattle.std.specs.List.{All, flat_map}
 use Rattle.model_line.specs.{declared.line.Line.Line, declared.script.Script.Script}
 use Rattle.model_line.specs.{Parameters.param_count, Fits.Fits}
+use Rattle.model_history.specs.Rails.{Ends}
+use Rattle.model_logic.specs.BoxLaws.{ends_with-here, ends_with-elsewhere}
 use Rattle.model_logic.specs.Choice.{Box, declared_box}
 use Rattle.model_timing.specs.{declared.step.Step.Step, Inside.IsStepInside}
 use Rattle.model_timing.specs.Timing.{comes_before, ascend}
-use Rattle.model_settle.specs.CaseTrees.{CaseTree, Yes, Undecided, Split, Case}
-use Rattle.model_logic.specs.Boxes.{lower_half, upper_half}
+use Rattle.model_settle.specs.CaseTrees.{CaseTree, Yes, Undecided, Parted, Wanted}
+use Rattle.model_settle.specs.Parts.{upper_from}
+use Rattle.model_logic.specs.Boxes.{lower_half}
 use Rattle.cert_claims.specs.text.Grammar.{script_text, end_text, terminal_names, no_words}
 use Rattle.base_text.specs.lines.SpacedNumbers.{numbers_text}
 use Rattle.cert_claims.specs.text.Grammar.{AreNumbers}
@@ -41,9 +44,23 @@ use Rattle.cert_settle.specs.Text.{steps_text}
 use Rattle.cert_split.specs.text.NameLaws.{IsLineUpTo, name_stands, terminals_stand}
 use Rattle.cert_claims.specs.{text.NameLaws.names_count, text.NumberLaws.numbers_whole}
 use Rattle.cert_split.specs.text.PairLaws.{stand_one, stand_headed, pairs_stand}
-use Rattle.cert_split.specs.text.LowLaws.{IsLow, low_declared, low_lower, low_upper}
+use Rattle.cert_split.specs.text.LowLaws.{IsLow, low_declared, low_lower}
 use Rattle.cert_settle.proofs.PrintLaws.{tree_lines, trees_both}
 use Rattle.cert_settle.proofs.{WholeLaws.node_whole, WholeLaws.step_whole, StandsLaws.of_line}
+
+-- no interval of the upper part of a box goes further than those of the box
+low_from : (line : Line) (box : Box) (param mid : ℕ) → param < param_count line → IsLow line box
+    → IsLow line (upper_from box param mid)
+low_from line box param mid here low = λ i lt.
+    let new : Ends = record { least = mid; greatest = (box.ends param).greatest } in
+    let Low : Ends → Type 0 = λ e. e.greatest ≤ 4000 in
+    elim (cases_order i param) [
+      | inl is ↦ subst Low (sym (ends_with-here box.ends param new i is)) (low param here)
+      | inr (inl less) ↦ subst Low (sym (ends_with-elsewhere box.ends param new i
+          (λ is. omega (arith, less, is)))) (low i lt)
+      | inr (inr more) ↦ subst Low (sym (ends_with-elsewhere box.ends param new i
+          (λ is. omega (arith, more, is)))) (low i lt)
+    ]
 
 -- lines of these places, and what is left
 abbrev Stood : Line → List Place → List Said → List ℕ → List Place → List ℕ → Type 0
@@ -115,12 +132,12 @@ tree_stands line room over root others Undecided later more text left rest low b
     stand_one (Stands line) opens (roots room root others) later (says_node node.Undecided) more
     (codes "undecided") text left rest refl (tt, refl)
     (leaf_stands line room over others later more text left rest count next)
-tree_stands line room over root others (Split param mid first second) later more text left rest low
+tree_stands line room over root others (Parted param mid first second) later more text left rest low
     branches high count next =
     let pre : List CaseNode = preorder first in
     let post : List CaseNode = preorder second in
     let lower : Root = record { depth = root.depth - 1; box = lower_half root.box param mid } in
-    let upper : Root = record { depth = root.depth - 1; box = upper_half root.box param mid } in
+    let upper : Root = record { depth = root.depth - 1; box = upper_from root.box param mid } in
     let top = low param branches.0.exists in
     let small : mid ≤ 4000 = omega (arith, top, branches.0.below) in
     let one : height first ≤ root.depth - 1 =
@@ -128,18 +145,18 @@ tree_stands line room over root others (Split param mid first second) later more
     let two : height second ≤ root.depth - 1 =
     omega (arith, high, le-max_right (height first) (height second)) in
     let then = tree_stands line (over + branch_count second) over upper others second later more text
-    left rest (low_upper line root.box param mid branches.0.exists low) branches.1.1 two
+    left rest (low_from line root.box param mid branches.0.exists low) branches.1.1 two
     (omega arith) next in
     let both = tree_stands line (room - 1) (over + branch_count second) lower (upper ∷ others) first
     later (map says_node post ++ more) (nodes_text line post ++ text) left rest
     (low_lower line root.box param mid small low) branches.1.0 one (omega (arith, count)) then in
-    branch_stands line room root others (node.Split param mid) pre post later more text left rest
+    branch_stands line room root others (node.Parted param mid) pre post later more text left rest
     (record {
       left = record { deep = omega (arith, high); many = omega (arith, count) };
       number = omega (arith, small);
       can = branches.0;
     }) both
-tree_stands line room over root others (Case terminal tick first second) later more text left rest
+tree_stands line room over root others (Wanted span first second) later more text left rest
     low branches high count next =
     let pre : List CaseNode = preorder first in
     let post : List CaseNode = preorder second in
@@ -153,7 +170,7 @@ tree_stands line room over root others (Case terminal tick first second) later m
     let both = tree_stands line (room - 1) (over + branch_count second) under (under ∷ others) first
     later (map says_node post ++ more) (nodes_text line post ++ text) left rest low branches.1.0 one
     (omega (arith, count)) then in
-    branch_stands line room root others (node.Case terminal tick) pre post later more text left rest
+    branch_stands line room root others (node.Wanted span.terminal span.from span.to) pre post later more text left rest
     (record {
       left = record { deep = omega (arith, high); many = omega (arith, count) };
       can = branches.0;
@@ -172,13 +189,13 @@ root_stands line over box Yes later more text left rest low branches high count 
 root_stands line over box Undecided later more text left rest low branches high count next =
     tree_stands line most_branches over (whole_over box) [] Undecided later more text left rest low
     branches high count next
-root_stands line over box (Split param mid first second) later more text left rest low branches high
+root_stands line over box (Parted param mid first second) later more text left rest low branches high
     count next =
-    tree_stands line most_branches over (whole_over box) [] (Split param mid first second) later more
+    tree_stands line most_branches over (whole_over box) [] (Parted param mid first second) later more
     text left rest low branches high count next
-root_stands line over box (Case terminal tick first second) later more text left rest low branches
+root_stands line over box (Wanted span first second) later more text left rest low branches
     high count next =
-    tree_stands line most_branches over (whole_over box) [] (Case terminal tick first second) later
+    tree_stands line most_branches over (whole_over box) [] (Wanted span first second) later
     more text left rest low branches high count next
 
 -- ---- a timing

@@ -12,8 +12,8 @@ use Rattle.cert_settle.specs.Grammar.{SettleResult, tree, fails}
 abbrev pub is_decided : CaseNode → Bool
 is_decided node.Yes = true
 is_decided node.Undecided = false
-is_decided (node.Split param mid) = true
-is_decided (node.Case terminal tick) = true
+is_decided (node.Parted param mid) = true
+is_decided (node.Wanted terminal from to) = true
 
 -- no leaf is undecided, so each is yes
 abbrev pub is_yes_tree : List CaseNode → Bool

@@ -16,8 +16,8 @@ pub record IsFirstNotShown (line : Line) (script : Script) (k : ℕ) (all : List
   pub before : (i : ℕ) (earlier : Leaf) → i < number → slice_get all i ≡ Some earlier
       → IsTrue earlier.yes → IsShownOver line script k earlier.part
 
--- these are the nodes of a tree that is sound over the declared box: each split and each pair of
--- cases can be made, and the obligation of terminal k is shown over the part of each yes leaf
+-- these are the nodes of a tree that is sound over the declared box: each part can be made, each pair
+-- of cases told apart, and the obligation of terminal k is shown over the part of each yes leaf
 pub record IsTreeShown (line : Line) (script : Script) (k : ℕ) (nodes : List CaseNode)
     : Type 0 where
   pub tree : CaseTree

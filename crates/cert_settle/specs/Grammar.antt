@@ -9,16 +9,17 @@ use Rattle.model_line.specs.NamesByNumber.{parameter_name}
 use Rattle.model_logic.specs.Choice.{Box, declared_box}
 use Rattle.model_timing.specs.{declared.step.Step.Step, Timing.comes_before, Timing.ascend}
 use Rattle.model_timing.specs.Inside.{IsStepInside}
-use Rattle.model_settle.specs.CaseTrees.{HasCases}
-use Rattle.model_logic.specs.Boxes.{CanSplit, lower_half, upper_half}
+use Rattle.model_settle.specs.{Assumed.HasSpan, Parts.CanPart, Parts.upper_from}
+use Rattle.model_logic.specs.Boxes.{lower_half}
 use Rattle.base_text.specs.{lines.Named.named, lines.Grammar.Grammar, lines.Grammar.IsFixed, lines.Grammar.Parts}
 use Rattle.base_text.specs.lines.Grammar.{IsText, LeavesText}
 use Rattle.cert_claims.specs.text.Grammar.{AreNumbers, no_words, script_text, end_text}
 use Rattle.cert_claims.specs.text.Grammar.{terminal_names}
-use Rattle.cert_split.specs.text.Grammar.{tree_text, split_line}
+use Rattle.cert_split.specs.text.Grammar.{tree_text}
 use Rattle.judge_cases.specs.declared.node.CaseNode.{CaseNode}
 use Rattle.judge_cases.specs.declared.node.CaseNode.TheVariants as node
 use Rattle.judge_cases.specs.Trees.{AreTree, deepest, most_branches}
+use Rattle.judge_cases.specs.AssumedAt.{span_at}
 
 -- ---- what the text says
 
@@ -45,23 +46,24 @@ pub record HasOneEach (line : Line) (results : List SettleResult) : Type 0 where
 
 -- ---- the lines of the text
 
--- a tree that is expected: over this box, with at most so many splits and cases above one another
+-- a tree that is expected: over this box, with at most so many parts and pairs of cases above one
+-- another
 pub record Root : Type 0 where
   pub depth : ℕ
   pub box : Box
 
 -- where a line is expected: one with this text; the first line of a result over a box; the root of
--- a tree, where others are expected behind it, with at most so many splits and cases in them all;
--- or, after a step, a later one or the numbers of a `no`
+-- a tree, where others are expected behind it, with at most so many parts and pairs of cases in them
+-- all; or, after a step, a later one or the numbers of a `no`
 pub data Place : Type 0 where
   fixed : List ℕ → Place
   result_over : Box → Place
   roots : ℕ → Root → List Root → Place
   after_step : Step ℕ → Place
 
--- `study-trees 1`
+-- `study-trees 2`
 abbrev pub head_text : List ℕ
-head_text = codes "study-trees 1"
+head_text = codes "study-trees 2"
 
 -- a terminal's lines: its own, and those of its result
 abbrev pub tree_places : Line → List ℕ → List Place
@@ -82,50 +84,59 @@ pub data Said : Type 0 where
   says_no : List ℕ → Said
   says_node : CaseNode → Said
 
--- `case TERMINAL TICK`
-abbrev pub case_line : List ℕ → ℕ → List ℕ
-case_line name tick = named (codes "case") name (decimal tick)
+-- `NUMBER NUMBER`
+abbrev pub two_numbers : ℕ → ℕ → List ℕ
+two_numbers n m = decimal n ++ (codes " " ++ decimal m)
+
+-- `part PARAM MID`
+abbrev pub part_line : List ℕ → ℕ → List ℕ
+part_line name mid = named (codes "part") name (decimal mid)
+
+-- `on TERMINAL FROM TO`
+abbrev pub span_line : List ℕ → ℕ → ℕ → List ℕ
+span_line name from to = named (codes "on") name (two_numbers from to)
 
 -- the name of terminal k
 abbrev pub name_of_terminal : Line → ℕ → List ℕ
 name_of_terminal line k = get_or (terminal_names line) k []
 
--- `yes`, `undecided`, a split or a pair of cases
+-- `yes`, `undecided`, a part or a pair of cases
 abbrev pub node_text : Line → CaseNode → List ℕ
 node_text line node.Yes = codes "yes"
 node_text line node.Undecided = codes "undecided"
-node_text line (node.Split param mid) = split_line (parameter_name line param) mid
-node_text line (node.Case terminal tick) = case_line (name_of_terminal line terminal) tick
+node_text line (node.Parted param mid) = part_line (parameter_name line param) mid
+node_text line (node.Wanted terminal from to) =
+    span_line (name_of_terminal line terminal) from to
 
 -- `step DELAY@TICK VALUE`
 abbrev pub step_line : List ℕ → ℕ → ℕ → List ℕ
 step_line name from value =
-    codes "step " ++ (name ++ (codes "@" ++ (decimal from ++ (codes " " ++ decimal value))))
+    codes "step " ++ (name ++ (codes "@" ++ two_numbers from value))
 
 abbrev pub step_text : Line → Step ℕ → List ℕ
 step_text line step = step_line (parameter_name line step.param) step.from step.value
 
--- a split or a pair of cases is one of those that are left, both by depth and by number
+-- a part or a pair of cases is one of those that are left, both by depth and by number
 pub record MayBranch (depth room : ℕ) : Type 0 where
   pub deep : 0 < depth
   pub many : 0 < room
 
--- a split can be made, and its middle is a number of 32 bits
-pub record MaySplit (line : Line) (room : ℕ) (root : Root) (param mid : ℕ) : Type 0 where
+-- the box can be parted, and the middle is a number of 32 bits
+pub record MayPart (line : Line) (room : ℕ) (root : Root) (param mid : ℕ) : Type 0 where
   pub left : MayBranch root.depth room
   pub number : mid < 2 ^ 32
-  pub can : CanSplit line root.box param mid
+  pub can : CanPart line root.box param mid
 
--- two cases can be told apart
-pub record MayCase (line : Line) (room : ℕ) (root : Root) (terminal tick : ℕ) : Type 0 where
+-- two cases can be told apart over the span
+pub record MayTell (line : Line) (room : ℕ) (root : Root) (terminal from to : ℕ) : Type 0 where
   pub left : MayBranch root.depth room
-  pub can : HasCases line terminal tick
+  pub can : HasSpan line (span_at terminal from to)
 
 abbrev pub MayStand : Line → ℕ → Root → CaseNode → Type 0
 MayStand line room root node.Yes = Unit {0}
 MayStand line room root node.Undecided = Unit {0}
-MayStand line room root (node.Split param mid) = MaySplit line room root param mid
-MayStand line room root (node.Case terminal tick) = MayCase line room root terminal tick
+MayStand line room root (node.Parted param mid) = MayPart line room root param mid
+MayStand line room root (node.Wanted terminal from to) = MayTell line room root terminal from to
 
 -- it is the root of a tree
 abbrev pub IsNode : Line → ℕ → Root → Said → List ℕ → Type 0
@@ -173,12 +184,12 @@ abbrev pub expected : ℕ → List Root → List Place
 expected room [] = []
 expected room (root ∷ others) = roots room root others ∷ []
 
--- how many splits and cases are left after a node
+-- how many parts and pairs of cases are left after a node
 abbrev pub room_after : ℕ → CaseNode → ℕ
 room_after room node.Yes = room
 room_after room node.Undecided = room
-room_after room (node.Split param mid) = room - 1
-room_after room (node.Case terminal tick) = room - 1
+room_after room (node.Parted param mid) = room - 1
+room_after room (node.Wanted terminal from to) = room - 1
 
 -- the two trees below a root, over these boxes
 abbrev pub two_over : Root → Box → Box → List Root
@@ -186,13 +197,14 @@ two_over root first second =
     record { depth = root.depth - 1; box = first }
     ∷ (record { depth = root.depth - 1; box = second } ∷ [])
 
--- a split opens a tree over each half of its box; a pair of cases two trees over the whole of it
+-- a part opens a tree over each of both parts of its box, which share `mid`; a pair of cases two trees
+-- over the whole of it
 abbrev pub below : Root → CaseNode → List Root
 below root node.Yes = []
 below root node.Undecided = []
-below root (node.Split param mid) =
-    two_over root (lower_half root.box param mid) (upper_half root.box param mid)
-below root (node.Case terminal tick) = two_over root root.box root.box
+below root (node.Parted param mid) =
+    two_over root (lower_half root.box param mid) (upper_from root.box param mid)
+below root (node.Wanted terminal from to) = two_over root root.box root.box
 
 -- what is expected next because of a line
 abbrev pub after_node : ℕ → Root → List Root → CaseNode → List Place

@@ -2,7 +2,6 @@ pub mod Known
 pub mod Grammar
 pub mod Text
 pub mod Reading
-pub mod OfSplits
 pub mod CaseParts
 pub mod FirstLeaf
 pub mod Walks

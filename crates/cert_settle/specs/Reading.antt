@@ -20,6 +20,13 @@ use Rattle.cert_settle.specs.Grammar.{result_over, after_step}
 use Rattle.cert_settle.specs.Grammar.{MayStand}
 use Rattle.judge_cases.specs.Trees.{most_branches}
 use Rattle.cert_settle.specs.Grammar.{whole_over, node_text}
+use Rattle.model_logic.specs.Boxes.{IsSameBox}
+use Rattle.judge_cases.specs.{declared.view.View.View, Views.IsView, Views.view_box}
+
+-- the view is of this box, whatever it assumes
+pub record IsOverBox (line : Line) (box : Box) (view : View) : Type 0 where
+  pub is : IsView line view
+  pub same : IsSameBox line (view_box line view) box
 
 -- a result as the reader answers it, and those of a script
 abbrev pub result_in : TreeClaim → SettleResult

@@ -1,8 +1,7 @@
 -- When the results of a script are supported, and the first fault where they are not.
 use Rattle.std.specs.Prelude.{◌≡◌, ℕ, List, length, IsTrue}
 use Rattle.model_line.specs.{declared.line.Line.Line, declared.script.Script.Script}
-use Rattle.model_logic.specs.Histories.{History, IsLineHistory, Meets}
-use Rattle.model_logic.specs.Choice.{Choice, IsInside}
+use Rattle.model_fine.specs.Fine.{EveryFineChoiceMeets}
 use Rattle.model_timing.specs.{declared.step.Step.Step, Timing.TimingValues}
 use Rattle.cert_claims.specs.check.Firsts.{EachOf, IsWrongFirst}
 use Rattle.judge_cases.specs.declared.node.CaseNode.{CaseNode}
@@ -42,12 +41,11 @@ IsFaultOf line script k (tree nodes) fault = IsTreeFault line script k nodes fau
 IsFaultOf line script k (fails steps numbers) fault =
     IsFailsFault line script k (timing_of steps numbers) fault
 
--- what it says is so: where a tree has yes leaves alone, each history of each choice inside meets
--- the obligation; at the timing of a `no`, which is inside, it is failed
+-- what it says is so: where a tree has yes leaves alone, every choice of fractions inside meets the
+-- obligation; at the timing of a `no`, which is inside, it is failed
 abbrev pub IsTold : Line → Script → ℕ → SettleResult → Type 0
 IsTold line script k (tree nodes) =
-    IsTrue (is_yes_tree nodes) → (choice : Choice) (h : History) → IsInside line choice
-    → IsLineHistory line script choice h → Meets line script k h
+    IsTrue (is_yes_tree nodes) → EveryFineChoiceMeets line script k
 IsTold line script k (fails steps numbers) = IsRefutation line script k (timing_of steps numbers)
 
 -- ---- the results of a script

@@ -12,12 +12,12 @@ use Rattle.cert_settle.specs.Grammar.{SettleResult, tree, fails, head_text}
 use Rattle.cert_split.specs.text.Grammar.{tree_text}
 use Rattle.cert_settle.specs.Grammar.{node_text, step_text}
 
--- a split names a parameter of the line, a pair of cases a terminal, and a step a parameter
+-- a part names a parameter of the line, a pair of cases a terminal, and a step a parameter
 abbrev pub IsNodeOfLine : Line → CaseNode → Type 0
 IsNodeOfLine line node.Yes = Unit {0}
 IsNodeOfLine line node.Undecided = Unit {0}
-IsNodeOfLine line (node.Split param mid) = param < param_count line
-IsNodeOfLine line (node.Case terminal tick) = terminal < terminal_count line
+IsNodeOfLine line (node.Parted param mid) = param < param_count line
+IsNodeOfLine line (node.Wanted terminal from to) = terminal < terminal_count line
 
 abbrev pub IsKnownStep : Line → Step ℕ → Type 0
 IsKnownStep line step = step.param < param_count line

@@ -1,8 +1,8 @@
 -- A walk through the nodes of a tree, as the code does it.
 use Rattle.std.specs.Prelude.{◌≡◌, ◌+◌, ◌++◌, ℕ, List, length, Some}
 use Rattle.model_line.specs.{declared.line.Line.Line, declared.script.Script.Script}
-use Rattle.model_settle.specs.CaseTrees.{CaseTree, HasCases}
-use Rattle.model_logic.specs.Boxes.{CanSplit}
+use Rattle.model_settle.specs.{CaseTrees.CaseTree, Assumed.HasSpan, Parts.CanPart}
+use Rattle.judge_cases.specs.AssumedAt.{span_at}
 use Rattle.judge_cases.specs.Trees.{Branches}
 use Rattle.judge_cases.specs.{declared.node.CaseNode.CaseNode, Nodes.preorder}
 use Rattle.judge_cases.specs.declared.node.CaseNode.TheVariants as node
@@ -29,8 +29,8 @@ pub record BeginWithTree (line : Line) (view : View) (nodes : List CaseNode) : T
 abbrev pub CanStand : Line → View → CaseNode → Type 0
 CanStand line view node.Yes = Unit {0}
 CanStand line view node.Undecided = Unit {0}
-CanStand line view (node.Split param mid) = CanSplit line (view_box line view) param mid
-CanStand line view (node.Case terminal tick) = HasCases line terminal tick
+CanStand line view (node.Parted param mid) = CanPart line (view_box line view) param mid
+CanStand line view (node.Wanted terminal from to) = HasSpan line (span_at terminal from to)
 
 -- the views are of the parts of the two trees below a node
 pub record AreViewsBelow (line : Line) (part : CasePart) (root : CaseNode) (one two : View)

@@ -13,9 +13,8 @@ ghost use Rattle.cert_settle.specs.Check.{IsAccepted, IsSoundText, IsSettleFault
 
 use crate::laws::{a_settle_text_has_one_meaning, a_settle_text_leaves_at_one_line};
 use crate::timing::a_timing_has_one_fault;
+use model_fine::span_laws::sound_trees_meet;
 use model_line::laws::deadlines_are_below_the_horizon;
-use model_logic::laws::each_line_has_a_choice_inside;
-use model_settle::case_laws::sound_trees_meet;
 
 // A text says one thing or leaves its grammar at one line, and results are supported or have one
 // first fault.
@@ -62,6 +61,5 @@ pub fn accepted_settled_trees_are_so()
 {
     sound_trees_meet();
     deadlines_are_below_the_horizon();
-    each_line_has_a_choice_inside();
     a_settle_text_has_one_meaning();
 }

@@ -5,7 +5,7 @@ ghost use Rattle.cert_claims.specs.{text.Grammar.end_text, text.Text.fed};
 ghost use Rattle.cert_settle.specs.Grammar.{head_text};
 
 /// The first line, with its line feed.
-pub const SETTLE_HEAD: &[u8] = b"study-trees 1\n";
+pub const SETTLE_HEAD: &[u8] = b"study-trees 2\n";
 
 /// The last line, with its line feed.
 pub const SETTLE_END: &[u8] = b"end\n";

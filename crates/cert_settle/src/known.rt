@@ -2,13 +2,12 @@
 
 ghost use Rattle.cert_settle.specs.Known.{Known};
 
-use judge_split::{a_part_stands_for_its_box, middles_are_below_the_greatest_interval};
 use model_line::laws::{
     counts_do_not_rest_on_the_intervals, declared_intervals_are_in_order, delays_are_parameters,
 };
 use model_names::name_laws::parameters_have_names_of_their_own;
 
-/// The laws of lines and of their parts, as their crates state them.
+/// The laws of lines and of their parameters, as their crates state them.
 pub(crate) fn laws_below()
     ensures { Known }
 {
@@ -16,6 +15,4 @@ pub(crate) fn laws_below()
     declared_intervals_are_in_order();
     delays_are_parameters();
     parameters_have_names_of_their_own();
-    a_part_stands_for_its_box();
-    middles_are_below_the_greatest_interval();
 }

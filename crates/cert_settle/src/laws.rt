@@ -1,15 +1,12 @@
 //! What the text of settled trees tells.
 
-ghost use Rattle.std.specs.Prelude.{◌≡◌, ◌++◌, [], ◌∷◌, ℕ, List, length, map};
+ghost use Rattle.std.specs.Prelude.{◌≡◌, ◌++◌, [], ◌∷◌, ℕ, List, length};
 ghost use Rattle.std.specs.List.{All};
 ghost use Rattle.model_line.specs.{declared.script.Script.Script, declared.line.Line.Line};
 ghost use Rattle.model_line.specs.{Fits.Fits};
-ghost use Rattle.cert_split.specs.text.Grammar.{SplitResult};
-ghost use Rattle.cert_split.specs.text.Text.{part_text as split_part_text};
 ghost use Rattle.cert_settle.specs.Grammar.{SettleResult, HasOneEach, IsSettleText};
 ghost use Rattle.cert_settle.specs.Grammar.{LeavesGrammar};
 ghost use Rattle.cert_settle.specs.Text.{part_text, parts_text, settle_text};
-ghost use Rattle.cert_settle.specs.OfSplits.{as_settled};
 
 use crate::known::laws_below;
 
@@ -57,11 +54,4 @@ pub fn a_settle_text_grows_by_parts()
         (script : Script) (results : List SettleResult) → length parts ≡ length scripts →
         parts_text line (scripts ++ script ∷ []) (parts ++ results ∷ [])
         ≡ parts_text line scripts parts ++ part_text line script results }
-{}
-
-/// Where each result is a tree without cases or a `no` without steps, a script's part of the text
-/// is, word for word, its part of a text of split trees.
-pub fn trees_without_cases_have_the_text_of_splits()
-    ensures { (line : Line) (script : Script) (results : List SplitResult) →
-        part_text line script (map as_settled results) ≡ split_part_text line script results }
 {}

@@ -1,14 +1,14 @@
 //! Settled trees: their text, and its checker.
 //!
-//! - The text, both ways: for each script and terminal a tree of splits and cases, or the timing at
+//! - The text, both ways: for each script and terminal a tree of parts and spans, or the timing at
 //!   which the obligation fails; and the first line that leaves its grammar.
 //! - The checker: of each tree in the text, whether its obligation is shown over the part of each
 //!   `yes` leaf, a part of the declared box under what is assumed there; of each `no`, whether its
 //!   timing is inside and its history fails the obligation.
 //!
-//! How a tree was found does not matter. Each choice of delays lies in one half of each split, and
-//! its history agrees with one of each two cases, so a tree with `yes` leaves alone that passes
-//! speaks for every choice.
+//! How a tree was found does not matter. Each choice of fractions lies in one of both parts of a box,
+//! which share their end, and its history agrees with one of each two cases. So a tree with `yes` leaves
+//! alone that passes speaks for every choice of fractions.
 #![tactic(auto)]
 
 mod branch_line;
@@ -43,7 +43,6 @@ pub use fault::{ResultFault, SettleFault};
 pub use laws::{
     a_settle_text_grows_by_parts, a_settle_text_has_one_meaning, a_settle_text_leaves_at_one_line,
     printed_results_are_a_settle_text, settle_results_have_one_text,
-    trees_without_cases_have_the_text_of_splits,
 };
 pub use piece::settle_piece;
 pub use read::read_settle_text;

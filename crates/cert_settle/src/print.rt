@@ -1,10 +1,9 @@
 //! The lines of settled trees, printed.
 
-ghost use Rattle.std.specs.Prelude.{◌≡◌, ◌++◌, ℕ, OnOk, decimal};
+ghost use Rattle.std.specs.Prelude.{◌≡◌, ◌++◌, ℕ, OnOk};
 ghost use Rattle.std.specs.List.{All};
-ghost use Rattle.base_text.specs.lines.Named.{named};
 ghost use Rattle.cert_claims.specs.{text.Grammar.no_words, text.Text.fed};
-ghost use Rattle.cert_settle.specs.Grammar.{node_text, step_text};
+ghost use Rattle.cert_settle.specs.Grammar.{node_text, step_text, part_line, span_line};
 ghost use Rattle.cert_settle.specs.Text.{nodes_text, steps_text, IsNodeOfLine, IsKnownStep};
 
 use crate::branch_line::param_name_at;
@@ -15,14 +14,27 @@ use model_line::{Line, Memory, Name};
 use model_timing::Step;
 use run_signal::Tick;
 
-// Appends the line of a word, a name and a number.
-fn push_number_line(text: &mut Vec<u8>, word: &[u8], name: Name, number: u32) -> Result<(), Memory>
-    ensures { OnOk result (text.new.items
-        ≡ text.old.items ++ fed (named word.now name (decimal number))) }
+// Appends the line of a part.
+fn push_part_line(text: &mut Vec<u8>, name: Name, mid: u32) -> Result<(), Memory>
+    ensures { OnOk result (text.new.items ≡ text.old.items ++ fed (part_line name mid)) }
 {
     let mut digits = Buffer::new();
-    push_start(text, word, name)?;
-    text.extend_from_slice(digits.format(number).as_bytes())?;
+    push_start(text, b"part", name)?;
+    text.extend_from_slice(digits.format(mid).as_bytes())?;
+    text.extend_from_slice(b"\n")?;
+    Ok(())
+}
+
+// Appends the line of a span.
+fn push_span_line(text: &mut Vec<u8>, name: Name, from: u32, to: u32) -> Result<(), Memory>
+    ensures { OnOk result (text.new.items ≡ text.old.items ++ fed (span_line name from to)) }
+{
+    let mut first = Buffer::new();
+    let mut last = Buffer::new();
+    push_start(text, b"on", name)?;
+    text.extend_from_slice(first.format(from).as_bytes())?;
+    text.extend_from_slice(b" ")?;
+    text.extend_from_slice(last.format(to).as_bytes())?;
     text.extend_from_slice(b"\n")?;
     Ok(())
 }
@@ -35,11 +47,11 @@ fn push_node(text: &mut Vec<u8>, line: &Line, node: CaseNode) -> Result<(), Memo
     match node {
         CaseNode::Yes => text.extend_from_slice(b"yes\n")?,
         CaseNode::Undecided => text.extend_from_slice(b"undecided\n")?,
-        CaseNode::Split { param, mid } => {
-            push_number_line(text, b"split", param_name_at(line, param), mid)?
+        CaseNode::Parted { param, mid } => {
+            push_part_line(text, param_name_at(line, param), mid)?
         }
-        CaseNode::Case { terminal, tick } => {
-            push_number_line(text, b"case", name_at(line, terminal as usize), tick)?
+        CaseNode::Wanted { terminal, from, to } => {
+            push_span_line(text, name_at(line, terminal as usize), from, to)?
         }
     }
     Ok(())

@@ -12,15 +12,15 @@ ghost use Rattle.cert_settle.specs.Reading.{result_in, results_in};
 
 use crate::branch_line::{Limits, node_in};
 use crate::claim::TreeClaim;
-use crate::known::laws_below;
 use crate::read_timing::read_timing;
 use crate::read_tree::read_below;
 use base_memory::Stopped;
 use base_text::lines::{LineCursor, PartReader, TextFault, read_each, read_text};
+use judge_cases::declared_view;
 use model_line::{Line, Script, Terminal};
 use std::alloc::Global;
 
-// At most so many splits and cases stand above one another, and so many are in a tree.
+// At most so many parts and pairs of cases stand above one another, and so many are in a tree.
 const WHOLE: Limits = Limits {
     depth: 1024,
     room: 2047,
@@ -40,14 +40,14 @@ fn read_result(
         (λ why. IsFault (grammar_of line.now) (result_over (declared_box line.now) ∷ later)
         lines.old.rest.now lines.old.number why) }
 {
-    laws_below();
+    let view = declared_view(alloc, line)?;
     let number = lines.number;
     let bytes = lines.take_line()?;
-    let Some(root) = node_in(line, line, WHOLE, bytes) else {
+    let Some(root) = node_in(line, &view, WHOLE, bytes) else {
         return read_timing(alloc, line, bytes, number, lines);
     };
     let mut nodes = Vec::new(alloc);
-    read_below(alloc, line, line, WHOLE, root, lines, &mut nodes)?;
+    read_below(alloc, line, &view, WHOLE, root, lines, &mut nodes)?;
     Ok(TreeClaim::Tree(nodes))
 }
 
@@ -129,7 +129,7 @@ pub fn read_settle_text(
     read_text(
         alloc,
         &ScriptReader { line },
-        b"study-trees 1",
+        b"study-trees 2",
         scripts,
         b"end",
         bytes,

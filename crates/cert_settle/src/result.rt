@@ -16,10 +16,9 @@ use crate::timing::check_timing;
 use crate::tree::{Obligation, Passed, walk};
 use base_memory::Stopped;
 use judge_cases::{CaseNode, declared_view};
+use model_fine::span_laws::sound_trees_meet;
 use model_line::Script;
 use model_line::laws::deadlines_are_below_the_horizon;
-use model_logic::laws::each_line_has_a_choice_inside;
-use model_settle::case_laws::sound_trees_meet;
 use net_gates::Compiled;
 use std::alloc::Global;
 
@@ -41,7 +40,6 @@ pub(crate) fn check_results(
 {
     sound_trees_meet();
     deadlines_are_below_the_horizon();
-    each_line_has_a_choice_inside();
     for i in 0..results.len() {
         check_result(alloc, compiled, script, i as u32, &results[i])?;
     }

@@ -10,7 +10,8 @@ ghost use Rattle.cert_settle.specs.Reading.{last_of};
 
 use crate::branch_line::param_name_at;
 use crate::known::laws_below;
-use base_text::lines::{after, find_byte, number_in};
+use crate::number::two_numbers;
+use base_text::lines::after;
 use model_line::{Line, Name};
 use model_timing::{Step, is_in};
 use run_signal::Tick;
@@ -25,11 +26,7 @@ fn step_of(bytes: &[u8], name: Name) -> Option<(u32, u32)>
     let named = after(bytes, b"step ")?;
     let at = after(named, name.bytes())?;
     let numbers = after(at, b"@")?;
-    let end = find_byte(numbers, b' ');
-    let from = number_in(&numbers[..end])?;
-    let last = after(&numbers[end..], b" ")?;
-    let value = number_in(last)?;
-    Some((from, value))
+    two_numbers(numbers)
 }
 
 // The step, where it is one of a delay, within the run and inside the delay's interval.

@@ -15,7 +15,7 @@ ghost use Rattle.cert_settle.specs.Walks.{BeginWithTree, IsWalked, IsLeafFault, 
 ghost use Rattle.cert_settle.specs.Walks.{IsViewOf, CanStand, AreViewsBelow};
 
 use base_memory::Stopped;
-use judge_cases::{CaseNode, View, case_view, is_shown, lower_view, upper_view};
+use judge_cases::{Assumed, CaseNode, View, assumed_view, is_shown, lower_view, upper_view};
 use model_line::laws::deadlines_are_below_the_horizon;
 use model_line::{Line, Memory, Script};
 use net_gates::Compiled;
@@ -74,7 +74,7 @@ pub(crate) fn walk(
     walk(alloc, of, &second, nodes, between)
 }
 
-// The views of the two trees below a node, where it is a split or a pair of cases.
+// The views of the two trees below a node, where it is a part or a pair of cases.
 fn views_below(
     alloc: Global,
     line: &Line,
@@ -88,15 +88,17 @@ fn views_below(
         (λ views. AreViewsBelow line.now part root views.0 views.1)) }
 {
     match root {
-        CaseNode::Split { param, mid } => {
+        CaseNode::Parted { param, mid } => {
             let lower = lower_view(alloc, line, view, param, mid)?;
             let upper = upper_view(alloc, line, view, param, mid)?;
             Ok(Some((lower, upper)))
         }
-        CaseNode::Case { terminal, tick } => {
-            let off = case_view(alloc, line, view, terminal, tick, false)?;
-            let on = case_view(alloc, line, view, terminal, tick, true)?;
-            Ok(Some((off, on)))
+        CaseNode::Wanted { terminal, from, to } => {
+            let on = Assumed::new(terminal, from, to, true);
+            let off = Assumed::new(terminal, from, to, false);
+            let throughout = assumed_view(alloc, line, view, on)?;
+            let interrupted = assumed_view(alloc, line, view, off)?;
+            Ok(Some((throughout, interrupted)))
         }
         CaseNode::Yes => Ok(None),
         CaseNode::Undecided => Ok(None),

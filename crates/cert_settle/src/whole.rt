@@ -37,8 +37,8 @@ pub fn check_settle(
     ensures exact { MatchResult result
         (λ counts. IsAccepted compiled.now.line.now scripts.now cert.now counts)
         (OfFault (IsSettleFault compiled.now.line.now scripts.now cert.now)) }
-    // Whatever the trees are: each history of each choice inside meets an obligation whose tree has
-    // yes leaves alone; the timing of a `no` is inside, and its history fails it.
+    // Whatever the trees are: every choice of fractions inside meets an obligation whose tree has yes
+    // leaves alone; the timing of a `no` is inside, and its history fails it.
     ensures sound { IfOk result (λ _. IsSoundText compiled.now.line.now scripts.now cert.now) }
 {
     a_settle_text_has_one_meaning();

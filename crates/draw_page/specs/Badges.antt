@@ -6,37 +6,27 @@ use Rattle.base_markup.specs.declared.html.sign.Sign.{Sign}
 use Rattle.base_markup.specs.declared.html.sign.Sign.TheVariants as sign
 use Rattle.base_markup.specs.{html.Words.words_text, html.Names.sign_text}
 use Rattle.draw_page.specs.declared.page.Standing.{Standing}
-use Rattle.draw_page.specs.declared.page.Standing.TheVariants.{Held, HeldOnTicks, Fails, Open}
+use Rattle.draw_page.specs.declared.page.Standing.TheVariants.{Held, Fails, Open}
 use Rattle.draw_page.specs.Elements.{classed_html}
 
 abbrev pub is_held : Standing → Bool
 is_held Held = true
-is_held HeldOnTicks = true
 is_held Fails = false
 is_held Open = false
 
-abbrev pub is_on_ticks : Standing → Bool
-is_on_ticks Held = false
-is_on_ticks HeldOnTicks = true
-is_on_ticks Fails = false
-is_on_ticks Open = false
-
 abbrev pub is_failing : Standing → Bool
 is_failing Held = false
-is_failing HeldOnTicks = false
 is_failing Fails = true
 is_failing Open = false
 
 abbrev pub is_open : Standing → Bool
 is_open Held = false
-is_open HeldOnTicks = false
 is_open Fails = false
 is_open Open = true
 
--- whether one stands so; what is held on whole ticks is held
+-- whether one stands so
 abbrev pub is_so : Standing → Standing → Bool
 is_so Held standing = is_held standing
-is_so HeldOnTicks standing = is_on_ticks standing
 is_so Fails standing = is_failing standing
 is_so Open standing = is_open standing
 
@@ -47,8 +37,6 @@ mark_html class s words = classed_html tag.Span class (sign_text s ++ words_text
 -- how one obligation stands
 unfoldable pub standing_html : Standing → List ℕ
 standing_html Held = mark_html (codes "mark yes") sign.Check (codes " held")
-standing_html HeldOnTicks =
-    mark_html (codes "mark yes") sign.Check (codes " held on whole ticks")
 standing_html Fails = mark_html (codes "mark no") sign.Cross (codes " fails")
 standing_html Open = mark_html (codes "mark unknown") sign.Question (codes " open")
 
@@ -68,24 +56,20 @@ open_html count all =
     mark_html (codes "mark unknown") sign.Question
     (counted_said count all (codes " open") (codes " open"))
 
--- the word of several that are held, of which so many are on whole ticks alone
-abbrev pub held_said : ℕ → List ℕ
-held_said on_ticks = if nat_lt 0 on_ticks then codes " held on whole ticks" else codes " held"
-
-unfoldable pub held_html : ℕ → ℕ → ℕ → List ℕ
-held_html count on_ticks all =
+unfoldable pub held_html : ℕ → ℕ → List ℕ
+held_html count all =
     mark_html (codes "mark yes") sign.Check
-    (counted_said count all (held_said on_ticks) (held_said on_ticks))
+    (counted_said count all (codes " held") (codes " held"))
 
--- the worst that there is, of so many that fail, are open, are held, and are so on whole ticks alone
-abbrev pub worst_html : ℕ → ℕ → ℕ → ℕ → ℕ → List ℕ
-worst_html fails unknown held on_ticks all =
+-- the worst that there is, of so many that fail, are open, and are held
+abbrev pub worst_html : ℕ → ℕ → ℕ → ℕ → List ℕ
+worst_html fails unknown held all =
     if nat_lt 0 fails then fails_html fails all
     else if nat_lt 0 unknown then open_html unknown all
-    else held_html held on_ticks all
+    else held_html held all
 
 -- how several stand: the worst of it, and how many of them do
 unfoldable pub badge_html : List Standing → List ℕ
 badge_html standings =
     worst_html (count_by is_failing standings) (count_by is_open standings)
-    (count_by is_held standings) (count_by is_on_ticks standings) (length standings)
+    (count_by is_held standings) (length standings)

@@ -61,7 +61,7 @@ counts_html counts tick_us least =
     ++ least_html tick_us least)
 
 unfoldable pub meaning_html : List ℕ
-meaning_html = said_in_html tag.Paragraph (codes "small") (codes "Held: every choice of times inside the declared intervals meets the obligation, fractions of a tick included; held on whole ticks: every choice of whole ticks does. Fails: a choice inside them, shown below, does not. Open: neither is known.")
+meaning_html = said_in_html tag.Paragraph (codes "small") (codes "Held: every choice of times inside the declared intervals meets the obligation, fractions of a tick included. Fails: a choice inside them, shown below, does not. Open: neither is known.")
 
 abbrev pub notes_html : List (Vec ℕ Global) → List ℕ
 notes_html notes = flat_map (λ note. said_in_html tag.Paragraph (codes "note") note.items) notes

@@ -6,8 +6,7 @@ use Rattle.draw_page.specs.declared.page.Page.{Page}
 use Rattle.draw_page.specs.Elements.{classed_html, plain_html, section_html, words_in_html}
 
 unfoldable pub made_said : Page → List ℕ
-made_said page =
-    codes "Made by " ++ page.program.items ++ codes ", proved with " ++ page.kit.items ++ codes "."
+made_said page = codes "Made by " ++ page.made.items ++ codes "."
 
 unfoldable pub line_html : List ℕ → List ℕ
 line_html words = plain_html tag.Division (words_in_html tag.Span words)

@@ -7,7 +7,7 @@ use Rattle.base_markup.specs.declared.html.sign.Sign.{Sign}
 use Rattle.base_markup.specs.declared.html.sign.Sign.TheVariants as sign
 use Rattle.base_markup.specs.{html.Content.element_text, html.Words.words_text, html.Names.sign_text}
 use Rattle.draw_page.specs.declared.page.{Case.Case, Standing.Standing, Verdict.Verdict}
-use Rattle.draw_page.specs.declared.page.Standing.TheVariants.{Held, HeldOnTicks, Fails, Open}
+use Rattle.draw_page.specs.declared.page.Standing.TheVariants.{Held, Fails, Open}
 use Rattle.draw_page.specs.Elements.{cell_html, column_html, head_cell_html, numbered}
 use Rattle.draw_page.specs.Elements.{number_cell_html, plain_html, table_html, words_in_html}
 use Rattle.draw_page.specs.{Badges.standing_html, Words.deadline_said, Words.time_said}
@@ -16,13 +16,11 @@ use Rattle.draw_page.specs.{Badges.standing_html, Words.deadline_said, Words.tim
 
 abbrev pub spot_class : Standing → List ℕ
 spot_class Held = codes "spot held"
-spot_class HeldOnTicks = codes "spot held"
 spot_class Fails = codes "spot fails"
 spot_class Open = codes "spot open"
 
 abbrev pub spot_sign : Standing → Sign
 spot_sign Held = sign.Check
-spot_sign HeldOnTicks = sign.Check
 spot_sign Fails = sign.Cross
 spot_sign Open = sign.Question
 

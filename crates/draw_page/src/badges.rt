@@ -3,7 +3,7 @@
 ghost use Rattle.std.specs.Prelude.{◌≡◌, ℕ, List, IfOk, count_by};
 ghost use Rattle.base_markup.specs.{html.Words.words_text};
 ghost use Rattle.draw_page.specs.Badges.{badge_html, counted_said, is_so, mark_html};
-ghost use Rattle.draw_page.specs.Badges.{fails_html, held_html, held_said, open_html, standing_html};
+ghost use Rattle.draw_page.specs.Badges.{fails_html, held_html, open_html, standing_html};
 ghost use Rattle.draw_page.specs.Badges.{worst_html};
 
 use crate::page::Standing;
@@ -41,9 +41,6 @@ pub fn standing_mark(alloc: Global, standing: Standing) -> Result<Html, AllocErr
 {
     match standing {
         Standing::Held => words_mark(alloc, b"mark yes", Sign::Check, b" held"),
-        Standing::HeldOnTicks => {
-            words_mark(alloc, b"mark yes", Sign::Check, b" held on whole ticks")
-        }
         Standing::Fails => words_mark(alloc, b"mark no", Sign::Cross, b" fails"),
         Standing::Open => words_mark(alloc, b"mark unknown", Sign::Question, b" open"),
     }
@@ -57,8 +54,7 @@ pub fn badge(alloc: Global, standings: &[Standing]) -> Result<Html, AllocError>
     let fails = count(standings, Standing::Fails);
     let open = count(standings, Standing::Open);
     let held = count(standings, Standing::Held);
-    let on_ticks = count(standings, Standing::HeldOnTicks);
-    worst_badge(alloc, fails, open, held, on_ticks, standings.len())
+    worst_badge(alloc, fails, open, held, standings.len())
 }
 
 // How many stand so.
@@ -73,8 +69,7 @@ fn stands_so(state: Standing, standing: Standing) -> bool
 {
     matches!(
         (state, standing),
-        (Standing::Held, Standing::Held | Standing::HeldOnTicks)
-            | (Standing::HeldOnTicks, Standing::HeldOnTicks)
+        (Standing::Held, Standing::Held)
             | (Standing::Fails, Standing::Fails)
             | (Standing::Open, Standing::Open)
     )
@@ -85,18 +80,17 @@ fn worst_badge(
     fails: usize,
     unknown: usize,
     held: usize,
-    on_ticks: usize,
     all: usize,
 ) -> Result<Html, AllocError>
     ensures { IfOk result (λ html. html.text.items
-        ≡ worst_html fails unknown held on_ticks all) }
+        ≡ worst_html fails unknown held all) }
 {
     if fails > 0 {
         fails_badge(alloc, fails, all)
     } else if unknown > 0 {
         open_badge(alloc, unknown, all)
     } else {
-        held_badge(alloc, held, on_ticks, all)
+        held_badge(alloc, held, all)
     }
 }
 
@@ -119,23 +113,11 @@ fn open_badge(alloc: Global, count: usize, all: usize) -> Result<Html, AllocErro
     )
 }
 
-fn held_badge(alloc: Global, count: usize, on_ticks: usize, all: usize) -> Result<Html, AllocError>
-    ensures { IfOk result (λ html. html.text.items ≡ held_html count on_ticks all) }
+fn held_badge(alloc: Global, count: usize, all: usize) -> Result<Html, AllocError>
+    ensures { IfOk result (λ html. html.text.items ≡ held_html count all) }
 {
-    let held = held_words(on_ticks);
-    let words = counted_words(alloc, count, all, held, held);
+    let words = counted_words(alloc, count, all, b" held", b" held");
     mark(alloc, b"mark yes", Sign::Check, text_of(alloc, words))
-}
-
-// The word of those that are held, of which so many are on whole ticks alone.
-fn held_words(on_ticks: usize) -> &'static [u8]
-    ensures { result.now ≡ held_said on_ticks }
-{
-    if on_ticks > 0 {
-        b" held on whole ticks"
-    } else {
-        b" held"
-    }
 }
 
 // ` held` of one, ` 64 of 64 held` of more.

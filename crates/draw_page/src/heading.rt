@@ -171,7 +171,7 @@ fn meaning(alloc: Global) -> Result<Html, AllocError>
         alloc,
         Tag::Paragraph,
         b"small",
-        b"Held: every choice of times inside the declared intervals meets the obligation, fractions of a tick included; held on whole ticks: every choice of whole ticks does. Fails: a choice inside them, shown below, does not. Open: neither is known.",
+        b"Held: every choice of times inside the declared intervals meets the obligation, fractions of a tick included. Fails: a choice inside them, shown below, does not. Open: neither is known.",
     )
 }
 

@@ -29,10 +29,8 @@ pub struct Page {
     pub files: Vec<FileText>,
     /// Of what does not stand on the page, as the settled trees.
     pub digests: Vec<Digest>,
-    /// The program and its version, as `study --version` says them.
-    pub program: Vec<u8>,
-    /// What proved it, as `rt version` says it.
-    pub kit: Vec<u8>,
+    /// The program, its version and the build that it is of, as `study --version` says them.
+    pub made: Vec<u8>,
 }
 
 /// How many obligations hold, fail and are undecided: one for each script and terminal.
@@ -55,8 +53,6 @@ pub struct LeastMargin {
 pub enum Standing {
     /// Whatever fractions of a tick its times have.
     Held,
-    /// Of whole ticks alone.
-    HeldOnTicks,
     Fails,
     Open,
 }

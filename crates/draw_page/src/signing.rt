@@ -27,8 +27,7 @@ pub fn signing(alloc: Global, page: &Page) -> Result<Html, AllocError>
 fn made_words(alloc: Global, page: &Page) -> Result<Vec<u8>, AllocError>
     ensures { IfOk result (λ text. text.items ≡ made_said page.now) }
 {
-    let (program, kit) = (page.program.as_slice(), page.kit.as_slice());
-    words_of(alloc, &[b"Made by ", program, b", proved with ", kit, b"."])
+    words_of(alloc, &[b"Made by ", page.made.as_slice(), b"."])
 }
 
 // A line to write on.

@@ -62,7 +62,7 @@ fn spot_class(standing: Standing) -> &'static [u8]
     ensures { result.now ≡ class_of_spot standing }
 {
     match standing {
-        Standing::Held | Standing::HeldOnTicks => b"spot held",
+        Standing::Held => b"spot held",
         Standing::Fails => b"spot fails",
         Standing::Open => b"spot open",
     }
@@ -72,7 +72,7 @@ fn spot_sign(standing: Standing) -> Sign
     ensures { result ≡ sign_of_spot standing }
 {
     match standing {
-        Standing::Held | Standing::HeldOnTicks => Sign::Check,
+        Standing::Held => Sign::Check,
         Standing::Fails => Sign::Cross,
         Standing::Open => Sign::Question,
     }

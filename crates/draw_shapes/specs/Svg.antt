@@ -58,6 +58,11 @@ shape_text (titled title figures) = group_text title figures
 abbrev pub shapes_text : List SeenShape → List ℕ
 shapes_text shapes = flat_map shape_text shapes
 
+-- what made a drawing, in words that are not drawn
+unfoldable pub description_text : List ℕ → List ℕ
+description_text made =
+    element_text tag.Description [] (escaped made) ++ end_of_line
+
 -- ---- the style
 
 -- words without a look of their own
@@ -116,9 +121,11 @@ root_attributes height =
     ∷ ((key.Height, decimal (height / 10)) ∷ ((key.Role, codes "img") ∷ []))))
 
 -- what stands in the one element
-abbrev pub inside_text : SeenDrawing → List ℕ
-inside_text d =
-    end_of_line ++ title_text d.title ++ sheet_text ++ hatchings_text ++ shapes_text d.shapes
+abbrev pub inside_text : List ℕ → SeenDrawing → List ℕ
+inside_text made d =
+    end_of_line ++ title_text d.title ++ description_text made ++ sheet_text ++ hatchings_text
+    ++ shapes_text d.shapes
 
-unfoldable pub svg_of : SeenDrawing → List ℕ
-svg_of d = element_text tag.Svg (root_attributes d.height) (inside_text d) ++ end_of_line
+unfoldable pub svg_of : List ℕ → SeenDrawing → List ℕ
+svg_of made d =
+    element_text tag.Svg (root_attributes d.height) (inside_text made d) ++ end_of_line

@@ -5,7 +5,7 @@ ghost use Rattle.draw_shapes.specs.Seen.{rectangle, line, text, figure_seen, fig
 ghost use Rattle.draw_shapes.specs.Seen.{shape_seen};
 ghost use Rattle.draw_shapes.specs.Seen.{shapes_seen, drawing_seen};
 ghost use Rattle.draw_shapes.specs.Svg.{figure_text, figures_text, group_text, shape_text};
-ghost use Rattle.draw_shapes.specs.Svg.{shapes_text, title_text, inside_text, svg_of};
+ghost use Rattle.draw_shapes.specs.Svg.{description_text, inside_text, shapes_text, svg_of, title_text};
 
 use crate::figure::{Figure, Label, Rectangle, Stroke};
 use crate::shape::{Drawing, Shape};
@@ -14,15 +14,16 @@ use base_markup::svg::{Key, Markup, Tag, tenths, words};
 use itoa::Buffer;
 use std::alloc::{AllocError, Global};
 
-/// A drawing as a whole SVG document.
+/// A drawing as a whole SVG document, which says in these words what made it.
 #[tactic(auto, unfolding(crate::specs::Svg::svg_of))]
-pub fn svg(alloc: Global, drawing: &Drawing) -> Result<Markup, AllocError>
-    ensures { IfOk result (λ markup. markup.text.items ≡ svg_of (drawing_seen drawing.now)) }
+pub fn svg(alloc: Global, drawing: &Drawing, made: &[u8]) -> Result<Markup, AllocError>
+    ensures { IfOk result (λ markup.
+        markup.text.items ≡ svg_of made.now (drawing_seen drawing.now)) }
 {
     let height = number(alloc, drawing.height / 10)?;
     let mut view = Vec::from_slice(alloc, b"0 0 1000 ")?;
     view.extend_from_slice(height.as_slice())?;
-    let inside = inside(alloc, drawing)?;
+    let inside = inside(alloc, drawing, made)?;
     let root = Markup::element(
         alloc,
         Tag::Svg,
@@ -46,12 +47,13 @@ fn number(alloc: Global, number: u32) -> Result<Vec<u8>, AllocError>
 }
 
 // What stands in the one element of a drawing.
-fn inside(alloc: Global, drawing: &Drawing) -> Result<Markup, AllocError>
+fn inside(alloc: Global, drawing: &Drawing, made: &[u8]) -> Result<Markup, AllocError>
     ensures { IfOk result (λ markup.
-        markup.text.items ≡ inside_text (drawing_seen drawing.now)) }
+        markup.text.items ≡ inside_text made.now (drawing_seen drawing.now)) }
 {
     Markup::line_end(alloc)?
         .and(&title(alloc, drawing.title.as_slice())?)?
+        .and(&description(alloc, made)?)?
         .and(&sheet(alloc)?)?
         .and(&hatchings(alloc)?)?
         .and(&shapes(alloc, drawing.shapes.as_slice())?)
@@ -95,6 +97,15 @@ pub fn title(alloc: Global, words: &[u8]) -> Result<Markup, AllocError>
 {
     let inside = Markup::words(alloc, words)?;
     ended(alloc, Markup::element(alloc, Tag::Title, &[], &inside)?)
+}
+
+// What made a drawing, in words that are not drawn.
+#[tactic(auto, unfolding(crate::specs::Svg::description_text))]
+fn description(alloc: Global, words: &[u8]) -> Result<Markup, AllocError>
+    ensures { IfOk result (λ markup. markup.text.items ≡ description_text words.now) }
+{
+    let inside = Markup::words(alloc, words)?;
+    ended(alloc, Markup::element(alloc, Tag::Description, &[], &inside)?)
 }
 
 fn figures(alloc: Global, figures: &[Figure]) -> Result<Markup, AllocError>

@@ -3,23 +3,23 @@
 ghost use Rattle.std.specs.Prelude.{◌<◌, ◌≤◌, ◌+◌, length};
 ghost use Rattle.model_line.specs.Parameters.{param_count};
 
-use crate::bits::{ALL, first, only};
-use crate::case::{Assumed, Case};
+use crate::bits::{first, only};
 use crate::lists::push;
 use crate::outlook::{Outlook64, Score};
 use crate::run::look_ahead;
 use crate::scene::Scene;
+use crate::span::{Assumed, Span};
 use crate::views::{Views64, ends_at};
 use model_line::Memory;
 use run_signal::Within;
 use std::alloc::Global;
 
-/// A cut of a view in two: up to `mid` of a parameter, and from `mid + 1` on; or a case, off and
-/// on.
+/// A cut of a view in two: up to `mid` of a parameter, and from there on; or two cases, of an echo
+/// that is wanted throughout a span, and of one that is not at some instant of it.
 #[derive(Clone, Copy)]
 pub enum Cut {
-    Split { param: u32, mid: u32 },
-    Case(Case),
+    Parted { param: u32, mid: u32 },
+    Wanted(Span),
 }
 
 /// What is seen of one view.
@@ -27,8 +27,8 @@ pub enum Cut {
 pub struct Side {
     pub met: bool,
     pub score: Score,
-    /// The cases that it offers.
-    pub cases: Vec<Case>,
+    /// The first stretches through which it is not known whether a terminal wants an echo.
+    pub stretches: Vec<Span>,
 }
 
 /// A cut with its two sides.
@@ -53,62 +53,53 @@ pub fn side_of(
     side_in(alloc, scene, &outlook, 0)
 }
 
-/// The cuts of a view: its cases, and the halves of each parameter that is no delay and is read on
-/// both rails.
+/// The cuts of a view: the last half, the whole and the last tick of each of these stretches, and the
+/// halves of each parameter that is no delay, is read on both rails and has a number between its ends.
 pub fn cuts_of(
     alloc: Global,
     scene: &Scene,
     ends: &[Within],
-    cases: &[Case],
+    stretches: &[Span],
 ) -> Result<Vec<Cut>, Memory> {
     let mut cuts = Vec::new(alloc);
-    push_cuts(scene, ends, cases, &mut cuts)?;
-    Ok(cuts)
-}
-
-fn push_cuts(
-    scene: &Scene,
-    ends: &[Within],
-    cases: &[Case],
-    cuts: &mut Vec<Cut>,
-) -> Result<(), Memory> {
-    for case in cases {
-        push(cuts, Cut::Case(*case))?;
+    for stretch in stretches {
+        push_spans(*stretch, &mut cuts)?;
     }
     for param in 0..scene.line.param_count() {
         if let Some(mid) = mid_of(scene, ends, param) {
-            push(cuts, Cut::Split { param, mid })?;
+            push(&mut cuts, Cut::Parted { param, mid })?;
         }
+    }
+    Ok(cuts)
+}
+
+// The spans of a stretch.
+fn push_spans(stretch: Span, cuts: &mut Vec<Cut>) -> Result<(), Memory> {
+    let ticks = stretch.ticks();
+    push(cuts, Cut::Wanted(stretch.last(ticks - ticks / 2)))?;
+    if ticks > 1 {
+        push(cuts, Cut::Wanted(stretch))?;
+        push(cuts, Cut::Wanted(stretch.last(1)))?;
     }
     Ok(())
 }
 
-// Where the lower half of a parameter ends, if it is to be split.
+// Where the halves of a parameter meet, if it is to be parted.
 fn mid_of(scene: &Scene, ends: &[Within], param: u32) -> Option<u32>
     requires { param < param_count scene.now.line.now }
 {
     let own = ends_at(ends, param);
     let (least, greatest) = (own.least(), own.greatest());
-    if least < greatest && !scene.line.is_delay(param) && scene.reads.param(param).is_both() {
-        Some(least + (greatest - least) / 2)
+    let mid = least + greatest.saturating_sub(least) / 2;
+    if least < mid && !scene.line.is_delay(param) && scene.reads.param(param).is_both() {
+        Some(mid)
     } else {
         None
     }
 }
 
-/// The cuts at a tick beside a case.
-pub fn cuts_beside(alloc: Global, cuts: &[Cut], last: Case) -> Result<Vec<Cut>, Memory> {
-    let mut near = Vec::new(alloc);
-    for cut in cuts {
-        if is_beside(*cut, last) {
-            push(&mut near, *cut)?;
-        }
-    }
-    Ok(near)
-}
-
-/// Looks at both sides of each cut of a view, and chooses one, if one helps: the best case that
-/// settles a side, else the least sum of scores. With `settling` only such a case is chosen.
+/// Looks at both sides of each cut of a view, and chooses one, if one helps: the best span that
+/// settles a side, else the least sum of scores. With `settling` only such a span is chosen.
 pub fn choose(
     alloc: Global,
     scene: &Scene,
@@ -186,10 +177,7 @@ fn look_in(
 ) -> Result<Outlook64, Memory>
     requires { length cuts.now ≤ 32 }
 {
-    views.begin(scene.line, ends)?;
-    for one in assumed {
-        views.assume(ALL, *one)?;
-    }
+    views.begin_under(scene.line, ends, assumed)?;
     for place in 0..cuts.len() {
         put_cut(ends, cuts[place], 2 * place as u32, views)?;
     }
@@ -201,15 +189,15 @@ fn put_cut(ends: &[Within], cut: Cut, lane: u32, views: &mut Views64) -> Result<
     requires { lane + 1 < 64 }
 {
     match cut {
-        Cut::Split { param, mid } => {
+        Cut::Parted { param, mid } => {
             let own = ends_at(ends, param);
             views.set(lane, param, own.least(), mid);
-            views.set(lane + 1, param, mid.saturating_add(1), own.greatest());
+            views.set(lane + 1, param, mid, own.greatest());
             Ok(())
         }
-        Cut::Case(case) => {
-            views.assume(only(lane), Assumed { case, level: false })?;
-            views.assume(only(lane + 1), Assumed { case, level: true })
+        Cut::Wanted(span) => {
+            views.assume(only(lane), span.wanted(true))?;
+            views.assume(only(lane + 1), span.wanted(false))
         }
     }
 }
@@ -230,14 +218,14 @@ impl Trial {
         self.first.max(self.second)
     }
 
-    // Whether it is a case of which one side meets the obligation, and the other comes nearer.
+    // Whether it is a span of which one side meets the obligation, and the other comes nearer.
     fn settles(self, score: Score) -> bool {
-        self.meets && self.worse() < score && matches!(self.cut, Cut::Case(_))
+        self.meets && self.worse() < score && matches!(self.cut, Cut::Wanted(_))
     }
 
-    // Whether it is a case that changes neither side.
+    // Whether it is a span of which a side comes no nearer: to tell it apart again would not end.
     fn is_idle(self, score: Score) -> bool {
-        matches!(self.cut, Cut::Case(_)) && self.first == score && self.second == score
+        self.worse() >= score && matches!(self.cut, Cut::Wanted(_))
     }
 }
 
@@ -259,14 +247,6 @@ fn lane_of(place: usize) -> u32
     ensures { result + 1 < 64 }
 {
     2 * (place % BLOCK) as u32
-}
-
-// Whether it is a case at a tick beside another.
-fn is_beside(cut: Cut, last: Case) -> bool {
-    match cut {
-        Cut::Split { .. } => false,
-        Cut::Case(case) => case.terminal == last.terminal && case.tick.abs_diff(last.tick) == 1,
-    }
 }
 
 // The first of those that settle a side whose other side is nearest.
@@ -336,8 +316,8 @@ fn side_in(alloc: Global, scene: &Scene, outlook: &Outlook64, lane: u32) -> Resu
     let mut side = Side {
         met: outlook.is_met(scene, lane),
         score: outlook.score(scene, lane),
-        cases: Vec::new(alloc),
+        stretches: Vec::new(alloc),
     };
-    outlook.push_cases(scene, lane, &mut side.cases)?;
+    outlook.push_unknown(scene, lane, &mut side.stretches)?;
     Ok(side)
 }

@@ -7,10 +7,10 @@
 
 mod bits;
 mod candidates;
-mod case;
 mod channel;
 mod counter;
 mod cuts;
+mod levels;
 mod lists;
 mod marks;
 mod moving;
@@ -21,12 +21,15 @@ mod reads;
 mod run;
 mod scene;
 mod since;
+mod span;
+mod spans;
 mod timer;
 mod turns;
 mod views;
 
 pub use candidates::{CANDIDATES, failing};
-pub use case::{Assumed, Case};
-pub use cuts::{Chosen, Cut, Side, choose, cuts_beside, cuts_of, side_of};
+pub use cuts::{Chosen, Cut, Side, choose, cuts_of, side_of};
 pub use outlook::Score;
 pub use scene::Scene;
+pub use span::{Assumed, Span};
+pub use spans::{Spans, spans_of};

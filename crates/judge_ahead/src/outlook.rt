@@ -3,14 +3,13 @@
 ghost use Rattle.std.specs.Prelude.{◌<◌};
 
 use crate::bits::{holds, lowest, only, rest};
-use crate::case::Case;
 use crate::counter::Counter64;
 use crate::lists::push;
 use crate::run::Run64;
-use crate::scene::Scene;
+use crate::scene::{Echo, Scene};
 use crate::since::{Since, push_since};
+use crate::span::Span;
 use model_line::{Kind, Memory};
-use net_gates::GateId;
 use std::alloc::Global;
 
 /// How far a view is from meeting the obligation: for an external fault at how many ticks what sets
@@ -41,7 +40,7 @@ impl Score {
 // no tick
 const NEVER: u16 = u16::MAX;
 
-// how many stretches of a wanted echo give cases
+// how many stretches of a terminal are told
 const STRETCHES: u32 = 3;
 
 /// What was seen of 64 views through a run.
@@ -118,7 +117,7 @@ impl Outlook64 {
         for terminal in 0..keys.len() {
             let since = Since {
                 tick: t,
-                unknown: unknown_in(run, scene.wanted_by(terminal)),
+                unknown: unknown_in(run, scene.echo_of(terminal)),
                 keys: run.pair(keys[terminal]).must,
             };
             if let Some(list) = self.seen.get_mut(terminal) {
@@ -170,15 +169,19 @@ impl Outlook64 {
         }
     }
 
-    /// Adds the cases that a view offers: the first and the last tick of each of the first stretches
-    /// through which it is not known whether a terminal wants an echo.
-    pub fn push_cases(&self, scene: &Scene, lane: u32, cases: &mut Vec<Case>) -> Result<(), Memory>
+    /// Adds the first stretches through which it is not known whether a terminal wants an echo.
+    pub fn push_unknown(
+        &self,
+        scene: &Scene,
+        lane: u32,
+        stretches: &mut Vec<Span>,
+    ) -> Result<(), Memory>
         requires { lane < 64 }
     {
         let horizon = scene.line.horizon;
         for terminal in 0..scene.line.terminals.len() {
             let list = self.seen_of(terminal);
-            push_stretches(cases, list, horizon, terminal as u32, only(lane))?;
+            push_stretches(stretches, list, horizon, terminal as u32, only(lane))?;
         }
         Ok(())
     }
@@ -192,17 +195,17 @@ impl Outlook64 {
     }
 }
 
-// The lanes in which it is not known whether an echo is wanted; none where no case is to be made of it.
-fn unknown_in(run: &Run64, wanted: Option<GateId>) -> u64 {
-    match wanted {
-        Some(gate) => run.pair(gate).unknown(),
+// The lanes in which it is not known whether an echo is wanted; none where no cases are made of it.
+fn unknown_in(run: &Run64, echo: Option<Echo>) -> u64 {
+    match echo {
+        Some(echo) => run.pair(echo.wanted).unknown(),
         None => 0,
     }
 }
 
-// The ends of the first stretches of a lane, through a run of so many ticks.
+// The first stretches of a lane, through a run of so many ticks.
 fn push_stretches(
-    cases: &mut Vec<Case>,
+    stretches: &mut Vec<Span>,
     list: &[Since],
     horizon: u32,
     terminal: u32,
@@ -212,13 +215,14 @@ fn push_stretches(
     let mut begun: Option<u32> = None;
     for since in list {
         let is = since.unknown & lane != 0;
+        let to = since.tick;
         match begun {
-            Some(first) if !is => {
-                push_ends(cases, terminal, first, since.tick)?;
+            Some(from) if !is => {
+                push(stretches, Span { terminal, from, to })?;
                 found = found.saturating_add(1);
                 begun = None;
             }
-            None if is => begun = Some(since.tick),
+            None if is => begun = Some(to),
             _ => {}
         }
         if found == STRETCHES {
@@ -226,23 +230,10 @@ fn push_stretches(
         }
     }
     match begun {
-        Some(first) => push_ends(cases, terminal, first, horizon),
+        Some(from) => {
+            let to = horizon;
+            push(stretches, Span { terminal, from, to })
+        }
         None => Ok(()),
     }
-}
-
-// The first tick of a stretch, and its last, if that is another one.
-fn push_ends(cases: &mut Vec<Case>, terminal: u32, tick: u32, end: u32) -> Result<(), Memory> {
-    push(cases, Case { terminal, tick })?;
-    let last = end.saturating_sub(1);
-    if last <= tick {
-        return Ok(());
-    }
-    push(
-        cases,
-        Case {
-            terminal,
-            tick: last,
-        },
-    )
 }

@@ -47,6 +47,15 @@ impl Pair64 {
         }
     }
 
+    /// At a level in some lanes.
+    pub fn with(self, on: bool, lanes: u64) -> Pair64 {
+        let level = each(on) & lanes;
+        Pair64 {
+            must: (self.must & !lanes) | level,
+            may: (self.may & !lanes) | level,
+        }
+    }
+
     /// The opposite.
     pub fn not(self) -> Pair64 {
         Pair64 {

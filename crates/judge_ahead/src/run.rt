@@ -4,6 +4,7 @@ ghost use Rattle.std.specs.Prelude.{◌<◌, length};
 
 use crate::channel::Channel64;
 use crate::counter::Counter64;
+use crate::levels::{Level64, levels_of};
 use crate::lists::{at, push};
 use crate::marks::Marks;
 use crate::outlook::Outlook64;
@@ -25,6 +26,8 @@ pub struct Run64 {
     gates: Vec<Gate64>,
     timers: Vec<TimerGate>,
     channels: Vec<Channel64>,
+    /// The levels of gates that follow from what is assumed.
+    levels: Vec<Level64>,
     /// How many of the script's turns were taken.
     turned: usize,
     /// How many of the gates that the trip rests on are not known.
@@ -91,7 +94,7 @@ fn run_through(
     let horizon = scene.line.horizon;
     let mut t = 0;
     'stretches: while t < horizon {
-        run.tick(scene, views, t);
+        run.tick(scene, t);
         let next = run.marks.after(t, horizon);
         outlook.note(scene, run, t, next - t)?;
         t = next;
@@ -108,6 +111,7 @@ impl Run64 {
             gates: Vec::new(alloc),
             timers: Vec::new(alloc),
             channels: Vec::new(alloc),
+            levels: Vec::new(alloc),
             turned: 0,
             unknown: Counter64::new(),
             excluded: 0,
@@ -117,7 +121,8 @@ impl Run64 {
 
     // Takes what there is before the first tick.
     fn begin(&mut self, alloc: Global, scene: &Scene, views: &Views64) -> Result<(), Memory> {
-        self.begin_marks(scene, views);
+        self.levels = levels_of(alloc, scene, views)?;
+        self.begin_marks(scene);
         for i in 0..scene.net.len() {
             self.add_gate(scene, views, i)?;
         }
@@ -127,12 +132,11 @@ impl Run64 {
         Ok(())
     }
 
-    // Marks where the script turns, and where something is assumed, and no longer is.
-    fn begin_marks(&mut self, scene: &Scene, views: &Views64) {
-        for assumed in views.assumed() {
-            let tick = assumed.one.case.tick;
-            self.marks.put(tick);
-            self.marks.put(tick.saturating_add(1));
+    // Marks where the script turns, and where a level that is assumed begins and ends.
+    fn begin_marks(&mut self, scene: &Scene) {
+        for level in &self.levels {
+            self.marks.put(level.from);
+            self.marks.put(level.to);
         }
         for turn in &scene.turns {
             self.marks.put(turn.tick);
@@ -176,16 +180,16 @@ impl Run64 {
     }
 
     // Takes a tick, each gate after those that it reads.
-    fn tick(&mut self, scene: &Scene, views: &Views64, t: u32)
+    fn tick(&mut self, scene: &Scene, t: u32)
         requires { t < 4000 }
     {
         self.turn(scene, t);
         self.arrive(scene, t);
         self.stir_due(t);
-        self.stir_assumed(scene, views, t);
+        self.stir_levels(t);
         for i in 0..scene.net.len() {
             if self.calm(i) {
-                self.renew(scene, views, i, t);
+                self.renew(scene, i, t);
             }
         }
         self.send(scene, t);
@@ -270,30 +274,30 @@ impl Run64 {
         }
     }
 
-    // Marks the gates of which something is assumed, or was at the tick before.
-    fn stir_assumed(&mut self, scene: &Scene, views: &Views64, t: u32) {
-        for assumed in views.assumed() {
-            let case = assumed.one.case;
-            if case.tick == t || case.tick.saturating_add(1) == t {
-                if let Some(gate) = scene.wanted_by(case.terminal as usize) {
-                    self.stir(gate.0);
-                }
+    // Marks the gates whose level that is assumed begins or ends.
+    fn stir_levels(&mut self, t: u32) {
+        for place in 0..self.levels.len() {
+            if let Some(gate) = self.level_turned(place, t) {
+                self.stir(gate.0);
             }
         }
     }
 
+    // The gate of a level that begins or ends at a tick.
+    fn level_turned(&self, place: usize, t: u32) -> Option<GateId> {
+        match self.levels.get(place) {
+            Some(level) if level.from == t || level.to == t => Some(level.gate),
+            _ => None,
+        }
+    }
+
     // Looks at a gate.
-    fn renew(&mut self, scene: &Scene, views: &Views64, i: u32, t: u32)
+    fn renew(&mut self, scene: &Scene, i: u32, t: u32)
         requires tick { t < 4000 }
         requires gate { i < length scene.now.net.now.gates }
     {
-        let mut pair = self.own_pair(scene, i, t);
-        let wanted = scene.wanted();
-        for terminal in 0..wanted.len() {
-            if wanted[terminal] == Some(GateId(i)) {
-                pair = self.assume(views, terminal, pair, t);
-            }
-        }
+        let own = self.own_pair(scene, i, t);
+        let pair = self.assumed(GateId(i), own, t);
         self.put(scene, i, pair);
     }
 
@@ -341,14 +345,19 @@ impl Run64 {
         self.stir_all(scene.net.readers(GateId(i)));
     }
 
-    // The pair of a gate with what is assumed of a terminal at a tick.
-    fn assume(&mut self, views: &Views64, terminal: usize, pair: Pair64, t: u32) -> Pair64 {
-        let levels = views.levels(terminal, t);
-        self.excluded |= (levels.off & pair.must) | (levels.on & !pair.may);
-        Pair64 {
-            must: (pair.must & !levels.off) | levels.on,
-            may: (pair.may & !levels.off) | levels.on,
+    // The pair of a gate at a tick, with the levels that are assumed. One that is on where its own
+    // pair cannot be excludes what is assumed.
+    fn assumed(&mut self, gate: GateId, own: Pair64, t: u32) -> Pair64 {
+        let mut pair = own;
+        for level in &self.levels {
+            if level.is_at(gate, t) {
+                pair = pair.with(level.on, level.lanes);
+                if level.on {
+                    self.excluded |= level.lanes & !own.may;
+                }
+            }
         }
+        pair
     }
 
     fn feed(&mut self, slot: usize, input: Pair64, t: u32) -> Pair64

@@ -6,6 +6,7 @@ use crate::lists::{at, push};
 use crate::reads::Reads;
 use crate::turns::{Turn, turns_of};
 use model_line::{Kind, Line, Memory, Script};
+use model_logic::Time;
 use net_gates::{Gate, GateId, Net};
 use std::alloc::Global;
 
@@ -20,11 +21,19 @@ pub struct Scene<'a> {
     pub reads: Reads,
     /// Where what the script shows turns, by tick.
     pub turns: Vec<Turn>,
-    /// Of each terminal the gate of the echo that it wants, where it is read on both rails.
-    wanted: Vec<Option<GateId>>,
+    /// Of each terminal the gates of the echo that it wants, where it is read on both rails.
+    echoes: Vec<Option<Echo>>,
     /// The terminal's trip, and what sets it.
     trip: Option<GateId>,
     set: Option<GateId>,
+}
+
+/// What an echo is made of: the gate that wants it, and the one that tells that its pulse is over.
+#[derive(Clone, Copy)]
+pub(crate) struct Echo {
+    pub wanted: GateId,
+    pub over: GateId,
+    pub pulse: Time,
 }
 
 impl<'a> Scene<'a> {
@@ -44,7 +53,7 @@ impl<'a> Scene<'a> {
         let trip = net.trip_gates().get(terminal as usize).copied();
         let turns = turns_of(alloc, line, net, script)?;
         let reads = Reads::new(alloc, line, net, script.kind, trip)?;
-        let wanted = wanted_gates(alloc, net, &reads)?;
+        let echoes = echoes_of(alloc, net, &reads)?;
         Ok(Scene {
             line,
             net,
@@ -52,20 +61,15 @@ impl<'a> Scene<'a> {
             terminal,
             reads,
             turns,
-            wanted,
+            echoes,
             trip,
             set: set_gate(net, trip),
         })
     }
 
-    /// The gates of the echoes that are wanted, one for each terminal.
-    pub fn wanted(&self) -> &[Option<GateId>] {
-        &self.wanted
-    }
-
-    /// The gate of the echo that a terminal wants.
-    pub(crate) fn wanted_by(&self, terminal: usize) -> Option<GateId> {
-        at(&self.wanted, terminal, None)
+    /// The gates of the echo that a terminal wants.
+    pub(crate) fn echo_of(&self, terminal: usize) -> Option<Echo> {
+        at(&self.echoes, terminal, None)
     }
 
     /// The terminal's trip.
@@ -87,29 +91,36 @@ impl<'a> Scene<'a> {
     }
 }
 
-// Of each key the gate of the echo that is wanted, where it is read on both rails.
-fn wanted_gates(alloc: Global, net: &Net, reads: &Reads) -> Result<Vec<Option<GateId>>, Memory> {
-    let mut wanted = Vec::new(alloc);
+// Of each key the gates of its echo, where that is read on both rails.
+fn echoes_of(alloc: Global, net: &Net, reads: &Reads) -> Result<Vec<Option<Echo>>, Memory> {
+    let mut echoes = Vec::new(alloc);
     for key in net.key_gates() {
-        push(&mut wanted, wanted_gate(net, reads, *key))?;
+        push(&mut echoes, echo_in(net, reads, *key))?;
     }
-    Ok(wanted)
+    Ok(echoes)
 }
 
-// What the echo of a key starts from, where it is read on both rails: of `ahead or (wanted and
-// still)` the gate of `wanted`.
-fn wanted_gate(net: &Net, reads: &Reads, key: GateId) -> Option<GateId> {
+// What the echo of a key is made of, where it is read on both rails: the key is `ahead or (wanted
+// and not over)`.
+fn echo_in(net: &Net, reads: &Reads, key: GateId) -> Option<Echo> {
     let Gate::Or(_, echo) = gate_at(net, key) else {
         return None;
     };
-    let Gate::And(wanted, _) = gate_at(net, echo) else {
+    let Gate::And(wanted, still) = gate_at(net, echo) else {
         return None;
     };
-    let Gate::Timer(_, _, _) = gate_at(net, wanted) else {
+    let Gate::Not(over) = gate_at(net, still) else {
         return None;
     };
-    if reads.gate(wanted).is_both() {
-        Some(wanted)
+    let Gate::Timer(input, pulse, _) = gate_at(net, over) else {
+        return None;
+    };
+    if input == wanted && reads.gate(wanted).is_both() {
+        Some(Echo {
+            wanted,
+            over,
+            pulse,
+        })
     } else {
         None
     }

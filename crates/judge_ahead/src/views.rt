@@ -2,10 +2,11 @@
 
 ghost use Rattle.std.specs.Prelude.{◌<◌};
 
-use crate::case::Assumed;
+use crate::bits::ALL;
 use crate::channel::Window64;
 use crate::lists::{at, push};
 use crate::rails::Rails64;
+use crate::span::Assumed;
 use crate::timer::Times64;
 use model_line::{Line, Memory};
 use model_logic::Time;
@@ -37,13 +38,6 @@ pub struct Assumed64 {
     pub one: Assumed,
 }
 
-/// The lanes in which an echo is assumed not to be wanted, and those in which it is assumed to be.
-#[derive(Clone, Copy)]
-pub struct Levels64 {
-    pub off: u64,
-    pub on: u64,
-}
-
 impl Views64 {
     /// Views in these lanes, of a line with no parameters.
     pub fn bare(alloc: Global, lanes: u64) -> Views64 {
@@ -64,6 +58,20 @@ impl Views64 {
         for channel in 0..line.channels.len() {
             let delay = ends_at(ends, line.delay_of(channel as u32));
             push(&mut self.windows, window(delay))?;
+        }
+        Ok(())
+    }
+
+    /// Takes these intervals, and assumes these cases in each lane.
+    pub fn begin_under(
+        &mut self,
+        line: &Line,
+        ends: &[Within],
+        assumed: &[Assumed],
+    ) -> Result<(), Memory> {
+        self.begin(line, ends)?;
+        for one in assumed {
+            self.assume(ALL, *one)?;
         }
         Ok(())
     }
@@ -102,7 +110,7 @@ impl Views64 {
         }
     }
 
-    /// Assumes a case in these lanes.
+    /// Assumes one of the two cases of a span in these lanes.
     pub fn assume(&mut self, lanes: u64, one: Assumed) -> Result<(), Memory> {
         push(&mut self.assumed, Assumed64 { lanes, one })
     }
@@ -110,22 +118,6 @@ impl Views64 {
     /// What is assumed.
     pub fn assumed(&self) -> &[Assumed64] {
         &self.assumed
-    }
-
-    /// What is assumed of a terminal at a tick.
-    pub fn levels(&self, terminal: usize, t: u32) -> Levels64 {
-        let mut levels = Levels64 { off: 0, on: 0 };
-        for assumed in &self.assumed {
-            let case = assumed.one.case;
-            if case.tick == t && case.terminal as usize == terminal {
-                if assumed.one.level {
-                    levels.on |= assumed.lanes;
-                } else {
-                    levels.off |= assumed.lanes;
-                }
-            }
-        }
-        levels
     }
 
     /// The lanes that are views.
@@ -142,6 +134,11 @@ impl Views64 {
             must: times(pickup.greatest, dropout.least),
             may: times(pickup.least, dropout.greatest),
         }
+    }
+
+    /// The least that a time is in each lane.
+    pub fn least_of(&self, time: Time) -> [u16; 64] {
+        self.ends_of(time).least
     }
 
     // The interval of a time in each lane.

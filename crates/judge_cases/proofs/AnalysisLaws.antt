@@ -1,10 +1,10 @@
 -- From a run under levels to what it tells of views.
-use Rattle.std.proofs.Common.{◌≡◌, ◌<◌, ◌≤◌, ℕ, Bool, List, Some, length}
+use Rattle.std.proofs.Common.{◌≡◌, ◌<◌, ◌≤◌, ℕ, Bool, true, false, List, Some, length, not, refl}
 use Rattle.std.proofs.Common.{sym, ◌∙◌, ap, subst, arith, ⊎_elim}
 use Rattle.std.proofs.Math.Path.{fun_ext}
 use Rattle.std.proofs.lemmas.Bool.{cases_lt}
 use Rattle.std.proofs.lemmas.Bool.Decides.{nat_tests}
-use Rattle.std.specs.Prelude.{Option, Decides, Contains, All, slice_get}
+use Rattle.std.specs.Prelude.{Option, Decides, IsFalse, Contains, All, slice_get}
 use Rattle.std.proofs.lemmas.Option.{slice_get_past}
 use Rattle.std.proofs.lemmas.List.{get_or_past}
 use Rattle.model_history.specs.Rails.{Rails, single}
@@ -13,9 +13,9 @@ use Rattle.model_line.specs.Parameters.{param_count}
 use Rattle.model_logic.specs.{Boxes.box_of, Tree.Tree}
 use Rattle.model_logic.specs.Choice.{Box, LeastFromOne, pair_world_of}
 use Rattle.model_logic.specs.Histories.{PairHistory}
-use Rattle.model_settle.specs.Assumed.{Assumption, assumed_level, wanted}
-use Rattle.model_settle.specs.CaseTrees.{HasCases}
-use Rattle.model_settle.specs.Under.{Excludes, own_pair, SomeIsExcluded}
+use Rattle.model_settle.specs.Assumed.{Assumption, Throughout, Interrupted, HasSpan, HaveSpans}
+use Rattle.model_settle.specs.Assumed.{span_of, assumed_level, wanted}
+use Rattle.model_settle.specs.Under.{own_pair, SomeIsExcluded}
 use Rattle.net_gates.specs.{NetOf.NetOf, NetOf.IsNetOf, Formulas.formula_of}
 use Rattle.run_step.specs.{LaneBox.own_ends, LaneBox.ends_in}
 use Rattle.run_step.specs.GatePairLaws.{GatesAreTheirKinds}
@@ -26,9 +26,10 @@ use Rattle.judge_verdict.specs.declared.boxes.terns.Terns64.{Terns64}
 use Rattle.judge_verdict.specs.{boxes.Spans.SpanLists, boxes.Spans.span_ends, boxes.Terns.terns_rails}
 use Rattle.judge_cases.specs.declared.view.View.{View}
 use Rattle.model_logic.specs.Boxes.{interval_of}
-use Rattle.judge_cases.specs.Views.{AreViews, AreCases, view_box}
+use Rattle.judge_cases.specs.Views.{AreViews, view_box}
 use Rattle.judge_cases.specs.Spans.{AreViewSpans, view_in}
-use Rattle.judge_cases.specs.{Puts.views_level, Puts.assumed_of, Excluded.OneExcluded}
+use Rattle.judge_cases.specs.{Puts.view_level, Puts.views_level}
+use Rattle.judge_cases.specs.Excluded.{ExcludedIn, OneExcluded}
 use Rattle.judge_cases.specs.Analyses.{IsHistoryOf}
 use Rattle.judge_cases.proofs.WantExists.{want_exists}
 
@@ -71,10 +72,10 @@ module _ (line : Line) (views : List View) (are : AreViews line views) (spans : 
       (inside : lane < 64) (at : slice_get views (view_in (length views) lane) ≡ Some view)
       (here : slice_get views lane ≡ Some view) (history : IsHistoryOf line script view w) where
     abbrev level : Tree → ℕ → Option Bool
-    level = assumed_level line view.assumed.items
+    level = assumed_level line (view_box line view) view.assumed.items
 
     level_is : views_level line views lane ≡ level
-    level_is = ap (λ (o : Option View). assumed_level line (assumed_of o)) here
+    level_is = ap (view_level line) here
 
     -- the keys of the view's history are those that the run asks for
     pub keys_are : AreKeysUnder line (views_level line views lane)
@@ -103,48 +104,69 @@ contained : {X : Type 0} (P : X → Type 0) (xs : List X) (x : X) → All P xs �
 contained P xs x all is = subst P is.2 (all is.0 x is.1)
 
 module _ (kinds : GatesAreTheirKinds) (line : Line) (net : NetOf) (of_line : IsNetOf line net)
-    (script : Script) (view : View) (cases : AreCases line view.assumed.items) (lane : ℕ)
+    (script : Script) (view : View) (spans : HaveSpans line view.assumed.items) (lane : ℕ)
     (w : PairHistory) (waves : UnderWavesOf Terns64)
-    (pairs : ArePairsUnder terns_rails lane (assumed_level line view.assumed.items)
+    (pairs : ArePairsUnder terns_rails lane (assumed_level line (view_box line view) view.assumed.items)
     (pair_world_of line script (view_box line view)) w.key line net waves) where
   abbrev own_of : Tree → ℕ → Rails
   own_of x t =
-      own_pair (assumed_level line view.assumed.items)
+      own_pair (assumed_level line (view_box line view) view.assumed.items)
       (pair_world_of line script (view_box line view)) w.key x t
 
-  case_of : (a : Assumption) → Contains view.assumed.items a → HasCases line a.terminal a.tick
-  case_of a is =
-      contained (λ (b : Assumption). HasCases line b.terminal b.tick) view.assumed.items a cases is
+  span_has : (a : Assumption) → Contains view.assumed.items a → HasSpan line (span_of a)
+  span_has a is =
+      contained (λ (b : Assumption). HasSpan line (span_of b)) view.assumed.items a spans is
 
-  own_is : (gate : ℕ) (a : Assumption) → gate < length net.gates → HasCases line a.terminal a.tick
-      → formula_of net.gates gate ≡ wanted line a.terminal
-      → own_wave terns_rails lane waves gate a.tick ≡ own_of (wanted line a.terminal) a.tick
-  own_is gate a inside case stands =
-      pairs.owns gate a.tick inside case.run ∙ ap (λ (x : Tree). own_of x a.tick) stands
+  own_is : (gate k t : ℕ) → gate < length net.gates → t < line.horizon
+      → formula_of net.gates gate ≡ wanted line k
+      → own_wave terns_rails lane waves gate t ≡ own_of (wanted line k) t
+  own_is gate k t inside run stands =
+      pairs.owns gate t inside run ∙ ap (λ (x : Tree). own_of x t) stands
+
+  excluded_by : (a : Assumption) → Contains view.assumed.items a
+      → ExcludedIn line net lane waves a
+      → SomeIsExcluded line script (view_box line view) view.assumed.items w
+  excluded_by (Throughout span) is off =
+      let has = span_has (Throughout span) is in
+      let to : off.tick < span.to = off.to in
+      let end : span.to ≤ line.horizon = has.run in
+      let run : off.tick < line.horizon = omega arith in
+      let (gate, stands) = want_exists kinds line net of_line span.terminal has.weak in
+      record {
+        span = span;
+        is = is;
+        terminal = has.exists;
+        tick = off.tick;
+        from = off.from;
+        to = off.to;
+        run = run;
+        excluded = subst (λ (r : Rails). IsFalse r.may)
+            (own_is gate span.terminal off.tick stands.within run stands.is)
+            (off.off gate stands.within stands.is);
+      }
+  excluded_by (Interrupted span) is off = absurd off
 
   -- an assumption that the values exclude is excluded over the history, and the other way round
   pub excluded_decided : (b : Bool) → Decides b (OneExcluded line net view.assumed.items lane waves)
       → Decides b (SomeIsExcluded line script (view_box line view) view.assumed.items w)
   excluded_decided b told = (
-    λ on.
-        let one = told.0 on in
-        let case = case_of one.one one.is in
-        let (gate, stands) = want_exists kinds line net of_line one.one.terminal case.weak in
-        record {
-          one = one.one;
-          is = one.is;
-          terminal = case.exists;
-          tick = case.run;
-          excluded = subst (λ (r : Rails). Excludes r one.one.level)
-              (own_is gate one.one stands.within case stands.is)
-              (one.excluded gate stands.within stands.is);
-        },
+    λ on. let one = told.0 on in excluded_by one.one one.is one.excluded,
     λ some.
         told.1 (record {
-          one = some.one;
+          one = Throughout some.span;
           is = some.is;
-          excluded = λ gate inside stands.
-              subst (λ (r : Rails). Excludes r some.one.level)
-              (sym (own_is gate some.one inside (case_of some.one some.is) stands)) some.excluded;
+          excluded = record {
+            tick = some.tick;
+            from = some.from;
+            to = some.to;
+            off = λ gate inside stands.
+                subst (λ (r : Rails). IsFalse r.may)
+                (sym (own_is gate some.span.terminal some.tick inside some.run stands))
+                some.excluded;
+          };
         }),
   )
+
+pub off_decided : (b : Bool) → Decides (not b) (IsFalse b)
+off_decided true = (λ on. absurd (cc), λ off. absurd (cc))
+off_decided false = (λ on. refl, λ off. refl)

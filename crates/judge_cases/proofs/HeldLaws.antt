@@ -32,7 +32,7 @@ module _ (laws : LineLaws) (line : Line) (net : NetOf) (of_line : IsNetOf line n
       ∙ (is.tells lane view w at history).pairs (trip_of net k) t
       (of_line.laws.trips k
       (subst (λ (n : ℕ). k < n) (sym (of_line.laws.same ∙ of_line.terminals)) there)) lt
-      ∙ ap (λ (x : Tree). pair_under (assumed_level line view.assumed.items)
+      ∙ ap (λ (x : Tree). pair_under (assumed_level line (view_box line view) view.assumed.items)
       (pair_world_of line script (view_box line view)) w.key x t) (of_line.trips k there)
       ∙ sym (history.trips k t there lt)
 

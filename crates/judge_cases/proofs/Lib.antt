@@ -2,8 +2,10 @@ mod OneGate
 mod WeakKey
 mod RowLaws
 mod PutLaws
+mod ViewLevels
 mod ViewLaws
 mod WantExists
 mod AnalysisLaws
 mod HeldLaws
 mod BelowLaws
+mod BlockLaws

@@ -1,5 +1,5 @@
 -- Views of boxes, and of their halves.
-use Rattle.std.proofs.Common.{◌≡◌, ◌≢◌, ◌<◌, ◌≤◌, ◌⊎◌, ℕ, Bool, List, [], Some, length}
+use Rattle.std.proofs.Common.{◌≡◌, ◌≢◌, ◌<◌, ◌≤◌, ◌⊎◌, ℕ, List, [], ◌∷◌, Some, length}
 use Rattle.std.proofs.Common.{sym, ◌∙◌, ap, subst, arith, ⊎_elim, inl, inr, length-set}
 use Rattle.std.proofs.lemmas.Option.{slice_get-get_or}
 use Rattle.std.proofs.lemmas.List.Elements.{All-nil, All-cons}
@@ -12,11 +12,10 @@ use Rattle.model_line.specs.DelayLaws.{delay_within}
 use Rattle.model_logic.specs.Boxes.{box_with}
 use Rattle.model_logic.specs.Choice.{Box, declared_box}
 use Rattle.model_logic.specs.BoxLaws.{ends_with-here, ends_with-elsewhere}
-use Rattle.model_settle.specs.Assumed.{Assumption}
-use Rattle.model_settle.specs.CaseTrees.{HasCases, with_case}
+use Rattle.model_settle.specs.Assumed.{Assumption, HasSpan, HaveSpans, span_of}
 use Rattle.judge_cases.specs.declared.view.View.{View}
 use Rattle.model_logic.specs.Boxes.{interval_of}
-use Rattle.judge_cases.specs.Views.{IsView, Views, AreCases}
+use Rattle.judge_cases.specs.Views.{IsView, Views}
 use Rattle.model_history.specs.ListLaws.{at_set}
 
 read : (es : List Ends) (i : ℕ) → i < length es → slice_get es i ≡ Some (interval_of es i)
@@ -54,8 +53,8 @@ module _ (delays : DelaysAreParameters) (line : Line) where
           delays = λ c t lt early.
               subst (λ (e : Ends). 1 ≤ e.least) (sym (own (delay_param line c) (delay_within line c lt)))
               (delays.from_one line (delay_param line c) (delays.told line c lt));
-          cases = subst (AreCases line) (sym none)
-              (All-nil (λ (a : Assumption). HasCases line a.terminal a.tick));
+          spans = subst (HaveSpans line) (sym none)
+              (All-nil (λ (a : Assumption). HasSpan line (span_of a)));
         };
         same = record {
           numbers = own;
@@ -89,7 +88,7 @@ module _ (delays : DelaysAreParameters) (line : Line) where
       count = ap length set ∙ length-set view.ends.items param new ∙ is.count;
       delays = λ c t lt early.
           subst (λ (e : Ends). 1 ≤ e.least) (sym (half_delay c lt)) (is.delays c t lt early);
-      cases = subst (AreCases line) (sym kept) is.cases;
+      spans = subst (HaveSpans line) (sym kept) is.spans;
     }
 
     pub half_views : (box : Box) (assumed : List Assumption) → Views line box assumed view
@@ -110,21 +109,20 @@ module _ (delays : DelaysAreParameters) (line : Line) where
     }
 
 -- with one assumption more
-pub case_is : (line : Line) (view other : View) (terminal tick : ℕ) (level : Bool)
-    → HasCases line terminal tick → other.ends.items ≡ view.ends.items
-    → other.assumed.items ≡ with_case view.assumed.items terminal tick level
+pub assumed_is : (line : Line) (view other : View) (new : Assumption) → HasSpan line (span_of new)
+    → other.ends.items ≡ view.ends.items → other.assumed.items ≡ new ∷ view.assumed.items
     → (box : Box) (assumed : List Assumption) → Views line box assumed view
-    → Views line box (with_case assumed terminal tick level) other
-case_is line view other terminal tick level case ends longer box assumed views =
+    → Views line box (new ∷ assumed) other
+assumed_is line view other new has ends longer box assumed views =
     record {
       is = record {
         count = ap length ends ∙ views.is.count;
         delays = λ c t lt early.
             subst (λ (es : List Ends). 1 ≤ (interval_of es (delay_param line c)).least) (sym ends)
             (views.is.delays c t lt early);
-        cases = subst (AreCases line) (sym longer)
-            (All-cons (λ (a : Assumption). HasCases line a.terminal a.tick) _ view.assumed.items
-            case views.is.cases);
+        spans = subst (HaveSpans line) (sym longer)
+            (All-cons (λ (a : Assumption). HasSpan line (span_of a)) new view.assumed.items has
+            views.is.spans);
       };
       same = record {
         numbers = λ i lt.
@@ -133,6 +131,5 @@ case_is line view other terminal tick level case ends longer box assumed views =
             ap (λ (es : List Ends). interval_of es (delay_param line c)) ends
             ∙ views.same.delays c t lt early;
       };
-      assumes = longer
-          ∙ ap (λ (l : List Assumption). with_case l terminal tick level) views.assumes;
+      assumes = longer ∙ ap (λ (l : List Assumption). new ∷ l) views.assumes;
     }

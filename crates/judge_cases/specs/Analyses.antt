@@ -34,11 +34,11 @@ pub record Tells (line : Line) (net : NetOf) (script : Script) (view : View) (la
     (w : PairHistory) (a : AnalysisOf) : Type 0 where
   pub pairs : (gate t : ℕ) → gate < length net.gates → t < line.horizon
       → wave_pair terns_rails lane a.waves gate t
-      ≡ pair_under (assumed_level line view.assumed.items)
+      ≡ pair_under (assumed_level line (view_box line view) view.assumed.items)
       (pair_world_of line script (view_box line view)) w.key (formula_of net.gates gate) t
   pub owns : (gate t : ℕ) → gate < length net.gates → t < line.horizon
       → own_wave terns_rails lane a.waves gate t
-      ≡ own_pair (assumed_level line view.assumed.items)
+      ≡ own_pair (assumed_level line (view_box line view) view.assumed.items)
       (pair_world_of line script (view_box line view)) w.key (formula_of net.gates gate) t
   pub excluded : Decides (bit_on a.excluded lane)
       (SomeIsExcluded line script (view_box line view) view.assumed.items w)

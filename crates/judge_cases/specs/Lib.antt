@@ -1,4 +1,5 @@
 pub mod AssumedAt
+pub mod AssumedParts
 pub mod Views
 pub mod Nodes
 pub mod Trees

@@ -1,9 +1,9 @@
--- The nodes of trees of splits and cases.
+-- The nodes of trees of parts and spans.
 use Rattle.std.specs.Prelude.{◌≡◌, ◌∷◌, ◌++◌, [], ℕ, List}
 use Rattle.model_line.specs.{declared.line.Line.Line, declared.script.Script.Script}
 use Rattle.model_logic.specs.Choice.{Box}
 use Rattle.model_settle.specs.Assumed.{Assumption}
-use Rattle.model_settle.specs.CaseTrees.{CaseTree, Yes, Undecided, Split, Case, AreSound}
+use Rattle.model_settle.specs.CaseTrees.{CaseTree, Yes, Undecided, Parted, Wanted, AreSound}
 use Rattle.judge_cases.specs.declared.node.CaseNode.{CaseNode}
 use Rattle.judge_cases.specs.declared.node.CaseNode.TheVariants as node
 
@@ -11,9 +11,10 @@ use Rattle.judge_cases.specs.declared.node.CaseNode.TheVariants as node
 abbrev pub preorder : CaseTree → List CaseNode
 preorder Yes = node.Yes ∷ []
 preorder Undecided = node.Undecided ∷ []
-preorder (Split param mid first second) =
-    node.Split param mid ∷ (preorder first ++ preorder second)
-preorder (Case terminal tick off on) = node.Case terminal tick ∷ (preorder off ++ preorder on)
+preorder (Parted param mid lower upper) =
+    node.Parted param mid ∷ (preorder lower ++ preorder upper)
+preorder (Wanted span throughout interrupted) =
+    node.Wanted span.terminal span.from span.to ∷ (preorder throughout ++ preorder interrupted)
 
 -- the nodes are those of a sound tree
 pub record IsSoundTree (line : Line) (script : Script) (k : ℕ) (box : Box)

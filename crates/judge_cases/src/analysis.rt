@@ -1,14 +1,15 @@
 //! The interval histories of views, side by side.
 
 ghost use Rattle.std.specs.Prelude.{◌≡◌, ◌≤◌, ◌<◌, ℕ, Some, Decides, length, slice_get, IfOk};
-ghost use Rattle.model_settle.specs.CaseTrees.{HasCases};
+ghost use Rattle.std.specs.Prelude.{IsFalse};
+ghost use Rattle.model_settle.specs.Assumed.{HasSpan, HaveSpans, span_of};
 ghost use Rattle.run_signal.specs.Bits.{bit_on};
-ghost use Rattle.run_ticks.specs.cases.UnderWaves.{value_at};
-ghost use Rattle.model_settle.specs.Under.{Excludes};
+ghost use Rattle.run_ticks.specs.cases.UnderWaves.{own_wave, value_at};
 ghost use Rattle.judge_verdict.specs.boxes.Terns.{terns_rails};
-ghost use Rattle.judge_cases.specs.{declared.view.View.View, Views.AreViews, Views.AreCases};
+ghost use Rattle.judge_cases.specs.{declared.view.View.View, Views.AreViews};
 ghost use Rattle.judge_cases.specs.Analyses.{IsAnalysis};
-ghost use Rattle.judge_cases.specs.Excluded.{ExcludedIn, OneExcluded, OneIsExcluded};
+ghost use Rattle.judge_cases.specs.AssumedAt.{span_at};
+ghost use Rattle.judge_cases.specs.Excluded.{ExcludedIn, IsOffIn, OneExcluded, OneIsExcluded};
 
 use crate::assumed::Assumed;
 use crate::levels::masks_of;
@@ -120,7 +121,7 @@ fn is_excluded(
     waves: &UnderWaves<Terns64>,
     lane: u32,
 ) -> bool
-    requires cases { AreCases compiled.now.line.now assumed.now }
+    requires spans { HaveSpans compiled.now.line.now assumed.now }
     requires lane { lane < 64 }
     requires width { waves.now.width ≡ length compiled.now.net.now.gates }
     requires horizon { waves.now.horizon ≡ compiled.now.line.now.horizon }
@@ -142,27 +143,54 @@ fn is_one_excluded(
     waves: &UnderWaves<Terns64>,
     lane: u32,
 ) -> bool
-    requires case { HasCases compiled.now.line.now assumed.terminal assumed.tick }
+    requires span { HasSpan compiled.now.line.now (span_of assumed) }
     requires lane { lane < 64 }
     requires width { waves.now.width ≡ length compiled.now.net.now.gates }
     requires horizon { waves.now.horizon ≡ compiled.now.line.now.horizon }
     ensures { Decides result (ExcludedIn compiled.now.line.now compiled.now.net.now lane waves.now
         assumed) }
 {
-    gates_stand_for_their_trees();
-    let gate = wanted_gate(compiled, assumed.terminal());
-    let own = waves.own(gate, assumed.tick());
-    excludes(own, lane, assumed.level())
+    let (terminal, from, to, throughout) = assumed.parts();
+    if throughout {
+        is_off_in(compiled, terminal, from, to, waves, lane)
+    } else {
+        false
+    }
 }
 
-// Whether a value excludes a level in a lane.
-fn excludes(value: Terns64, lane: u32, level: bool) -> bool
-    requires { lane < 64 }
-    ensures { Decides result (Excludes (terns_rails value lane) level) }
+// Whether an echo cannot be wanted, in a lane, at some tick of a span.
+fn is_off_in(
+    compiled: &Compiled<'_>,
+    terminal: u32,
+    from: u32,
+    to: u32,
+    waves: &UnderWaves<Terns64>,
+    lane: u32,
+) -> bool
+    requires span { HasSpan compiled.now.line.now (span_at terminal from to) }
+    requires lane { lane < 64 }
+    requires width { waves.now.width ≡ length compiled.now.net.now.gates }
+    requires horizon { waves.now.horizon ≡ compiled.now.line.now.horizon }
+    ensures { Decides result (IsOffIn compiled.now.line.now compiled.now.net.now lane waves.now
+        (span_at terminal from to)) }
 {
-    if level {
-        !value.may(lane)
-    } else {
-        value.must(lane)
+    gates_stand_for_their_trees();
+    let gate = wanted_gate(compiled, terminal);
+    for t in from..to {
+        if is_off_at(waves, gate, t, lane) {
+            return true;
+        }
     }
+    false
+}
+
+// Whether a gate cannot be on by its own rule, in a lane, at a tick.
+fn is_off_at(waves: &UnderWaves<Terns64>, gate: GateId, t: u32, lane: u32) -> bool
+    requires lane { lane < 64 }
+    requires gate { gate.0 < waves.now.width }
+    requires tick { t < waves.now.horizon }
+    ensures { Decides result (IsFalse (own_wave terns_rails lane waves.now gate.0 t).may) }
+{
+    let own = waves.own(gate, t);
+    !own.may(lane)
 }

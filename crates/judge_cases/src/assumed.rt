@@ -4,12 +4,14 @@ ghost use Rattle.std.specs.Prelude.{◌≡◌};
 
 use std::marker::Model;
 
-/// At this tick the terminal wants an echo, or does not. Contracts see the assumption.
+/// The terminal wants an echo throughout the ticks from `from` on, before `to`; or it does not at some
+/// instant of them. Contracts see the assumption.
 #[derive(Clone, Copy)]
 pub struct Assumed {
     terminal: u32,
-    tick: u32,
-    level: bool,
+    from: u32,
+    to: u32,
+    throughout: bool,
 }
 
 impl Model for Assumed {
@@ -18,41 +20,33 @@ impl Model for Assumed {
 
     ghost Value = { Assumption };
 
-    ghost view = { λ a. assumed_at a.terminal a.tick a.level };
+    ghost use Rattle.judge_cases.specs.AssumedParts.{parts_of, parts_back};
 
-    ghost inverse = { λ a. record { terminal = a.terminal; tick = a.tick; level = a.level } };
+    ghost view = { λ a. assumed_at a.terminal a.from a.to a.throughout };
+
+    ghost inverse = { parts_of };
+
+    ghost inverse_ok = { λ a h. parts_back a.terminal a.from a.to a.throughout };
 }
 
 impl Assumed {
     ghost use Rattle.judge_cases.specs.AssumedAt.{assumed_at};
 
-    pub fn new(terminal: u32, tick: u32, level: bool) -> Assumed
-        ensures { result ≡ assumed_at terminal tick level }
+    pub fn new(terminal: u32, from: u32, to: u32, throughout: bool) -> Assumed
+        ensures { result ≡ assumed_at terminal from to throughout }
     {
         Assumed {
             terminal,
-            tick,
-            level,
+            from,
+            to,
+            throughout,
         }
     }
 
-    /// The terminal, by its place in the line.
-    pub fn terminal(self) -> u32
-        ensures { result ≡ self.terminal }
+    /// The parts of the assumption.
+    pub fn parts(&self) -> (u32, u32, u32, bool)
+        ensures { self.now ≡ assumed_at result.0 result.1 result.2 result.3 }
     {
-        self.terminal
-    }
-
-    pub fn tick(self) -> u32
-        ensures { result ≡ self.tick }
-    {
-        self.tick
-    }
-
-    /// Whether it wants an echo.
-    pub fn level(self) -> bool
-        ensures { result ≡ self.level }
-    {
-        self.level
+        (self.terminal, self.from, self.to, self.throughout)
     }
 }

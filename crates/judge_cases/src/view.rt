@@ -8,9 +8,10 @@ ghost use Rattle.model_line.specs.Parameters.{param_count, declared_ends};
 ghost use Rattle.model_line.specs.declared.line.Line.{Line};
 ghost use Rattle.model_logic.specs.Choice.{Box, declared_box};
 ghost use Rattle.model_settle.specs.Assumed.{Assumption};
-ghost use Rattle.model_settle.specs.CaseTrees.{HasCases};
-ghost use Rattle.model_logic.specs.Boxes.{CanSplit, lower_half, upper_half};
-ghost use Rattle.model_settle.specs.CaseTrees.{with_case};
+ghost use Rattle.model_settle.specs.Assumed.{HasSpan, span_of};
+ghost use Rattle.model_settle.specs.Parts.{CanPart, upper_from};
+ghost use Rattle.model_logic.specs.Boxes.{lower_half};
+ghost use Rattle.judge_cases.specs.AssumedAt.{span_at};
 ghost use Rattle.run_signal.specs.Spans.{AreInOrder};
 ghost use Rattle.model_logic.specs.Boxes.{interval_of};
 ghost use Rattle.judge_cases.specs.Views.{IsView, Views, view_box};
@@ -54,10 +55,10 @@ fn declared_list(alloc: Global, line: &Line) -> Result<Vec<Within>, Memory>
     Ok(ends)
 }
 
-/// Whether the box of a view can be split there.
-pub fn can_split(line: &Line, view: &View, param: u32, mid: u32) -> bool
+/// Whether the box of a view can be parted there.
+pub fn can_part(line: &Line, view: &View, param: u32, mid: u32) -> bool
     ensures { (box : Box) (assumed : List Assumption) → Views line.now box assumed view.now →
-        Decides result (CanSplit line.now box param mid) }
+        Decides result (CanPart line.now box param mid) }
 {
     if param >= line.param_count() {
         return false;
@@ -66,20 +67,20 @@ pub fn can_split(line: &Line, view: &View, param: u32, mid: u32) -> bool
         return false;
     }
     match view.ends.get(param as usize) {
-        Some(ends) => ends.least() <= mid && mid < ends.greatest(),
+        Some(ends) => ends.least() < mid && mid < ends.greatest(),
         None => false,
     }
 }
 
-/// Whether cases can be told apart there: at a weak terminal of the line, at a tick of the run.
-pub fn has_cases(line: &Line, terminal: u32, tick: u32) -> bool
-    ensures { Decides result (HasCases line.now terminal tick) }
+/// Whether cases can be told apart over these ticks: at a weak terminal of the line, within the run.
+pub fn has_span(line: &Line, terminal: u32, from: u32, to: u32) -> bool
+    ensures { Decides result (HasSpan line.now (span_at terminal from to)) }
 {
     let terminals = line.terminals.len();
     if terminal as usize >= terminals {
         return false;
     }
-    is_terminal_weak(line, terminal) && tick < line.horizon
+    is_terminal_weak(line, terminal) && from < to && to <= line.horizon
 }
 
 /// The view of the lower half of a box, under the same assumptions.
@@ -90,7 +91,7 @@ pub fn lower_view(
     param: u32,
     mid: u32,
 ) -> Result<View, Memory>
-    requires split { CanSplit line.now (view_box line.now view.now) param mid }
+    requires part { CanPart line.now (view_box line.now view.now) param mid }
     requires view { IsView line.now view.now }
     ensures { IfOk result (λ half. (box : Box) (assumed : List Assumption) →
         Views line.now box assumed view.now →
@@ -105,7 +106,7 @@ pub fn lower_view(
     Ok(half)
 }
 
-/// The view of the upper half of a box, under the same assumptions.
+/// The view of the upper part of a box, from where the lower half ends, under the same assumptions.
 pub fn upper_view(
     alloc: Global,
     line: &Line,
@@ -113,43 +114,36 @@ pub fn upper_view(
     param: u32,
     mid: u32,
 ) -> Result<View, Memory>
-    requires split { CanSplit line.now (view_box line.now view.now) param mid }
+    requires part { CanPart line.now (view_box line.now view.now) param mid }
     requires view { IsView line.now view.now }
     ensures { IfOk result (λ half. (box : Box) (assumed : List Assumption) →
         Views line.now box assumed view.now →
-        Views line.now (upper_half box param mid) assumed half) }
+        Views line.now (upper_from box param mid) assumed half) }
 {
     delays_are_parameters();
     let ends = ends_at(view, param);
     let greatest = ends.greatest();
-    let new = Within::new(mid + 1, greatest);
+    let new = Within::new(mid, greatest);
     let half = with_ends(alloc, view, param, new)?;
     Ok(half)
 }
 
 /// The view with one assumption more, the latest.
-pub fn case_view(
-    alloc: Global,
-    line: &Line,
-    view: &View,
-    terminal: u32,
-    tick: u32,
-    level: bool,
-) -> Result<View, Memory>
-    requires { HasCases line.now terminal tick }
+pub fn assumed_view(alloc: Global, line: &Line, view: &View, new: Assumed) -> Result<View, Memory>
+    requires { HasSpan line.now (span_of new) }
     ensures { IfOk result (λ case. (box : Box) (assumed : List Assumption) →
         Views line.now box assumed view.now →
-        Views line.now box (with_case assumed terminal tick level) case) }
+        Views line.now box (new ∷ assumed) case) }
 {
     let ends = Vec::from_slice(alloc, &view.ends)?;
     let mut assumed = Vec::with_capacity(alloc, view.assumed.len() + 1)?;
-    assumed.push(Assumed::new(terminal, tick, level))?;
+    assumed.push(new)?;
     assumed.extend_from_slice(&view.assumed)?;
     Ok(View { ends, assumed })
 }
 
-// The interval of a parameter.
-fn ends_at(view: &View, param: u32) -> Within
+/// The interval of a parameter.
+pub fn ends_at(view: &View, param: u32) -> Within
     ensures ends { result ≡ interval_of view.now.ends.items param }
     ensures in_order { AreInOrder result }
 {

@@ -3,6 +3,5 @@ pub mod Trees
 pub mod Leaves
 pub mod Sides
 pub mod Scenes
-pub mod Times
 pub mod Answers
 pub mod Words

@@ -1,4 +1,4 @@
-//! An answer to each obligation, where the interval rules alone leave it open: a tree of splits and
+//! An answer to each obligation, where the interval rules alone leave it open: a tree of parts and
 //! cases over which it is shown, or a timing that fails it.
 
 mod answer;
@@ -11,5 +11,5 @@ mod search;
 mod settling;
 mod sides;
 
-pub use answer::{Answer, By, Settled, Times, by_word, times_of, times_word};
+pub use answer::{Answer, By, Settled, by_word};
 pub use settling::settle;

@@ -22,7 +22,7 @@ use Rattle.model_fine.specs.Fine.{IsFineWithin, IsFineHistory, CoversFineHistory
 use Rattle.model_fine.proofs.Floors.{before, times}
 use Rattle.model_fine.proofs.CutRails.{rails_timed-cut, rails_sealed-cut, rails_delayed-cut}
 
-covers_itself : (v : Bool) → Covers (both v) v
+pub covers_itself : (v : Bool) → Covers (both v) v
 covers_itself v = record { must = λ h. h; may = λ h. h }
 
 module _ (laws : HistoryLaws) (n : ℕ) (some : 1 ≤ n) (line : Line) (script : Script) (box : Box)

@@ -18,8 +18,7 @@ use Rattle.model_logic.specs.Received.{all_received}
 use Rattle.model_logic.specs.Unblocking.{all_open}
 use Rattle.model_logic.specs.declared.time.Time.TheVariants.{Zero}
 use Rattle.model_logic.specs.Tree.{Tree, Const, Not, And, Timer}
-use Rattle.model_settle.specs.Assumed.{wanted}
-use Rattle.model_fine.specs.Spans.{pulse_over}
+use Rattle.model_settle.specs.Assumed.{wanted, pulse_over}
 
 part_named : (line : Line) (weak : Bool) (first timer : Tree) → weak ≡ true
     → Names line (cond weak (And first (Not timer)) (Const false)) → Names line timer

@@ -7,7 +7,8 @@ use Rattle.model_line.specs.{declared.line.Line.Line, Parameters.param_count}
 use Rattle.model_logic.specs.Choice.{Choice, Box, IsIn}
 use Rattle.model_logic.specs.Boxes.{box_with, lower_half}
 use Rattle.model_logic.specs.BoxLaws.{ends_with-here, ends_with-elsewhere}
-use Rattle.model_fine.specs.{Cut.cut_ends, Halves.upper_from, Fine.IsFineWithin}
+use Rattle.model_settle.specs.Parts.{upper_from}
+use Rattle.model_fine.specs.{Cut.cut_ends, Fine.IsFineWithin}
 
 -- a choice whose number lies in the new interval lies in the box with it
 within_new : (n : ℕ) (line : Line) (choice : Choice) (box : Box) (param : ℕ) (new : Ends)

@@ -4,7 +4,7 @@ use Rattle.std.proofs.Common.{arith, ap, ⊎_elim}
 use Rattle.std.proofs.lemmas.Bool.{cases_lt}
 use Rattle.std.specs.Prelude.{Option, None, Some, List}
 use Rattle.model_history.specs.{Laws.HistoryLaws, Elements.delayed}
-use Rattle.model_history.specs.Rails.{Rails, Ends, both, Covers}
+use Rattle.model_history.specs.Rails.{Rails, Ends, Covers}
 use Rattle.model_line.specs.{declared.line.Line.Line, declared.script.Script.Script}
 use Rattle.model_line.specs.Parameters.{terminal_count}
 use Rattle.model_logic.specs.Tree.{Tree, Const, Seen, Loss, Raw, Not, And, Or, Timer, Seal}
@@ -15,17 +15,15 @@ use Rattle.model_logic.specs.Choice.{Choice, Box, LeastFromOne, time_by, ends_by
 use Rattle.model_logic.specs.Histories.{History, PairHistory}
 use Rattle.model_logic.specs.Logic.{key_tree, trip_tree}
 use Rattle.model_logic.specs.{Laws.TreesNameTheLine, Names.Names, Names.HasTime}
-use Rattle.model_settle.specs.Under.{assumed_or, pair_under, own_pair}
+use Rattle.model_settle.specs.Assumed.{Assumption, HaveSpans, assumed_level}
+use Rattle.model_settle.specs.Under.{assumed_or, pair_under, own_pair, IsPairHistoryUnder}
 use Rattle.model_fine.specs.Cut.{cut, cut_ends}
 use Rattle.model_fine.specs.Fine.{IsFineWithin, IsFineHistory, CoversFineHistory, fine_world_of}
-use Rattle.model_fine.specs.Spans.{Assumption, AgreesWithAll, level_under}
-use Rattle.model_fine.specs.{SpanLaws.HaveSpans, SpanTrees.IsSpanHistory}
+use Rattle.model_fine.specs.Spans.{AgreesWithAll}
 use Rattle.model_fine.proofs.Floors.{before, times}
 use Rattle.model_fine.proofs.CutRails.{rails_timed-cut, rails_sealed-cut, rails_delayed-cut}
+use Rattle.model_fine.proofs.FineCovers.{covers_itself}
 use Rattle.model_fine.proofs.SpanLevels.{levels_of, time_in}
-
-covers_itself : (v : Bool) → Covers (both v) v
-covers_itself v = record { must = λ h. h; may = λ h. h }
 
 covers_or : (level : Option Bool) (own : Rails) (v : Bool) → ((a : Bool) → level ≡ Some a → v ≡ a)
     → Covers own v → Covers (assumed_or level own) v
@@ -119,15 +117,15 @@ module _ (laws : HistoryLaws) (n : ℕ) (some : 1 ≤ n) (line : Line) (script :
 module _ (laws : HistoryLaws) (names : TreesNameTheLine) (n : ℕ) (some : 1 ≤ n) (line : Line)
     (script : Script) (box : Box) (assumed : List Assumption) (choice : Choice) (w : PairHistory)
     (h : History) (d : LeastFromOne line box) (have : HaveSpans line assumed)
-    (is_w : IsSpanHistory line script box assumed w) (within : IsFineWithin n line choice box)
+    (is_w : IsPairHistoryUnder line script box assumed w) (within : IsFineWithin n line choice box)
     (is_h : IsFineHistory n line script choice h)
     (agree : AgreesWithAll n line script choice h assumed) where
   value_covers : (x : Tree) (t : ℕ) → t < line.horizon * n → Names line x
       → ((k r : ℕ) → k < terminal_count line → r < t → Covers (w.key k (r / n)) (h.key k r))
-      → Covers (pair_under (level_under line box assumed) (pair_world_of line script box) w.key x
+      → Covers (pair_under (assumed_level line box assumed) (pair_world_of line script box) w.key x
       (t / n)) (mean (fine_world_of n line script choice) h.key x t)
   value_covers x t early named cover =
-      tree_covers laws n some line script box choice d within (level_under line box assumed) w.key
+      tree_covers laws n some line script box choice d within (assumed_level line box assumed) w.key
       h.key (levels_of laws names n some line script box choice h within assumed have agree) x t
       early named cover
 
@@ -163,9 +161,9 @@ module _ (laws : HistoryLaws) (names : TreesNameTheLine) (n : ℕ) (some : 1 ≤
   }
 
   pub tree_covered : (x : Tree) (t : ℕ) → t < line.horizon * n → Names line x
-      → Covers (own_pair (level_under line box assumed) (pair_world_of line script box) w.key x
+      → Covers (own_pair (assumed_level line box assumed) (pair_world_of line script box) w.key x
       (t / n)) (mean (fine_world_of n line script choice) h.key x t)
   tree_covered x t early named =
-      own_covers laws n some line script box choice d within (level_under line box assumed) w.key
+      own_covers laws n some line script box choice d within (assumed_level line box assumed) w.key
       h.key (levels_of laws names n some line script box choice h within assumed have agree) x t
       early named (λ j r jn before_t. keys_cover t (omega arith) j r jn before_t)

@@ -13,13 +13,11 @@ use Rattle.model_logic.specs.{Permissive.terminal_setting, SameTree.same_tree, T
 use Rattle.model_logic.specs.SameTreeLaws.{tree-same}
 use Rattle.model_logic.specs.declared.time.Time.{Time}
 use Rattle.model_logic.specs.declared.time.Time.TheVariants.{Zero, Param}
-use Rattle.model_settle.specs.Assumed.{wanted}
+use Rattle.model_settle.specs.Assumed.{Span, HasSpan, Assumption, Throughout, Interrupted, span_of}
+use Rattle.model_settle.specs.Assumed.{HaveSpans, wanted, pulse_over, least_pulse, is_among}
+use Rattle.model_settle.specs.Assumed.{level_by, first_of, assumed_level}
 use Rattle.model_fine.specs.{Cut.cut_ends, Fine.IsFineWithin, Fine.fine_world_of}
-use Rattle.model_fine.specs.Spans.{Span, HasSpan, Assumption, Throughout, Interrupted, span_of}
 use Rattle.model_fine.specs.Spans.{wants, IsInterrupted, Agrees, AgreesWithAll}
-use Rattle.model_fine.specs.Spans.{pulse_over, least_pulse, is_among, level_by, level_under}
-use Rattle.model_fine.specs.Spans.{first_of}
-use Rattle.model_fine.specs.SpanLaws.{HaveSpans}
 use Rattle.model_fine.proofs.Floors.{begins, ends, times, sum}
 use Rattle.model_fine.proofs.PulseNamed.{pulse_has_time}
 
@@ -117,11 +115,11 @@ module _ (laws : HistoryLaws) (names : TreesNameTheLine) (n : ℕ) (some : 1 ≤
 
   pub levels_of : (assumed : List Assumption) → HaveSpans line assumed
       → AgreesWithAll n line script choice h assumed → (x : Tree) (t : ℕ) (level : Bool)
-      → level_under line box assumed x (t / n) ≡ Some level → value x t ≡ level
+      → assumed_level line box assumed x (t / n) ≡ Some level → value x t ≡ level
   levels_of [] have agree x t level e = absurd (cc)
   levels_of (a ∷ before) have agree x t level e =
       first_or (λ (b : Bool). value x t ≡ b) (level_by line box a x (t / n))
-      (level_under line box before x (t / n)) level e
+      (assumed_level line box before x (t / n)) level e
       (follows_one a (All-head (λ b. HasSpan line (span_of b)) a before have)
       (All-head (Agrees n line script choice h) a before agree) x t level)
       (levels_of before (All-tail (λ b. HasSpan line (span_of b)) a before have)

@@ -10,14 +10,15 @@ use Rattle.model_line.specs.Parameters.{terminal_count}
 use Rattle.model_logic.specs.Boxes.{lower_half}
 use Rattle.model_logic.specs.Choice.{Choice, Box, LeastFromOne, pair_world_of}
 use Rattle.model_logic.specs.{Histories.History, Histories.PairHistory, Laws.LineLaws}
-use Rattle.model_settle.specs.{Assumed.wanted, Under.own_pair}
+use Rattle.model_settle.specs.Assumed.{Span, HasSpan, Assumption, Throughout, Interrupted, span_of}
+use Rattle.model_settle.specs.Assumed.{HaveSpans, wanted, assumed_level}
+use Rattle.model_settle.specs.CaseLaws.{EachBoxHasOneHistoryUnder}
+use Rattle.model_settle.specs.CaseTrees.{CaseTree, Yes, Undecided, Parted, Wanted, are_yes}
+use Rattle.model_settle.specs.CaseTrees.{AreSound}
+use Rattle.model_settle.specs.Parts.{upper_from}
+use Rattle.model_settle.specs.Under.{own_pair, IsPairHistoryUnder, SomeIsExcluded}
 use Rattle.model_fine.specs.Fine.{IsFineWithin, IsFineHistory, FineMeets}
-use Rattle.model_fine.specs.Halves.{upper_from}
-use Rattle.model_fine.specs.Spans.{Span, HasSpan, Assumption, Throughout, Interrupted, span_of, wants}
-use Rattle.model_fine.specs.Spans.{IsThroughout, IsInterrupted, Agrees, AgreesWithAll, level_under}
-use Rattle.model_fine.specs.SpanLaws.{HaveSpans}
-use Rattle.model_fine.specs.SpanTrees.{IsSpanHistory, SomeSpanIsExcluded, SpanTree, Yes, Undecided}
-use Rattle.model_fine.specs.SpanTrees.{Parted, Wanted, is_shown, IsSoundSpanTree}
+use Rattle.model_fine.specs.Spans.{wants, IsThroughout, IsInterrupted, Agrees, AgreesWithAll}
 use Rattle.model_fine.proofs.Floors.{times, first}
 use Rattle.model_fine.proofs.{FineChoices.held_covered, SharedEnds.shared_halves}
 use Rattle.model_fine.proofs.SpanCovers.{history_covered, tree_covered}
@@ -59,17 +60,15 @@ module _ (n : ℕ) (line : Line) (script : Script) (choice : Choice) (h : Histor
       inr (record { at = some.0; from = low; to = omega arith; off = some.1.1.1 }))
       (each_or_not u from (to - from))
 
--- ---- sound trees
+-- ---- no history agrees with what is excluded
 
 module _ (laws : HistoryLaws) (line_laws : LineLaws) (n : ℕ) (some : 1 ≤ n) (line : Line)
-    (script : Script) (k : ℕ) (early : script.deadline < line.horizon)
-    (kn : k < terminal_count line) (choice : Choice) (h : History)
+    (script : Script) (choice : Choice) (h : History)
     (is_h : IsFineHistory n line script choice h) where
-  -- no history agrees with what is excluded
-  none_excluded : (box : Box) (assumed : List Assumption) (w : PairHistory) → LeastFromOne line box
-      → HaveSpans line assumed → IsSpanHistory line script box assumed w
+  pub none_excluded : (box : Box) (assumed : List Assumption) (w : PairHistory) → LeastFromOne line box
+      → HaveSpans line assumed → IsPairHistoryUnder line script box assumed w
       → IsFineWithin n line choice box → AgreesWithAll n line script choice h assumed
-      → SomeSpanIsExcluded line script box assumed w → ⊥
+      → SomeIsExcluded line script box assumed w → ⊥
   none_excluded box assumed w d have is_w within agree x =
       let has : HasSpan line x.span =
       All-contains (λ a. HasSpan line (span_of a)) assumed (Throughout x.span) have x.is in
@@ -82,39 +81,47 @@ module _ (laws : HistoryLaws) (line_laws : LineLaws) (n : ℕ) (some : 1 ≤ n) 
       let end : x.span.to * n ≤ line.horizon * n = times n some x.span.to line.horizon run in
       let on : IsTrue (wants n line script choice h x.span (x.tick * n)) =
       all (x.tick * n) low (omega (arith, some, high)) in
-      let cover : Covers (own_pair (level_under line box assumed) (pair_world_of line script box)
+      let cover : Covers (own_pair (assumed_level line box assumed) (pair_world_of line script box)
       w.key (wanted line x.span.terminal) x.tick)
       (wants n line script choice h x.span (x.tick * n)) =
-      subst (λ (q : ℕ). Covers (own_pair (level_under line box assumed)
+      subst (λ (q : ℕ). Covers (own_pair (assumed_level line box assumed)
       (pair_world_of line script box) w.key (wanted line x.span.terminal) q)
       (wants n line script choice h x.span (x.tick * n))) (first n some x.tick)
       (tree_covered laws line_laws.trees n some line script box assumed choice w h d have is_w within
       is_h agree (wanted line x.span.terminal) (x.tick * n) (omega (arith, some, high, end))
       (wanted_named line x.span.terminal has.weak line_laws.trees has.exists)) in
-      both_ways (own_pair (level_under line box assumed) (pair_world_of line script box) w.key
+      both_ways (own_pair (assumed_level line box assumed) (pair_world_of line script box) w.key
       (wanted line x.span.terminal) x.tick).may x.excluded (cover.may on)
 
-  pub sound_meets : (tree : SpanTree) (box : Box) (assumed : List Assumption)
+-- ---- sound trees
+
+module _ (laws : HistoryLaws) (line_laws : LineLaws) (one_each : EachBoxHasOneHistoryUnder) (n : ℕ)
+    (some : 1 ≤ n) (line : Line) (script : Script) (k : ℕ) (early : script.deadline < line.horizon)
+    (kn : k < terminal_count line) (choice : Choice) (h : History)
+    (is_h : IsFineHistory n line script choice h) where
+  pub sound_meets : (tree : CaseTree) (box : Box) (assumed : List Assumption)
       → LeastFromOne line box → HaveSpans line assumed
-      → IsSoundSpanTree line script k box assumed tree → IsTrue (is_shown tree)
+      → AreSound line script k box assumed tree → IsTrue (are_yes tree)
       → IsFineWithin n line choice box → AgreesWithAll n line script choice h assumed
       → FineMeets n line script k h
   sound_meets Yes box assumed d have sound all within agree =
+      let (w, is_w) = one_each.exists line script box assumed d in
       ⊎_elim
-      (λ held. held_covered laws line_laws n some line script sound.w h k early
-      (history_covered laws line_laws.trees n some line script box assumed choice sound.w h d have
-      sound.is within is_h agree) kn held)
-      (λ excluded. absurd (none_excluded box assumed sound.w d have sound.is within agree excluded))
-      sound.said
+      (λ held. held_covered laws line_laws n some line script w h k early
+      (history_covered laws line_laws.trees n some line script box assumed choice w h d have is_w
+      within is_h agree) kn held)
+      (λ excluded. absurd (none_excluded laws line_laws n some line script choice h is_h box assumed
+      w d have is_w within agree excluded))
+      (sound.shown w is_w)
   sound_meets Undecided box assumed d have sound all within agree = absurd (cc)
   sound_meets (Parted param mid lower upper) box assumed d have sound all within agree =
-      let each = and_parts (is_shown lower) (is_shown upper) all in
+      let each = and_parts (are_yes lower) (are_yes upper) all in
       ⊎_elim
-      (λ low. sound_meets lower (lower_half box param mid) assumed d have sound.0 each.0 low agree)
-      (λ high. sound_meets upper (upper_from box param mid) assumed d have sound.1 each.1 high agree)
+      (λ low. sound_meets lower (lower_half box param mid) assumed d have sound.1.0 each.0 low agree)
+      (λ high. sound_meets upper (upper_from box param mid) assumed d have sound.1.1 each.1 high agree)
       (shared_halves n line choice box param mid within)
   sound_meets (Wanted span throughout interrupted) box assumed d have sound all within agree =
-      let each = and_parts (is_shown throughout) (is_shown interrupted) all in
+      let each = and_parts (are_yes throughout) (are_yes interrupted) all in
       ⊎_elim
       (λ on. sound_meets throughout box (Throughout span ∷ assumed) d
       (All-cons (λ a. HasSpan line (span_of a)) (Throughout span) assumed sound.0 have) sound.1.0

@@ -15,7 +15,7 @@ use Rattle.model_logic.specs.PairMean.{PairWorld, PairSignals, pair_mean}
 use Rattle.model_settle.specs.{Schemes.IsOneRailedBy, Choices.SomeChoiceFails}
 use Rattle.model_logic.specs.Boxes.{lower_half}
 use Rattle.model_fine.specs.Finer.{IsLineInFinerTicks, IsScriptInFinerTicks}
-use Rattle.model_fine.specs.Halves.{upper_from}
+use Rattle.model_settle.specs.Parts.{upper_from}
 use Rattle.model_fine.specs.Cut.{cut, cut_each, cut_ends, cut_world, cut_pair_world, cut_choice}
 use Rattle.model_fine.specs.Cut.{cut_history}
 use Rattle.model_fine.specs.Fine.{IsFineWithin, FineDelaysFromOne, IsFineHistory}

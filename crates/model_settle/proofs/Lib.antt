@@ -1,10 +1,6 @@
 pub mod UnderPast
 pub mod WantedNamed
-pub mod UnderCovers
 pub mod UnderHistories
-pub mod SoundCases
-pub mod AssumedTicks
-pub mod UnderSound
 pub mod WantedSame
 pub mod UnderSame
 pub mod WorstDelays

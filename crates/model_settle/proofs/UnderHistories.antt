@@ -1,7 +1,7 @@
 -- One interval history for each box and what is assumed; what is shown over one is so over each.
 use Rattle.std.proofs.Common.{◌≡◌, ◌<◌, ℕ, Bool, refl, sym, ◌∙◌, subst, arith}
 use Rattle.std.proofs.Common.{⊎_elim, inl, inr, List, []}
-use Rattle.std.specs.Prelude.{◌↔◌, ◌⊎◌, Option}
+use Rattle.std.specs.Prelude.{◌↔◌, ◌⊎◌, Option, IsFalse}
 use Rattle.model_history.specs.{Laws.HistoryLaws, Rails.Rails}
 use Rattle.model_line.specs.{declared.line.Line.Line, declared.script.Script.Script}
 use Rattle.model_line.specs.Parameters.{terminal_count}
@@ -14,7 +14,7 @@ use Rattle.model_logic.specs.Solution.{SameBefore}
 use Rattle.model_logic.specs.{Laws.LineLaws, Laws.TreesNameTheLine, Names.Names}
 use Rattle.model_logic.specs.Rule.{Held, rule_of}
 use Rattle.model_settle.specs.Assumed.{Assumption, wanted, assumed_level}
-use Rattle.model_settle.specs.Under.{pair_under, own_pair, IsPairHistoryUnder, Excludes}
+use Rattle.model_settle.specs.Under.{pair_under, own_pair, IsPairHistoryUnder}
 use Rattle.model_settle.specs.Under.{SomeIsExcluded}
 use Rattle.model_logic.specs.HeldOver.{IsHeldOver}
 use Rattle.model_logic.specs.BoxLaws.{pair_world_delayed}
@@ -30,7 +30,7 @@ module _ (laws : HistoryLaws) (names : TreesNameTheLine) (line : Line) (script :
   over = pair_world_of line script box
 
   abbrev level : Tree → ℕ → Option Bool
-  level = assumed_level line assumed
+  level = assumed_level line box assumed
 
   pub under_exists : (w : PairHistory) × IsPairHistoryUnder line script box assumed w
   under_exists =
@@ -76,13 +76,16 @@ module _ (laws : HistoryLaws) (names : TreesNameTheLine) (line : Line) (script :
     pub same_excluded : SomeIsExcluded line script box assumed v
         → SomeIsExcluded line script box assumed w
     same_excluded h = record {
-      one = h.one;
+      span = h.span;
       is = h.is;
       terminal = h.terminal;
       tick = h.tick;
-      excluded = subst (λ (r : Rails). Excludes r h.one.level)
-          (same_own (wanted line h.one.terminal) h.one.tick h.tick
-          (wanted_named line h.one.terminal names h.terminal)) h.excluded;
+      from = h.from;
+      to = h.to;
+      run = h.run;
+      excluded = subst (λ (r : Rails). IsFalse r.may)
+          (same_own (wanted line h.span.terminal) h.tick h.run
+          (wanted_named line h.span.terminal names h.terminal)) h.excluded;
     }
 
 -- what is shown over one interval history is shown over each

@@ -2,7 +2,7 @@
 -- histories under assumptions, and the same is shown.
 use Rattle.std.proofs.Common.{◌≡◌, ◌<◌, ◌≤◌, ℕ, Bool, refl, sym, ◌∙◌, ap, subst, arith, ⊎_elim}
 use Rattle.std.proofs.Common.{inl, inr, List, length}
-use Rattle.std.specs.Prelude.{Option}
+use Rattle.std.specs.Prelude.{Option, IsFalse}
 use Rattle.model_history.specs.{Laws.HistoryLaws, Rails.Rails, Rails.Ends, Rails.both}
 use Rattle.model_history.specs.Rails.{rails_not, rails_and, rails_or, rails_timed, rails_delayed}
 use Rattle.model_line.specs.{declared.line.Line.Line, declared.script.Script.Script}
@@ -21,15 +21,15 @@ use Rattle.model_logic.specs.Logic.{key_tree, trip_tree}
 use Rattle.model_logic.specs.{Laws.TreesNameTheLine, Rule.rule_by}
 use Rattle.model_logic.specs.BoxLaws.{turned, same_world}
 use Rattle.model_settle.specs.Assumed.{Assumption, wanted, assumed_level}
-use Rattle.model_settle.specs.Under.{assumed_or, pair_under, own_pair, IsPairHistoryUnder, Excludes}
+use Rattle.model_settle.specs.Under.{assumed_or, pair_under, own_pair, IsPairHistoryUnder}
 use Rattle.model_settle.specs.Under.{SomeIsExcluded}
 use Rattle.model_settle.specs.CaseTrees.{IsShownUnder}
 use Rattle.model_settle.proofs.WantedNamed.{wanted_named}
-use Rattle.model_settle.proofs.WantedSame.{wanted_same, level_same}
+use Rattle.model_settle.proofs.WantedSame.{wanted_same, level_same, level_same_box}
 
 module _ (laws : HistoryLaws) (line : Line) (level other : Tree → ℕ → Option Bool)
-    (told : (x : Tree) (t : ℕ) → level x t ≡ other x t) (w v : PairWorld) (s : IsSameWorld line w v)
-    (keys : PairSignals) where
+    (told : (x : Tree) (t : ℕ) → Names line x → level x t ≡ other x t) (w v : PairWorld)
+    (s : IsSameWorld line w v) (keys : PairSignals) where
   timed_same : (x : Tree) (p e : Time) (t : ℕ) → HasTime line p → HasTime line e
       → ((r : ℕ) → r ≤ t → pair_under level w keys x r ≡ pair_under other v keys x r)
       → own_pair level w keys (Timer x p e) t ≡ own_pair other v keys (Timer x p e) t
@@ -58,7 +58,7 @@ module _ (laws : HistoryLaws) (line : Line) (level other : Tree → ℕ → Opti
       ∙ ap (rails_or (pair_under other v keys x t)) (pair_same y t early h.1)
   pair_same (Timer x p e) t early h =
       ap (λ (o : Option Bool). assumed_or o (own_pair level w keys (Timer x p e) t))
-      (told (Timer x p e) t)
+      (told (Timer x p e) t h)
       ∙ ap (assumed_or (other (Timer x p e) t))
       (timed_same x p e t h.1.0 h.1.1 (λ r le. pair_same x r (omega arith) h.0))
   pair_same (Seal x y) t early h =
@@ -82,14 +82,14 @@ module _ (laws : HistoryLaws) (names : TreesNameTheLine) (line : Line) (script :
   under_same_box w is = record {
     keys = λ k t kn lt.
         is.keys k t kn lt
-        ∙ pair_same laws line (assumed_level line assumed) (assumed_level line assumed)
-        (λ x r. refl)
+        ∙ pair_same laws line (assumed_level line a assumed) (assumed_level line b assumed)
+        (level_same_box line script a b same assumed)
         (pair_world_of line script a) (pair_world_of line script b)
         (same_world line script a b same) w.key (key_tree line k) t lt (names.keys line k kn);
     trips = λ k t kn lt.
         is.trips k t kn lt
-        ∙ pair_same laws line (assumed_level line assumed) (assumed_level line assumed)
-        (λ x r. refl)
+        ∙ pair_same laws line (assumed_level line a assumed) (assumed_level line b assumed)
+        (level_same_box line script a b same assumed)
         (pair_world_of line script a) (pair_world_of line script b)
         (same_world line script a b same) w.key (trip_tree line k) t lt (names.trips line k kn);
   }
@@ -97,15 +97,19 @@ module _ (laws : HistoryLaws) (names : TreesNameTheLine) (line : Line) (script :
   pub excluded_same_box : (w : PairHistory) → SomeIsExcluded line script a assumed w
       → SomeIsExcluded line script b assumed w
   excluded_same_box w x = record {
-    one = x.one;
+    span = x.span;
     is = x.is;
     terminal = x.terminal;
     tick = x.tick;
-    excluded = subst (λ (r : Rails). Excludes r x.one.level)
-        (own_same laws line (assumed_level line assumed) (assumed_level line assumed) (λ y r. refl)
+    from = x.from;
+    to = x.to;
+    run = x.run;
+    excluded = subst (λ (r : Rails). IsFalse r.may)
+        (own_same laws line (assumed_level line a assumed) (assumed_level line b assumed)
+        (level_same_box line script a b same assumed)
         (pair_world_of line script a) (pair_world_of line script b)
-        (same_world line script a b same) w.key (wanted line x.one.terminal) x.one.tick x.tick
-        (wanted_named line x.one.terminal names x.terminal)) x.excluded;
+        (same_world line script a b same) w.key (wanted line x.span.terminal) x.tick x.run
+        (wanted_named line x.span.terminal names x.terminal)) x.excluded;
   }
 
 pub shown_same_box : HistoryLaws → TreesNameTheLine → (line : Line) (script : Script) (k : ℕ)
@@ -136,17 +140,18 @@ module _ (laws : HistoryLaws) (names : TreesNameTheLine) (trees : TreesRestOnNoI
     time = λ x has. refl;
   }
 
-  told : (x : Tree) (t : ℕ) → assumed_level line assumed x t ≡ assumed_level other assumed x t
-  told x t = sym (level_same trees line other same assumed x t)
+  told : (x : Tree) (t : ℕ) → Names line x
+      → assumed_level line box assumed x t ≡ assumed_level other box assumed x t
+  told x t named = sym (level_same trees line other same box assumed x t)
 
   tree_same : (keys : PairSignals) (x y : Tree) (t : ℕ) → y ≡ x → t < line.horizon → Names line x
-      → pair_under (assumed_level line assumed) (pair_world_of line script box) keys x t
-      ≡ pair_under (assumed_level other assumed) (pair_world_of other script box) keys y t
+      → pair_under (assumed_level line box assumed) (pair_world_of line script box) keys x t
+      ≡ pair_under (assumed_level other box assumed) (pair_world_of other script box) keys y t
   tree_same keys x y t e early named =
-      pair_same laws line (assumed_level line assumed) (assumed_level other assumed) told
+      pair_same laws line (assumed_level line box assumed) (assumed_level other box assumed) told
       (pair_world_of line script box) (pair_world_of other script box) line_world keys x t early
       named
-      ∙ ap (λ (z : Tree). pair_under (assumed_level other assumed) (pair_world_of other script box)
+      ∙ ap (λ (z : Tree). pair_under (assumed_level other box assumed) (pair_world_of other script box)
       keys z t) (sym e)
 
   pub under_same_line : (w : PairHistory) → IsPairHistoryUnder line script box assumed w
@@ -169,17 +174,21 @@ module _ (laws : HistoryLaws) (names : TreesNameTheLine) (trees : TreesRestOnNoI
   pub excluded_same_line : (w : PairHistory) → SomeIsExcluded line script box assumed w
       → SomeIsExcluded other script box assumed w
   excluded_same_line w x = record {
-    one = x.one;
+    span = x.span;
     is = x.is;
-    terminal = subst (λ (n : ℕ). x.one.terminal < n) (sym counts) x.terminal;
-    tick = subst (λ (n : ℕ). x.one.tick < n) (sym same.horizon) x.tick;
-    excluded = subst (λ (r : Rails). Excludes r x.one.level)
-        (own_same laws line (assumed_level line assumed) (assumed_level other assumed) told
+    terminal = subst (λ (n : ℕ). x.span.terminal < n) (sym counts) x.terminal;
+    tick = x.tick;
+    from = x.from;
+    to = x.to;
+    run = subst (λ (n : ℕ). x.tick < n) (sym same.horizon) x.run;
+    excluded = subst (λ (r : Rails). IsFalse r.may)
+        (own_same laws line (assumed_level line box assumed) (assumed_level other box assumed) told
         (pair_world_of line script box) (pair_world_of other script box) line_world w.key
-        (wanted line x.one.terminal) x.one.tick x.tick
-        (wanted_named line x.one.terminal names x.terminal)
-        ∙ ap (λ (z : Tree). own_pair (assumed_level other assumed) (pair_world_of other script box)
-        w.key z x.one.tick) (sym (wanted_same trees line other same x.one.terminal))) x.excluded;
+        (wanted line x.span.terminal) x.tick x.run
+        (wanted_named line x.span.terminal names x.terminal)
+        ∙ ap (λ (z : Tree). own_pair (assumed_level other box assumed)
+        (pair_world_of other script box) w.key z x.tick)
+        (sym (wanted_same trees line other same x.span.terminal))) x.excluded;
   }
 
 pub shown_same_line : HistoryLaws → TreesNameTheLine → TreesRestOnNoInterval → (line other : Line)

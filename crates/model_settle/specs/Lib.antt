@@ -1,4 +1,5 @@
 pub mod Assumed
+pub mod Parts
 pub mod Under
 pub mod CaseTrees
 pub mod CaseLaws

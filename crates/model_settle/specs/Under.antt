@@ -1,5 +1,5 @@
 -- The interval history of a line over a box under assumptions.
-use Rattle.std.specs.Prelude.{◌≡◌, ◌<◌, ℕ, Bool, true, false, IsTrue, IsFalse, List, Option, None}
+use Rattle.std.specs.Prelude.{◌≡◌, ◌<◌, ◌≤◌, ℕ, Bool, IsFalse, List, Option, None}
 use Rattle.std.specs.Prelude.{Some, Contains}
 use Rattle.model_history.specs.Rails.{Rails, both, rails_not, rails_and, rails_or, rails_timed}
 use Rattle.model_history.specs.Rails.{rails_sealed, rails_delayed}
@@ -10,7 +10,7 @@ use Rattle.model_logic.specs.PairMean.{PairWorld, PairSignals}
 use Rattle.model_logic.specs.Choice.{Box, pair_world_of}
 use Rattle.model_logic.specs.Histories.{Everywhere, PairHistory}
 use Rattle.model_logic.specs.Logic.{key_tree, trip_tree}
-use Rattle.model_settle.specs.Assumed.{Assumption, wanted, assumed_level}
+use Rattle.model_settle.specs.Assumed.{Assumption, Throughout, Span, wanted, assumed_level}
 
 -- the level that is assumed, if one is, else the pair
 abbrev pub assumed_or : Option Bool → Rails → Rails
@@ -45,29 +45,22 @@ own_pair level w keys x t = pair_under level w keys x t
 pub record IsPairHistoryUnder (line : Line) (script : Script) (box : Box)
     (assumed : List Assumption) (w : PairHistory) : Type 0 where
   pub keys : Everywhere line (λ k t.
-      w.key k t ≡ pair_under (assumed_level line assumed) (pair_world_of line script box) w.key
+      w.key k t ≡ pair_under (assumed_level line box assumed) (pair_world_of line script box) w.key
       (key_tree line k) t)
   pub trips : Everywhere line (λ k t.
-      w.trip k t ≡ pair_under (assumed_level line assumed) (pair_world_of line script box) w.key
+      w.trip k t ≡ pair_under (assumed_level line box assumed) (pair_world_of line script box) w.key
       (trip_tree line k) t)
 
--- the rails exclude a level
-abbrev pub Excludes : Rails → Bool → Type 0
-Excludes x true = IsFalse x.may
-Excludes x false = IsTrue x.must
-
--- over an interval history under assumptions, what the interval rules say of an echo that is wanted
--- excludes this assumption
-abbrev pub IsExcluded : Line → Script → Box → List Assumption → PairHistory → Assumption → Type 0
-IsExcluded line script box assumed w a =
-    Excludes (own_pair (assumed_level line assumed) (pair_world_of line script box) w.key
-    (wanted line a.terminal) a.tick) a.level
-
--- an assumption, at a tick of the run, that is excluded over the interval history under all of them
+-- an echo is assumed to be wanted throughout a span, and over the interval history its own rule says
+-- of a tick of the span that it cannot be
 pub record SomeIsExcluded (line : Line) (script : Script) (box : Box) (assumed : List Assumption)
     (w : PairHistory) : Type 0 where
-  pub one : Assumption
-  pub is : Contains assumed one
-  pub terminal : one.terminal < terminal_count line
-  pub tick : one.tick < line.horizon
-  pub excluded : IsExcluded line script box assumed w one
+  pub span : Span
+  pub is : Contains assumed (Throughout span)
+  pub terminal : span.terminal < terminal_count line
+  pub tick : ℕ
+  pub from : span.from ≤ tick
+  pub to : tick < span.to
+  pub run : tick < line.horizon
+  pub excluded : IsFalse (own_pair (assumed_level line box assumed)
+      (pair_world_of line script box) w.key (wanted line span.terminal) tick).may

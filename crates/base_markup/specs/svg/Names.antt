@@ -8,6 +8,7 @@ use Rattle.base_markup.specs.declared.svg.attribute.Key.TheVariants as key
 abbrev pub tag_name : Tag → List ℕ
 tag_name tag.Svg = codes "svg"
 tag_name tag.Title = codes "title"
+tag_name tag.Description = codes "desc"
 tag_name tag.Style = codes "style"
 tag_name tag.Defs = codes "defs"
 tag_name tag.Pattern = codes "pattern"

@@ -8,6 +8,7 @@ ghost use Rattle.base_markup.specs.svg.Names.{tag_name};
 pub enum Tag {
     Svg,
     Title,
+    Description,
     Style,
     Defs,
     Pattern,
@@ -25,6 +26,7 @@ impl Tag {
         match self {
             Tag::Svg => b"svg",
             Tag::Title => b"title",
+            Tag::Description => b"desc",
             Tag::Style => b"style",
             Tag::Defs => b"defs",
             Tag::Pattern => b"pattern",

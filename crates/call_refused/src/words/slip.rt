@@ -1,8 +1,8 @@
 //! Slips in one record of scripts, and at one place of a TOML document.
 
-ghost use Rattle.std.specs.Prelude.{◌≡◌, ◌+◌, ◌<◌, Decides, length};
-ghost use Rattle.call_refused.specs.words.Slips.{is_only_commas, record_slip_of, IsDocumentSlip};
-ghost use Rattle.call_refused.specs.words.Slips.{HasDecimalComma, is_decimal_comma};
+ghost use Rattle.std.specs.Prelude.{◌≡◌, ◌+◌, ◌<◌, length};
+ghost use Rattle.call_refused.specs.words.Slips.{document_slip_of, has_between as has_between_of};
+ghost use Rattle.call_refused.specs.words.Slips.{is_between as is_between_of, is_only_commas, record_slip_of};
 ghost use Rattle.base_text.specs.store.Number.{is_digit};
 
 use crate::places::has_byte;
@@ -16,7 +16,7 @@ pub enum Slip {
     OnlyCommas,
     /// A blank in a record.
     Blank,
-    /// A point in a record.
+    /// A point between digits in a record.
     Point,
     /// A semicolon in a TOML document, where none may stand.
     Semicolon,
@@ -34,7 +34,7 @@ pub fn record_slip(row: &[u8]) -> Option<Slip>
         Some(Slip::OnlyCommas)
     } else if has_byte(b' ', row) {
         Some(Slip::Blank)
-    } else if has_byte(b'.', row) {
+    } else if has_between(b'.', row) {
         Some(Slip::Point)
     } else {
         None
@@ -49,34 +49,33 @@ fn is_only_commas(row: &[u8]) -> bool
 
 /// The slip that a line of a TOML document shows, where it shows one.
 pub fn document_slip(line: &[u8]) -> Option<Slip>
-    ensures { IsDocumentSlip line.now result }
+    ensures { result ≡ document_slip_of line.now }
 {
     if has_byte(b';', line) {
         Some(Slip::Semicolon)
-    } else if has_decimal_comma(line) {
+    } else if has_between(b',', line) {
         Some(Slip::DecimalComma)
     } else {
         None
     }
 }
 
-// Whether a comma stands between two digits.
-fn has_decimal_comma(line: &[u8]) -> bool
-    ensures { Decides result (HasDecimalComma line.now) }
+// Whether a byte stands between two digits.
+fn has_between(byte: u8, line: &[u8]) -> bool
+    ensures { result ≡ has_between_of byte line.now }
 {
+    let mut found = false;
     for k in 0..line.len().saturating_sub(2) {
-        if is_decimal_comma(line, k) {
-            return true;
-        }
+        found = is_between(byte, line, k) || found;
     }
-    false
+    found
 }
 
-fn is_decimal_comma(line: &[u8], k: usize) -> bool
+fn is_between(byte: u8, line: &[u8], k: usize) -> bool
     requires { k + 2 < length line.now }
-    ensures { result ≡ is_decimal_comma line.now k }
+    ensures { result ≡ is_between_of byte line.now k }
 {
-    is_digit(line[k]) && line[k + 1] == b',' && is_digit(line[k + 2])
+    is_digit(line[k]) && line[k + 1] == byte && is_digit(line[k + 2])
 }
 
 fn is_digit(b: u8) -> bool

@@ -11,6 +11,7 @@ pub fn study_said<'a>(fault: &DocumentFault, path: &[u8], value: &'a [u8]) -> Sa
     match fault {
         DocumentFault::WrongKind(_) => return kind_said(study_rule(path), value),
         DocumentFault::BadTime(_, why) => return time_said(*why, value),
+        DocumentFault::Range(_) => return range_said(path, value),
         _ => {}
     }
     key_said(fault, path, value)
@@ -20,7 +21,6 @@ fn key_said(fault: &DocumentFault, path: &[u8], value: &[u8]) -> Said<'static> {
     let rule = study_rule(path);
     match fault {
         DocumentFault::Missing(_) => missing(rule.what, rule.write),
-        DocumentFault::Range(_) => range_said(path, rule),
         DocumentFault::BadName(_) => name_said(path, rule, value),
         DocumentFault::Twice(_) => twice_said(path),
         DocumentFault::Swept(_) => words(
@@ -35,6 +35,7 @@ fn key_said(fault: &DocumentFault, path: &[u8], value: &[u8]) -> Said<'static> {
         DocumentFault::NotToml
         | DocumentFault::Unknown(_)
         | DocumentFault::WrongKind(_)
+        | DocumentFault::Range(_)
         | DocumentFault::BadTime(_, _)
         | DocumentFault::BadDate(_)
         | DocumentFault::OneFile(_) => words(rule.what, rule.write),
@@ -48,14 +49,34 @@ fn kind_said<'a>(rule: Rule, value: &'a [u8]) -> Said<'a> {
     words(rule.what, rule.write)
 }
 
-fn range_said(path: &[u8], rule: Rule) -> Said<'static> {
-    if is_of_elements(path, rule) {
-        return words(
-            "it comes only when its stage is over, in each script of the fault, so that none shows it",
-            "less behind +, or a longer stage",
-        );
+const NEVER_SEEN: &str =
+    "it begins only when its stage has ended, in each script of the fault, so that none shows it";
+
+// A value outside its limits; an element that begins when its stage has ended.
+fn range_said<'a>(path: &[u8], value: &'a [u8]) -> Said<'a> {
+    let rule = study_rule(path);
+    if !is_of_elements(path, rule) {
+        return words(rule.what, rule.write);
     }
-    words(rule.what, rule.write)
+    let shift = from_plus(value);
+    if shift.is_empty() {
+        return words(NEVER_SEEN, "a longer stage");
+    }
+    Said {
+        before: "",
+        what: NEVER_SEEN,
+        write: [b"less than ", shift, b", or a longer stage"],
+    }
+}
+
+// What stands from the plus on.
+fn from_plus(text: &[u8]) -> &[u8] {
+    for i in 0..text.len() {
+        if text[i] == b'+' {
+            return &text[i..];
+        }
+    }
+    b""
 }
 
 fn name_said(path: &[u8], rule: Rule, value: &[u8]) -> Said<'static> {

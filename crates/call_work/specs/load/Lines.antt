@@ -2,7 +2,7 @@
 -- line and the column; of a file that is not read its name and the reason; of a name that is not there
 -- the name, and the nearest that is.
 use Rattle.std.specs.Prelude.{◌≡◌, ◌⊎◌, ◌∷◌, ◌++◌, ℕ, List, [], Option, None, Some, IfSome, codes}
-use Rattle.std.specs.Prelude.{decimal, map}
+use Rattle.std.specs.Prelude.{decimal, map, unwrap_or}
 use Rattle.std.specs.List.{concat}
 use Rattle.base_files.specs.Reasons.{words_of}
 use Rattle.base_files.specs.declared.reason.Reason.{Reason}
@@ -48,6 +48,15 @@ further_name asked = []
 abbrev pub timing_asked : Asked → Option (List ℕ)
 timing_asked (request.play form name timing) = timing
 timing_asked asked = None
+
+-- the words of the axes of a map
+abbrev pub x_asked : Asked → List ℕ
+x_asked (request.map form x y made) = x
+x_asked asked = []
+
+abbrev pub y_asked : Asked → List ℕ
+y_asked (request.map form x y made) = unwrap_or y []
+y_asked asked = []
 
 abbrev pub part_in : Table → ℕ
 part_in (tables.Part n) = n
@@ -136,7 +145,8 @@ IsDenialLine r Has (denial.UnknownPart parts) line =
     line ≡ part_line (scripts_name r.source) (part_asked r.asked) parts
 IsDenialLine r Has (denial.Record why) line =
     line ≡ unpicked_line (further_name r.asked) r.script why
-IsDenialLine r Has (denial.Map why) line = line ≡ concat (map_denial_pieces why)
+IsDenialLine r Has (denial.Map why) line =
+    line ≡ one_line (map_denial_pieces (x_asked r.asked) (y_asked r.asked) why)
 
 abbrev pub out_of_memory : List ℕ
 out_of_memory = codes "out of memory\n"

@@ -32,14 +32,14 @@ use Rattle.call_work.specs.load.Studied.{Given, Studied, of_files, of_study_file
 
 -- what is asked for, over what the files say
 pub data Wanted : Type 0 where
-  bands : Rows → Line → Script → Wanted
+  bands : Rows → List ℕ → Line → Script → Wanted
   play : Form → Line → Script → NamedValues → Wanted
   table : Table → Studied → Wanted
   timings : Line → Script → Wanted
   recheck : Studied → List ℕ → Wanted
   lint : Source → Wanted
   explain : ℕ → ExplainForm → Option ℕ → Line → List Script → List ℕ → Wanted
-  map : MapForm → List ℕ → Option (List ℕ) → Both → Studied → Wanted
+  map : MapForm → List ℕ → Option (List ℕ) → List ℕ → Both → Studied → Wanted
   page : Studied → Wanted
 
 -- what holds of what is wanted, or of why it can't be done
@@ -67,10 +67,10 @@ of_timing all name halted holds =
     of_place all (chosen_timing all name) (IsUnknownTiming all name) halted holds
 
 -- every choice of delays, over what a source says
-abbrev pub bands_of : Rows → Given → Option (List ℕ) → Reading
-bands_of which given script halted holds =
+abbrev pub bands_of : Rows → List ℕ → Given → Option (List ℕ) → Reading
+bands_of which made given script halted holds =
     given halted (λ studied. of_script studied.scripts script halted
-    (λ chosen. holds (bands which studied.line chosen)))
+    (λ chosen. holds (bands which made studied.line chosen)))
 
 -- a play of one of these timings
 abbrev pub played_of : Form → Line → List Script → List NamedValues → Option (List ℕ)
@@ -178,10 +178,10 @@ of_axes (Ok both) halted holds = holds both
 of_axes (Err why) halted holds = halted (map_halt why)
 
 -- a map of one setting or two, by the words of its axes
-abbrev pub map_of : MapForm → List ℕ → Option (List ℕ) → Given → Reading
-map_of form x y given halted holds =
+abbrev pub map_of : MapForm → List ℕ → Option (List ℕ) → List ℕ → Given → Reading
+map_of form x y made given halted holds =
     given halted (λ studied. unless_denied (at_most 4096 (length studied.scripts)) halted
-    (of_axes (asked_of studied.line x y) halted (λ both. holds (map form x y both studied))))
+    (of_axes (asked_of studied.line x y) halted (λ both. holds (map form x y made both studied))))
 
 -- the page
 abbrev pub page_of : Given → Reading
@@ -196,7 +196,7 @@ given (request.study study_bytes) = of_study_file study_bytes
 
 -- over the bytes of a source and of the further files
 abbrev pub over_source : Source → Option (List ℕ) → Asked → List (List ℕ) → Reading
-over_source from script (request.bands which) [] = bands_of which (given from) script
+over_source from script (request.bands which made) [] = bands_of which made (given from) script
 over_source from script (request.play form _ timing) (timings_bytes ∷ []) =
     play_of form (given from) timings_bytes script timing
 over_source from script (request.table which) [] = table_of which (given from)
@@ -206,7 +206,7 @@ over_source from script (request.recheck _) (trees_bytes ∷ []) =
 over_source from script request.lint [] = λ halted holds. holds (lint from)
 over_source from script (request.explain _ within form) (record_bytes ∷ []) =
     explain_of within form (given from) record_bytes script
-over_source from script (request.map form x y) [] = map_of form x y (given from)
+over_source from script (request.map form x y made) [] = map_of form x y made (given from)
 over_source from script request.page [] = page_of (given from)
 over_source from script asked bytes = λ halted holds. ⊥
 

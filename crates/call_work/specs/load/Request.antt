@@ -18,16 +18,17 @@ pub data Source : Type 0 where
 
 -- a picture of every choice of delays, or of a play of a timing of a further file; a table; timings
 -- that fail; whether the trees of a further file are accepted; what is suspicious in the files; what
--- explains a record of a further file; a map, by the words of one axis or two; or the page
+-- explains a record of a further file; a map, by the words of one axis or two; or the page. What a
+-- picture and a map say made them stands behind the rest
 pub data Asked : Type 0 where
-  bands : Rows → Asked
+  bands : Rows → List ℕ → Asked
   play : Form → List ℕ → Option (List ℕ) → Asked
   table : Table → Asked
   timings : ℕ → Asked
   recheck : List ℕ → Asked
   lint : Asked
   explain : List ℕ → ℕ → ExplainForm → Asked
-  map : MapForm → List ℕ → Option (List ℕ) → Asked
+  map : MapForm → List ℕ → Option (List ℕ) → List ℕ → Asked
   page : Asked
 
 -- a picture, timings that fail and a record are of one script
@@ -41,14 +42,14 @@ files_at (files line scripts) = named file.Line line ∷ named file.Scripts scri
 files_at (study name) = named file.Study name ∷ []
 
 abbrev pub files_beside : Asked → List NamedFile
-files_beside (bands which) = []
+files_beside (bands which made) = []
 files_beside (play form name timing) = named file.Timings name ∷ []
 files_beside (table which) = []
 files_beside (timings analyses) = []
 files_beside (recheck trees) = named file.Trees trees ∷ []
 files_beside lint = []
 files_beside (explain name within form) = named file.Record name ∷ []
-files_beside (map form x y) = []
+files_beside (map form x y made) = []
 files_beside page = []
 
 -- the files of a request in the order of its words
@@ -61,15 +62,15 @@ source_of (source.Files line scripts) = files line.now scripts.now
 source_of (source.Study name) = study name.now
 
 abbrev pub asked_of : Work → Asked
-asked_of (work.Bands which) = bands which
+asked_of (work.Bands which made) = bands which made.now
 asked_of (work.Play form name timing) = play form name.now (option_copied timing)
 asked_of (work.Table which) = table which
 asked_of (work.Timings analyses) = timings analyses
 asked_of (work.Recheck trees) = recheck trees.now
 asked_of work.Lint = lint
 asked_of (work.Explain name within analyses form) = explain name.now within form
-asked_of (work.Map ask) = map ask.form ask.x.now (option_copied ask.y)
-asked_of (work.Page analyses program kit) = page
+asked_of (work.Map ask) = map ask.form ask.x.now (option_copied ask.y) ask.made.now
+asked_of (work.Page analyses made) = page
 
 abbrev pub request_of : Ask → Request
 request_of ask = record {

@@ -28,10 +28,10 @@ map_denial_status (denial.Words side why) = words_status why
 map_denial_status (denial.Twice name) = 4
 map_denial_status (denial.Fault why) = 4
 
--- the first words are those of x, the second those of y
-abbrev pub side_words : Side → List ℕ
-side_words side.X = codes "x: "
-side_words side.Y = codes "y: "
+-- the words of an axis: the first are those of x, the second those of y
+abbrev pub side_words : List ℕ → List ℕ → Side → List ℕ
+side_words x y side.X = x
+side_words x y side.Y = y
 
 -- before what is wrong: the part in which it is, or that it is a name and its number
 abbrev pub where_words : AxisFault → List ℕ
@@ -65,18 +65,38 @@ abbrev pub number_words : Option ℕ → List ℕ
 number_words None = []
 number_words (Some number) = decimal number
 
--- the line: of which axis, where in its words, and what is wrong
-abbrev pub pieces_of : List ℕ → List ℕ → List ℕ → List ℕ → List (List ℕ)
-pieces_of side place number what =
-    codes "refused map: " ∷ (side ∷ (place ∷ (number ∷ (what ∷ (codes "\n" ∷ [])))))
+-- where the names stand that there are
+abbrev pub remedy : AxisFault → List ℕ
+remedy axis.NoEquals = []
+remedy (axis.Unknown number) = codes "; study margins lists their names"
+remedy axis.NoLast = []
+remedy axis.NoStep = []
+remedy (axis.NoTicks part) = []
+remedy (axis.BadTime part why) = []
+remedy (axis.NoInstant part) = []
+remedy (axis.Beyond part) = []
+remedy (axis.OffGrid part) = []
+remedy axis.Order = []
+remedy axis.StepOfZero = []
+
+-- the line: the words or the parameter, where in the words, what is wrong, and what to write
+abbrev pub pieces_of : List ℕ → List ℕ → List ℕ → List ℕ → List ℕ → List (List ℕ)
+pieces_of words place number what write =
+    codes "study: " ∷ (words ∷ (codes ": " ∷ (place ∷ (number ∷ (what ∷ (write ∷ []))))))
 
 abbrev pub fault_pieces : MapFault → List (List ℕ)
-fault_pieces (map.Late name) = pieces_of [] name [] (codes " would go beyond 4000 ticks")
-fault_pieces (map.NoDelay name) = pieces_of [] name [] (codes " is a delay and would begin at 0")
-fault_pieces map.TooMany = pieces_of [] [] [] (codes "more than 40000 cells")
+fault_pieces (map.Late name) =
+    pieces_of name [] [] (codes "would go beyond 4000 ticks") (codes ": end before")
+fault_pieces (map.NoDelay name) =
+    pieces_of name [] [] (codes "a delay that would begin at 0") (codes ": begin at one tick")
+fault_pieces map.TooMany =
+    pieces_of (codes "the map") [] [] (codes "more than 40000 cells") (codes ": take longer steps")
 
-abbrev pub map_denial_pieces : MapDenial → List (List ℕ)
-map_denial_pieces (denial.Words side why) =
-    pieces_of (side_words side) (where_words why) (number_words (number_in why)) (what_words why)
-map_denial_pieces (denial.Twice name) = pieces_of [] name [] (codes " moves along both axes")
-map_denial_pieces (denial.Fault why) = fault_pieces why
+-- of a map by the words of x and, if there are any, of y
+abbrev pub map_denial_pieces : List ℕ → List ℕ → MapDenial → List (List ℕ)
+map_denial_pieces x y (denial.Words side why) =
+    pieces_of (side_words x y side) (where_words why) (number_words (number_in why))
+    (what_words why) (remedy why)
+map_denial_pieces x y (denial.Twice name) =
+    pieces_of name [] [] (codes "moves along both axes") (codes ": name it in one of them")
+map_denial_pieces x y (denial.Fault why) = fault_pieces why

@@ -9,7 +9,7 @@ ghost use Rattle.call_work.specs.load.Lines.{missing_line as missing, near_words
 ghost use Rattle.call_work.specs.load.Lines.{part_asked as part_of, part_line as part, quoted};
 ghost use Rattle.call_work.specs.load.Lines.{further_name as further_of, scripts_name as scripts_of};
 ghost use Rattle.call_work.specs.load.Lines.{several_line as several, several_scripts_line as several_scripts};
-ghost use Rattle.call_work.specs.load.Lines.{timing_asked as timing_of};
+ghost use Rattle.call_work.specs.load.Lines.{timing_asked as timing_of, x_asked as x_of, y_asked as y_of};
 ghost use Rattle.call_work.specs.load.Lines.{unknown_line as unknown, unpicked_line as unpicked};
 ghost use Rattle.call_work.specs.load.Request.{asked_of, request_of, source_of};
 ghost use Rattle.call_refused.specs.told.Told.{IsToldAt};
@@ -118,7 +118,7 @@ pub fn denial_line(
         ),
         Denial::UnknownPart(parts) => part_line(alloc, ask, *parts),
         Denial::Record(why) => unpicked_line(alloc, ask, *why),
-        Denial::Map(why) => map_denial_line(alloc, why),
+        Denial::Map(why) => map_denial_line(alloc, x_asked(ask.work), y_asked(ask.work), why),
     }
 }
 
@@ -153,6 +153,26 @@ fn timing_asked(work: Work<'_>) -> Option<&str>
     }
 }
 
+// The words of the first axis of a map.
+fn x_asked(work: Work<'_>) -> &[u8]
+    ensures { result.now ≡ x_of (asked_of work.entry) }
+{
+    match work {
+        Work::Map(axes) => axes.x,
+        _ => b"",
+    }
+}
+
+// Those of the second, if there is one.
+fn y_asked(work: Work<'_>) -> &[u8]
+    ensures { result.now ≡ y_of (asked_of work.entry) }
+{
+    match work {
+        Work::Map(axes) => axes.y.unwrap_or(b""),
+        _ => b"",
+    }
+}
+
 fn part_asked(work: Work<'_>) -> u32
     ensures { result ≡ part_of (asked_of work.entry) }
 {
@@ -162,8 +182,8 @@ fn part_asked(work: Work<'_>) -> u32
     }
 }
 
-// The pieces as one line.
-fn one_line(alloc: Global, pieces: &[&[u8]]) -> Result<Vec<u8>, Memory>
+/// The pieces as one line; a byte that would break it is shown as `?`.
+pub fn one_line(alloc: Global, pieces: &[&[u8]]) -> Result<Vec<u8>, Memory>
     ensures { IfOk result (λ line. line.items ≡ line_of (map (λ piece. piece.now) pieces.now)) }
 {
     let text = text_of(alloc, pieces)?;

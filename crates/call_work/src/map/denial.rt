@@ -1,16 +1,16 @@
 //! Why there is no such map.
 
 ghost use Rattle.std.specs.Prelude.{◌≡◌, [], IfOk};
-ghost use Rattle.std.specs.List.{concat};
+ghost use Rattle.call_work.specs.load.Lines.{one_line as line_by};
 ghost use Rattle.call_work.specs.map.Denials.{fault_pieces, map_denial_pieces, number_in as number_of};
-ghost use Rattle.call_work.specs.map.Denials.{number_words, pieces_of};
+ghost use Rattle.call_work.specs.map.Denials.{number_words, pieces_of, remedy as remedy_of};
 ghost use Rattle.call_work.specs.map.Denials.{map_denial_status, side_words as words_of_side};
 ghost use Rattle.call_work.specs.map.Denials.{where_words as words_of_place, words_status as status_of_words};
 ghost use Rattle.base_memory.specs.declared.stopped.Stopped.TheVariants as stopped;
 ghost use Rattle.file_study.specs.times.AxisWords.{what_words};
 
+use crate::load::one_line;
 use base_memory::{Memory, Stopped};
-use call_answer::text_of;
 use file_study::times::AxisFault;
 use itoa::Buffer;
 use judge_margins::map::MapFault;
@@ -73,32 +73,62 @@ fn words_status(why: AxisFault) -> u8
     }
 }
 
-/// The line that says it: `refused map: x: WHAT`.
-pub fn map_denial_line(alloc: Global, why: &MapDenial) -> Result<Vec<u8>, Memory>
-    ensures { IfOk result (λ text. text.items ≡ concat (map_denial_pieces why.now)) }
+/// The line that says it, of the map of these words: `study: WORDS: WHAT; write ..`.
+pub fn map_denial_line(
+    alloc: Global,
+    x: &[u8],
+    y: &[u8],
+    why: &MapDenial,
+) -> Result<Vec<u8>, Memory>
+    ensures { IfOk result (λ text.
+        text.items ≡ line_by (map_denial_pieces x.now y.now why.now)) }
 {
     match why {
-        MapDenial::Words(side, fault) => words_line(alloc, *side, *fault),
-        MapDenial::Twice(name) => name_line(alloc, name.bytes(), b" moves along both axes"),
+        MapDenial::Words(side, fault) => words_line(alloc, side_words(x, y, *side), *fault),
+        MapDenial::Twice(name) => name_line(
+            alloc,
+            name.bytes(),
+            b"moves along both axes",
+            b": name it in one of them",
+        ),
         MapDenial::Fault(fault) => fault_line(alloc, fault),
     }
 }
 
 // The line of what is wrong with the words of an axis.
-fn words_line(alloc: Global, side: Side, fault: AxisFault) -> Result<Vec<u8>, Memory>
-    ensures { IfOk result (λ text. text.items ≡ concat (pieces_of (words_of_side side) (words_of_place fault)
-        (number_words (number_of fault)) (what_words fault))) }
+fn words_line(alloc: Global, words: &[u8], fault: AxisFault) -> Result<Vec<u8>, Memory>
+    ensures { IfOk result (λ text. text.items ≡ line_by (pieces_of words.now (words_of_place fault)
+        (number_words (number_of fault)) (what_words fault) (remedy_of fault))) }
 {
-    let side = side_words(side);
     let place = place_words(fault);
     let what = fault.words().as_bytes();
+    let write = remedy(fault);
     match number_in(fault) {
         Some(number) => {
             let mut digits = Buffer::new();
             let number = digits.format(number).as_bytes();
-            line_of(alloc, side, place, number, what)
+            line_of(alloc, words, place, number, what, write)
         }
-        None => line_of(alloc, side, place, b"", what),
+        None => line_of(alloc, words, place, b"", what, write),
+    }
+}
+
+// Where the names stand that there are.
+fn remedy(fault: AxisFault) -> &'static [u8]
+    ensures { result.now ≡ remedy_of fault }
+{
+    match fault {
+        AxisFault::Unknown(_) => b"; study margins lists their names",
+        AxisFault::NoEquals
+        | AxisFault::NoLast
+        | AxisFault::NoStep
+        | AxisFault::NoTicks(_)
+        | AxisFault::BadTime(_, _)
+        | AxisFault::NoInstant(_)
+        | AxisFault::Beyond(_)
+        | AxisFault::OffGrid(_)
+        | AxisFault::Order
+        | AxisFault::StepOfZero => b"",
     }
 }
 
@@ -123,44 +153,60 @@ fn number_in(fault: AxisFault) -> Option<usize>
 
 // The line of which cell there cannot be.
 fn fault_line(alloc: Global, fault: &MapFault) -> Result<Vec<u8>, Memory>
-    ensures { IfOk result (λ text. text.items ≡ concat (fault_pieces fault.now)) }
+    ensures { IfOk result (λ text. text.items ≡ line_by (fault_pieces fault.now)) }
 {
     match fault {
-        MapFault::Late(name) => name_line(alloc, name.bytes(), b" would go beyond 4000 ticks"),
-        MapFault::NoDelay(name) => {
-            name_line(alloc, name.bytes(), b" is a delay and would begin at 0")
-        }
-        MapFault::TooMany => name_line(alloc, b"", b"more than 40000 cells"),
+        MapFault::Late(name) => name_line(
+            alloc,
+            name.bytes(),
+            b"would go beyond 4000 ticks",
+            b": end before",
+        ),
+        MapFault::NoDelay(name) => name_line(
+            alloc,
+            name.bytes(),
+            b"a delay that would begin at 0",
+            b": begin at one tick",
+        ),
+        MapFault::TooMany => name_line(
+            alloc,
+            b"the map",
+            b"more than 40000 cells",
+            b": take longer steps",
+        ),
     }
 }
 
-// The line of what is wrong with a parameter.
-fn name_line(alloc: Global, name: &[u8], what: &[u8]) -> Result<Vec<u8>, Memory>
-    ensures { IfOk result (λ text. text.items ≡ concat (pieces_of [] name.now [] what.now)) }
+// The line of what is wrong with a parameter, and what to write.
+fn name_line(alloc: Global, name: &[u8], what: &[u8], write: &[u8]) -> Result<Vec<u8>, Memory>
+    ensures { IfOk result (λ text. text.items ≡ line_by (pieces_of name.now [] [] what.now write.now)) }
 {
-    line_of(alloc, b"", name, b"", what)
+    line_of(alloc, name, b"", b"", what, write)
 }
 
-// The line: of which axis, where in its words, and what is wrong.
+// The line: the words or the parameter, where in the words, what is wrong, and what to write.
 fn line_of<'a>(
     alloc: Global,
-    side: &'a [u8],
+    words: &'a [u8],
     place: &'a [u8],
     number: &'a [u8],
     what: &'a [u8],
+    write: &'a [u8],
 ) -> Result<Vec<u8>, Memory>
-    ensures { IfOk result (λ text. text.items ≡ concat (pieces_of side.now place.now number.now what.now)) }
+    ensures { IfOk result (λ text.
+        text.items ≡ line_by (pieces_of words.now place.now number.now what.now write.now)) }
 {
-    let head: &'a [u8] = b"refused map: ";
-    text_of(alloc, &[head, side, place, number, what, b"\n"])
+    let (head, colon): (&'a [u8], &'a [u8]) = (b"study: ", b": ");
+    one_line(alloc, &[head, words, colon, place, number, what, write])
 }
 
-fn side_words(side: Side) -> &'static [u8]
-    ensures { result.now ≡ words_of_side side }
+// The words of an axis.
+fn side_words<'a>(x: &'a [u8], y: &'a [u8], side: Side) -> &'a [u8]
+    ensures { result.now ≡ words_of_side x.now y.now side }
 {
     match side {
-        Side::X => b"x: ",
-        Side::Y => b"y: ",
+        Side::X => x,
+        Side::Y => y,
     }
 }
 

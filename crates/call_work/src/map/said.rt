@@ -34,7 +34,7 @@ pub fn map_of(alloc: Global, study: &Study, ask: &MapAsk) -> Result<Said, Stoppe
     ensures said { IfOk result (λ said. (both : BothOf)
         × (asked_of study.now.line ask.now.x.now (option_copied ask.now.y) ≡ Ok both)
         × Says (map_answer study.now.line study.now.scripts.items ask.now.form ask.now.x.now
-        (option_copied ask.now.y) both) said) }
+        (option_copied ask.now.y) ask.now.made.now both) said) }
     ensures denied { (why : DenialOf) → result ≡ Err (Fault why) →
         asked_of study.now.line ask.now.x.now (option_copied ask.now.y) ≡ Err why }
 {
@@ -52,7 +52,7 @@ fn text_of(alloc: Global, study: &Study, ask: &MapAsk, axes: &Axes) -> Result<Ve
     requires second { IsSmallSecond axes.now.y }
     ensures { IfOk result (λ text.
         IsTextOver study.now.line study.now.scripts.items ask.now.form ask.now.x.now
-        (option_copied ask.now.y) axes.now text.items) }
+        (option_copied ask.now.y) ask.now.made.now axes.now text.items) }
 {
     let cells = cells(alloc, &study.compiled(), study.scripts.as_slice(), axes)?;
     match ask.form {
@@ -83,7 +83,7 @@ fn drawing_text(
     ensures well_formed { IfOk result (λ text. ∥ IsContent text.items ∥₁) }
     ensures drawn { IfOk result (λ text.
         IsDrawingText study.now.line study.now.scripts.items axes.now (names_for ask.now.x.now)
-        (second_for (option_copied ask.now.y)) text.items) }
+        (second_for (option_copied ask.now.y)) ask.now.made.now text.items) }
 {
     let map = Map {
         line: &study.line,
@@ -94,17 +94,17 @@ fn drawing_text(
         y: second_names(ask.y),
     };
     let grid = grid_of(alloc, &map)?;
-    grid_text(alloc, &grid)
+    grid_text(alloc, &grid, ask.made)
 }
 
-// The drawing of this grid.
-fn grid_text(alloc: Global, grid: &Grid) -> Result<Vec<u8>, Memory>
+// The drawing of this grid, made by what these words say.
+fn grid_text(alloc: Global, grid: &Grid, made: &[u8]) -> Result<Vec<u8>, Memory>
     requires { IsGrid grid.now }
     ensures well_formed { IfOk result (λ text. ∥ IsContent text.items ∥₁) }
-    ensures drawn { IfOk result (λ text. text.items ≡ svg_of (drawing_of grid.now)) }
+    ensures drawn { IfOk result (λ text. text.items ≡ svg_of made.now (drawing_of grid.now)) }
 {
     let drawn = draw(alloc, grid)?;
-    let markup = svg(alloc, &drawn)?;
+    let markup = svg(alloc, &drawn, made)?;
     Ok(markup.text)
 }
 

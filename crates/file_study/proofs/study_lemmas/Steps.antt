@@ -58,21 +58,22 @@ pub tables_more : {X : Type 0} (members : X → Result Members DocumentFault) (x
 unfolding tables_of
 tables_more members xs i d done h = rw (drop_more xs i d h)
 
-pub shown_more : (upward : Bool) (units : Units) (k : ℕ) (path : List ℕ) (i : ℕ) (vs : List Value)
-    (d : Value) (done : List Shown) → i < length vs
-    → (shown_in upward units k (numbered path i) (view (get_or vs i d)) >>= λ shown.
-    all_shown upward units k path (i + 1) (items_view (drop (i + 1) vs)) (done ++ shown ∷ []))
-    ≡ all_shown upward units k path i (items_view (drop i vs)) done
+pub shown_more : (upward : Bool) (units : Units) (lasts : List ℕ) (k : ℕ) (path : List ℕ) (i : ℕ)
+    (vs : List Value) (d : Value) (done : List Shown) → i < length vs
+    → (shown_in upward units lasts k (numbered path i) (view (get_or vs i d)) >>= λ shown.
+    all_shown upward units lasts k path (i + 1) (items_view (drop (i + 1) vs))
+    (done ++ shown ∷ []))
+    ≡ all_shown upward units lasts k path i (items_view (drop i vs)) done
 unfolding all_shown
-shown_more upward units k path i vs d done h = rw (items_view-drop vs i d h)
+shown_more upward units lasts k path i vs d done h = rw (items_view-drop vs i d h)
 
-pub terminals_show_more : (upward : Bool) (units : Units) (path : List ℕ) (ms : Members) (k : ℕ)
-    (ts : List Terminal) (d : Terminal) (done : List Shown) → k < length ts
-    → (terminal_shows upward units path ms k (get_or ts k d) done >>= λ more.
-    terminals_show upward units path ms (k + 1) (drop (k + 1) ts) more)
-    ≡ terminals_show upward units path ms k (drop k ts) done
+pub terminals_show_more : (upward : Bool) (units : Units) (lasts path : List ℕ) (ms : Members)
+    (k : ℕ) (ts : List Terminal) (d : Terminal) (done : List Shown) → k < length ts
+    → (terminal_shows upward units lasts path ms k (get_or ts k d) done >>= λ more.
+    terminals_show upward units lasts path ms (k + 1) (drop (k + 1) ts) more)
+    ≡ terminals_show upward units lasts path ms k (drop k ts) done
 unfolding terminals_show
-terminals_show_more upward units path ms k ts d done h = rw (drop_more ts k d h)
+terminals_show_more upward units lasts path ms k ts d done h = rw (drop_more ts k d h)
 
 pub lost_more : (line : LineValues) (path : List ℕ) (i : ℕ) (vs : List Value) (d : Value)
     (done : List Shown) → i < length vs

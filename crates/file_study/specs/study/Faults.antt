@@ -107,7 +107,7 @@ unfoldable pub stage_in : Kind → Units → LineValues → List ℕ → Members
     → Result StageValues DocumentFault
 stage_in kind units line path ms = do
   lasts ← moments_at (is_longer kind) units path (codes "lasts") ms
-  shows ← shows_of (is_later kind) units line path ms
+  shows ← shows_of (is_later kind) units line lasts path ms
   Ok (record { lasts = lasts; shows = shows })
 
 unfoldable pub stage_at : Kind → Units → LineValues → List ℕ → Data → Result StageValues DocumentFault

@@ -1,8 +1,8 @@
 -- What a stage of a fault shows.
 use Rattle.std.specs.Prelude.{◌+◌, ◌++◌, ◌==◌, ℕ, Bool, List, [], ◌∷◌, Option, None, Some, Result}
-use Rattle.std.specs.Prelude.{Ok, Err, codes, if◌then◌else◌}
+use Rattle.std.specs.Prelude.{Ok, Err, codes, nat_lt, if◌then◌else◌}
 use Rattle.std.specs.Str.{bytes_eq}
-use Rattle.std.specs.List.{before_first, after_first, position_from}
+use Rattle.std.specs.List.{before_first, after_first, position_from, list_any}
 use Rattle.base_text.specs.lines.Lines.{is_space}
 use Rattle.toml.specs.Data.{Data, Items, no_items, item, Members, get_member}
 use Rattle.model_line.specs.declared.script.Element.TheVariants.{Z1, Z2, Rv, Uv, Cur}
@@ -38,39 +38,46 @@ shift_in upward units path [] = Ok 0
 shift_in upward units path (b ∷ text) =
     if b == 43 then instant_of upward units path text else Err (fault.BadName path)
 
--- an element at terminal k, as `z1` or `z1 +12 ms`
-unfoldable pub shown_in : Bool → Units → ℕ → List ℕ → Data → Result Shown DocumentFault
-shown_in upward units k path d = do
+-- how far into a stage an element comes is less than the stage lasts, with some value of its sweep;
+-- else no place of the sweep shows it
+abbrev pub within_stage : List ℕ → List ℕ → ℕ → Result ℕ DocumentFault
+within_stage path lasts after =
+    if list_any (λ ticks. nat_lt after ticks) lasts then Ok after else Err (fault.Range path)
+
+-- an element at terminal k, as `z1` or `z1 +12 ms`, in a stage that lasts so long
+unfoldable pub shown_in : Bool → Units → List ℕ → ℕ → List ℕ → Data → Result Shown DocumentFault
+shown_in upward units lasts k path d = do
   text ← text_in path d
   element ← element_in path (element_of (before_first is_space text))
-  after ← shift_in upward units path (after_first is_space text)
+  shift ← shift_in upward units path (after_first is_space text)
+  after ← within_stage path lasts shift
   Ok (record {
     what = what.Element (record { element = element; terminal = k });
     after = after;
   })
 
 -- those of an array, from item i on, behind those that are there
-unfoldable pub all_shown : Bool → Units → ℕ → List ℕ → ℕ → Items → List Shown
+unfoldable pub all_shown : Bool → Units → List ℕ → ℕ → List ℕ → ℕ → Items → List Shown
     → Result (List Shown) DocumentFault
-all_shown upward units k path i no_items done = Ok done
-all_shown upward units k path i (item d ds) done = do
-  shown ← shown_in upward units k (numbered path i) d
-  all_shown upward units k path (i + 1) ds (done ++ shown ∷ [])
+all_shown upward units lasts k path i no_items done = Ok done
+all_shown upward units lasts k path i (item d ds) done = do
+  shown ← shown_in upward units lasts k (numbered path i) d
+  all_shown upward units lasts k path (i + 1) ds (done ++ shown ∷ [])
 
 -- what terminal k sees, under its name
-unfoldable pub terminal_shows : Bool → Units → List ℕ → Members → ℕ → Terminal → List Shown
-    → Result (List Shown) DocumentFault
-terminal_shows upward units path ms k t done = do
+unfoldable pub terminal_shows : Bool → Units → List ℕ → List ℕ → Members → ℕ → Terminal
+    → List Shown → Result (List Shown) DocumentFault
+terminal_shows upward units lasts path ms k t done = do
   ds ← array_or_none (under path t.name) (get_member t.name ms)
-  all_shown upward units k (under path t.name) 0 ds done
+  all_shown upward units lasts k (under path t.name) 0 ds done
 
 -- what the terminals from number k on see
-unfoldable pub terminals_show : Bool → Units → List ℕ → Members → ℕ → List Terminal → List Shown
-    → Result (List Shown) DocumentFault
-terminals_show upward units path ms k [] done = Ok done
-terminals_show upward units path ms k (t ∷ ts) done = do
-  more ← terminal_shows upward units path ms k t done
-  terminals_show upward units path ms (k + 1) ts more
+unfoldable pub terminals_show : Bool → Units → List ℕ → List ℕ → Members → ℕ → List Terminal
+    → List Shown → Result (List Shown) DocumentFault
+terminals_show upward units lasts path ms k [] done = Ok done
+terminals_show upward units lasts path ms k (t ∷ ts) done = do
+  more ← terminal_shows upward units lasts path ms k t done
+  terminals_show upward units lasts path ms (k + 1) ts more
 
 -- the channel of this name, as `A>B`
 abbrev pub channel_called : LineValues → List ℕ → Option ℕ
@@ -94,11 +101,11 @@ all_lost line path i (item d ds) done = do
   lost ← lost_in line (numbered path i) d
   all_lost line path (i + 1) ds (done ++ lost ∷ [])
 
--- what a stage shows: what the terminals see, in the order of the line, and the channels that are
--- lost
-unfoldable pub shows_of : Bool → Units → LineValues → List ℕ → Members
+-- what a stage that lasts so long shows: what the terminals see, in the order of the line, and the
+-- channels that are lost
+unfoldable pub shows_of : Bool → Units → LineValues → List ℕ → List ℕ → Members
     → Result (List Shown) DocumentFault
-shows_of upward units line path ms = do
-  seen ← terminals_show upward units path ms 0 line.terminals []
+shows_of upward units line lasts path ms = do
+  seen ← terminals_show upward units lasts path ms 0 line.terminals []
   ds ← array_or_none (under path (codes "lost")) (get_member (codes "lost") ms)
   all_lost line (under path (codes "lost")) 0 ds seen

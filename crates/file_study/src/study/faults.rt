@@ -154,7 +154,7 @@ fn stage_in(
         (stage_in kind units (line_values line.now) path (table_view table.now)) }
 {
     let lasts = moments_at(alloc, is_longer(kind), units, path, "lasts", table)?;
-    let shows = shows(alloc, is_later(kind), units, line, path, table)?;
+    let shows = shows(alloc, is_later(kind), units, line, &lasts, path, table)?;
     Ok(Stage { lasts, shows })
 }
 

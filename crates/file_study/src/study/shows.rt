@@ -1,12 +1,13 @@
 //! What a stage of a fault shows.
 
-ghost use Rattle.std.specs.Prelude.{◌≡◌, ◌<◌, ◌≤◌, true, length};
-ghost use Rattle.std.specs.List.{before_first, after_first};
+ghost use Rattle.std.specs.Prelude.{◌≡◌, ◌<◌, ◌≤◌, true, length, nat_lt};
+ghost use Rattle.std.specs.List.{before_first, after_first, list_any};
 ghost use Rattle.toml.specs.View.{view, table_view, items_view};
 ghost use Rattle.file_line.specs.Lines.{line_values};
 ghost use Rattle.base_memory.specs.Gives.{Becomes, Gives};
 ghost use Rattle.model_line.specs.{PlainNames.is_plain_name, Terminals.are_plain_names};
-ghost use Rattle.file_study.specs.study.Shows.{element_of, element_in, shift_in, shown_in};
+ghost use Rattle.file_study.specs.study.Shows.{element_of, element_in, shift_in, within_stage};
+ghost use Rattle.file_study.specs.study.Shows.{shown_in};
 ghost use Rattle.base_text.specs.lines.Lines.{is_space};
 ghost use Rattle.file_study.specs.study.Shows.{all_shown, terminal_shows, terminals_show};
 ghost use Rattle.file_study.specs.study.Shows.{channel_called, channel_in, lost_in, all_lost, shows_of};
@@ -81,21 +82,41 @@ fn shift(upward: bool, units: Units, path: Path, text: &[u8]) -> Result<u32, Doc
     instant(upward, units, path, &text[1..])
 }
 
-// An element at terminal k, as `z1` or `z1 +12 ms`.
+// Whether a stage lasts longer with some value of its sweep.
+fn is_longer(lasts: &[u32], after: u32) -> bool
+    ensures { result ≡ list_any (λ ticks. nat_lt after ticks) lasts.now }
+{
+    lasts.iter().any(|ticks| after < *ticks)
+}
+
+// How far into a stage an element comes, where the stage lasts longer.
+fn within_stage(path: Path, lasts: &[u32], after: u32) -> Result<u32, DocumentFault>
+    ensures { result ≡ within_stage path lasts.now after }
+{
+    if is_longer(lasts, after) {
+        Ok(after)
+    } else {
+        Err(DocumentFault::Range(path))
+    }
+}
+
+// An element at terminal k, as `z1` or `z1 +12 ms`, in a stage that lasts so long.
 #[tactic(auto, unfolding(crate::specs::study::Shows::shown_in))]
 fn shown(
     upward: bool,
     units: Units,
+    lasts: &[u32],
     k: u32,
     path: Path,
     value: &Value,
 ) -> Result<Shown, DocumentFault>
     requires { 0 < units.tick_us }
-    ensures { result ≡ shown_in upward units k path (view value.now) }
+    ensures { result ≡ shown_in upward units lasts.now k path (view value.now) }
 {
     let text = text_of(path, value)?;
     let element = element_in(path, before_space(text))?;
-    let after = shift(upward, units, path, behind_space(text))?;
+    let shift = shift(upward, units, path, behind_space(text))?;
+    let after = within_stage(path, lasts, shift)?;
     Ok(Shown {
         what: What::Element(Place {
             element,
@@ -109,6 +130,7 @@ fn shown(
 fn push_shown(
     upward: bool,
     units: Units,
+    lasts: &[u32],
     k: u32,
     path: Path,
     items: &[Value],
@@ -116,10 +138,10 @@ fn push_shown(
 ) -> Result<(), Stopped<DocumentFault>>
     requires { 0 < units.tick_us }
     ensures { Becomes result shows.new.items
-        (all_shown upward units k path 0 (items_view items.now) shows.old.items) }
+        (all_shown upward units lasts.now k path 0 (items_view items.now) shows.old.items) }
 {
     for (i, value) in items.iter().enumerate() {
-        let shown = shown(upward, units, k, path.item(i), value)?;
+        let shown = shown(upward, units, lasts, k, path.item(i), value)?;
         shows.push(shown)?;
     }
     Ok(())
@@ -130,6 +152,7 @@ fn push_shown(
 fn push_terminal(
     upward: bool,
     units: Units,
+    lasts: &[u32],
     path: Path,
     table: &Table,
     k: u32,
@@ -139,18 +162,20 @@ fn push_terminal(
     requires tick { 0 < units.tick_us }
     requires plain { is_plain_name terminal.name ≡ true }
     ensures { Becomes result shows.new.items
-        (terminal_shows upward units path (table_view table.now) k terminal shows.old.items) }
+        (terminal_shows upward units lasts.now path (table_view table.now) k terminal
+        shows.old.items) }
 {
     let name = terminal.name.plain_text();
     let path = path.key(name.as_bytes());
     let items = optional_items(path, find(table, name))?;
-    push_shown(upward, units, k, path, items, shows)
+    push_shown(upward, units, lasts, k, path, items, shows)
 }
 
 // What the terminals see.
 fn push_terminals(
     upward: bool,
     units: Units,
+    lasts: &[u32],
     path: Path,
     table: &Table,
     terminals: &[Terminal],
@@ -160,11 +185,13 @@ fn push_terminals(
     requires plain { are_plain_names terminals.now ≡ true }
     requires few { length terminals.now ≤ 3 }
     ensures { Becomes result shows.new.items
-        (terminals_show upward units path (table_view table.now) 0 terminals.now
+        (terminals_show upward units lasts.now path (table_view table.now) 0 terminals.now
         shows.old.items) }
 {
     for (k, terminal) in terminals.iter().enumerate() {
-        push_terminal(upward, units, path, table, k as u32, *terminal, shows)?;
+        push_terminal(
+            upward, units, lasts, path, table, k as u32, *terminal, shows,
+        )?;
     }
     Ok(())
 }
@@ -201,23 +228,33 @@ fn push_lost(
     Ok(())
 }
 
-/// What a stage shows: what the terminals see, in the order of the line, and the channels that are
-/// lost.
+/// What a stage that lasts so long shows: what the terminals see, in the order of the line, and the
+/// channels that are lost. `Range` comes of an element that comes only when the stage has ended, with
+/// each value of its sweep.
 #[tactic(auto, unfolding(crate::specs::study::Shows::shows_of))]
 pub fn shows(
     alloc: Global,
     upward: bool,
     units: Units,
     line: &Line,
+    lasts: &[u32],
     path: Path,
     table: &Table,
 ) -> Result<Vec<Shown>, Stopped<DocumentFault>>
     requires { 0 < units.tick_us }
     ensures { Gives (λ v. v.items) result
-        (shows_of upward units (line_values line.now) path (table_view table.now)) }
+        (shows_of upward units (line_values line.now) lasts.now path (table_view table.now)) }
 {
     let mut shows = Vec::new(alloc);
-    push_terminals(upward, units, path, table, &line.terminals, &mut shows)?;
+    push_terminals(
+        upward,
+        units,
+        lasts,
+        path,
+        table,
+        &line.terminals,
+        &mut shows,
+    )?;
     let path = path.key(b"lost");
     let items = optional_items(path, find(table, "lost"))?;
     push_lost(line, path, items, &mut shows)?;

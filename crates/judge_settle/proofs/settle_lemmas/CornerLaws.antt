@@ -1,18 +1,14 @@
--- What is shown over the declared box: where one timing decides, what every choice meets; and never what has
--- another verdict than yes.
-use Rattle.std.proofs.Common.{◌≡◌, ◌<◌, ℕ, refl}
+-- What is shown over the declared box where one timing decides: what every choice meets.
+use Rattle.std.proofs.Common.{◌<◌, ℕ}
 use Rattle.model_line.specs.{declared.line.Line.Line, declared.script.Script.Script}
 use Rattle.model_line.specs.Parameters.{terminal_count}
 use Rattle.model_logic.specs.Choice.{Choice, declared_box}
-use Rattle.model_logic.specs.Histories.{IsPairHistory, PairHistory}
+use Rattle.model_logic.specs.Histories.{PairHistory}
 use Rattle.model_logic.specs.Laws.{LineLaws}
 use Rattle.model_logic.specs.Obligations.{EveryChoiceMeets}
 use Rattle.model_settle.specs.{Worst.deciding, Worst.worst_choice}
 use Rattle.model_settle.specs.Schemes.{IsOneRailedBy, TheWorstChoiceDecides, scheme_sides}
 use Rattle.model_logic.specs.HeldOver.{IsHeldOver}
-use Rattle.judge_verdict.specs.declared.verdict.verdict.Verdict.{Verdict}
-use Rattle.judge_verdict.specs.declared.verdict.verdict.Verdict.TheVariants.{Yes, No, Undecided}
-use Rattle.judge_verdict.specs.verdict.Verdicts.{IsRuleHeld, IsVerdict}
 
 pub met_is_held : LineLaws → TheWorstChoiceDecides → (line : Line) (script : Script) (k : ℕ)
     → script.deadline < line.horizon → k < terminal_count line → IsOneRailedBy line.scheme line
@@ -28,19 +24,3 @@ met_is_held lines worst line script k early there railed meets = record {
       ((worst.meets line script w history.0 k early railed is_w history.1 there).0
       (meets choice history.0 inside history.1));
 }
-
-rule_not_held : (line : Line) (script : Script) (k : ℕ) (w : PairHistory) (verdict : Verdict)
-    → IsVerdict line script k w verdict → ¬ (verdict ≡ Yes) → ¬ (IsRuleHeld line script k w)
-rule_not_held line script k w Yes is other = absurd (other refl)
-rule_not_held line script k w (No timing) is other = is.not_held
-rule_not_held line script k w Undecided is other = is.not_held
-
--- where the verdict is not yes, the interval rules do not hold the obligation over the declared box
-pub not_yes_not_held : LineLaws → (line : Line) (script : Script) (k : ℕ) (verdict : Verdict)
-    → ((w : PairHistory) → IsPairHistory line script (declared_box line) w
-    → IsVerdict line script k w verdict)
-    → ¬ (verdict ≡ Yes) → ¬ (IsHeldOver line script k (declared_box line))
-not_yes_not_held lines line script k verdict said other held =
-    let (w, is_w) =
-    lines.interval_histories.exists line script (declared_box line) (lines.inside.declared line) in
-    rule_not_held line script k w verdict (said w is_w) other (held.held w is_w)

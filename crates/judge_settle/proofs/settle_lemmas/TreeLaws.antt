@@ -4,15 +4,15 @@ use Rattle.std.proofs.Common.{subst, sym, arith}
 use Rattle.std.specs.Prelude.{◌&&◌}
 use Rattle.model_line.specs.{declared.line.Line.Line, declared.script.Script.Script}
 use Rattle.model_logic.specs.Choice.{Box}
-use Rattle.model_settle.specs.Assumed.{Assumption}
-use Rattle.model_settle.specs.CaseTrees.{CaseTree, Yes, Undecided, Split, Case, are_yes}
+use Rattle.model_settle.specs.Assumed.{Assumption, Throughout, Interrupted, Span}
+use Rattle.model_settle.specs.CaseTrees.{CaseTree, Yes, Undecided, Parted, Wanted, are_yes}
 use Rattle.model_settle.specs.CaseTrees.{IsShownUnder, AreSound}
-use Rattle.model_settle.specs.CaseTrees.{with_case}
-use Rattle.model_logic.specs.Boxes.{lower_half, upper_half}
+use Rattle.model_settle.specs.Parts.{upper_from}
+use Rattle.model_logic.specs.Boxes.{lower_half}
 use Rattle.judge_ahead.specs.declared.cuts.Cut.{Cut}
 use Rattle.judge_ahead.specs.declared.cuts.Cut.TheVariants as cut
 use Rattle.judge_cases.specs.Nodes.{preorder}
-use Rattle.judge_cases.specs.Views.{Views, IsView, view_box}
+use Rattle.judge_cases.specs.{AssumedAt.span_at, Views.Views, Views.IsView, Views.view_box}
 use Rattle.judge_cases.specs.declared.node.CaseNode.{CaseNode}
 use Rattle.judge_cases.specs.declared.node.CaseNode.TheVariants as node
 use Rattle.judge_cases.specs.declared.view.View.{View}
@@ -30,23 +30,23 @@ either_way true false = refl
 either_way false true = refl
 either_way false false = refl
 
--- each split and each pair of cases of a sound tree can be made
+-- each part and each pair of cases of a sound tree can be made
 pub branches_of : (line : Line) (script : Script) (k : ℕ) (box : Box) (assumed : List Assumption)
     (tree : CaseTree) → AreSound line script k box assumed tree → Branches line box tree
 branches_of line script k box assumed Yes sound = tt
 branches_of line script k box assumed Undecided sound = tt
-branches_of line script k box assumed (Split param mid first second) sound = (
+branches_of line script k box assumed (Parted param mid lower upper) sound = (
   sound.0,
   (
-    branches_of line script k (lower_half box param mid) assumed first sound.1.0,
-    branches_of line script k (upper_half box param mid) assumed second sound.1.1,
+    branches_of line script k (lower_half box param mid) assumed lower sound.1.0,
+    branches_of line script k (upper_from box param mid) assumed upper sound.1.1,
   ),
 )
-branches_of line script k box assumed (Case terminal tick off on) sound = (
+branches_of line script k box assumed (Wanted span throughout interrupted) sound = (
   sound.0,
   (
-    branches_of line script k box (with_case assumed terminal tick false) off sound.1.0,
-    branches_of line script k box (with_case assumed terminal tick true) on sound.1.1,
+    branches_of line script k box (Throughout span ∷ assumed) throughout sound.1.0,
+    branches_of line script k box (Interrupted span ∷ assumed) interrupted sound.1.1,
   ),
 )
 
@@ -94,33 +94,31 @@ module _ (line : Line) (script : Script) (k : ℕ) (view : View) where
       → g.yes ≡ (a.yes && b.yes) → AreSides line view cut first second
       → IsGrownOver line script k s first a → IsGrownOver line script k t second b
       → IsGrownOver line script k size view g
-  sides_joined size s t room (cut.Split param mid) first second g a b is told sides below above box
+  sides_joined size s t room (cut.Parted param mid) first second g a b is told sides below above box
       assumed v =
       let one = below (lower_half box param mid) assumed (sides.lower box assumed v) in
-      let other = above (upper_half box param mid) assumed (sides.upper box assumed v) in
+      let other = above (upper_from box param mid) assumed (sides.upper box assumed v) in
       record {
-        tree = Split param mid one.tree other.tree;
+        tree = Parted param mid one.tree other.tree;
         nodes = is
-            ∙ ap (λ (xs : List CaseNode). node.Split param mid ∷ (xs ++ b.nodes.items)) one.nodes
-            ∙ ap (λ (ys : List CaseNode). node.Split param mid ∷ (preorder one.tree ++ ys))
+            ∙ ap (λ (xs : List CaseNode). node.Parted param mid ∷ (xs ++ b.nodes.items)) one.nodes
+            ∙ ap (λ (ys : List CaseNode). node.Parted param mid ∷ (preorder one.tree ++ ys))
             other.nodes;
         yes = told ∙ ap (λ (x : Bool). x && b.yes) one.yes
             ∙ ap (λ (y : Bool). are_yes one.tree && y) other.yes;
         sound = (sides.can box assumed v, (one.sound, other.sound));
         small = record { low = omega arith; few = omega arith };
       }
-  sides_joined size s t room (cut.Case case) first second g a b is told sides below above box
+  sides_joined size s t room (cut.Wanted over) first second g a b is told sides below above box
       assumed v =
-      let terminal : ℕ = case.terminal in
-      let tick : ℕ = case.tick in
-      let one = below box (with_case assumed terminal tick false) (sides.off box assumed v) in
-      let other = above box (with_case assumed terminal tick true) (sides.on box assumed v) in
+      let span : Span = span_at over.terminal over.from over.to in
+      let root : CaseNode = node.Wanted over.terminal over.from over.to in
+      let one = below box (Throughout span ∷ assumed) (sides.throughout box assumed v) in
+      let other = above box (Interrupted span ∷ assumed) (sides.interrupted box assumed v) in
       record {
-        tree = Case terminal tick one.tree other.tree;
-        nodes = is
-            ∙ ap (λ (xs : List CaseNode). node.Case terminal tick ∷ (xs ++ b.nodes.items)) one.nodes
-            ∙ ap (λ (ys : List CaseNode). node.Case terminal tick ∷ (preorder one.tree ++ ys))
-            other.nodes;
+        tree = Wanted span one.tree other.tree;
+        nodes = is ∙ ap (λ (xs : List CaseNode). root ∷ (xs ++ b.nodes.items)) one.nodes
+            ∙ ap (λ (ys : List CaseNode). root ∷ (preorder one.tree ++ ys)) other.nodes;
         yes = told ∙ ap (λ (x : Bool). x && b.yes) one.yes
             ∙ ap (λ (y : Bool). are_yes one.tree && y) other.yes;
         sound = (sides.can, (one.sound, other.sound));
@@ -152,13 +150,13 @@ module _ (line : Line) (script : Script) (k : ℕ) (view : View) where
 pub sides_are_views : (line : Line) (view : View) (cut : Cut) (first second : View)
     → IsView line view → AreSides line view cut first second
     → IsView line first × IsView line second
-sides_are_views line view (cut.Split param mid) first second is sides = (
+sides_are_views line view (cut.Parted param mid) first second is sides = (
   (sides.lower (view_box line view) view.assumed.items (own_view line view is)).is,
   (sides.upper (view_box line view) view.assumed.items (own_view line view is)).is,
 )
-sides_are_views line view (cut.Case case) first second is sides = (
-  (sides.off (view_box line view) view.assumed.items (own_view line view is)).is,
-  (sides.on (view_box line view) view.assumed.items (own_view line view is)).is,
+sides_are_views line view (cut.Wanted over) first second is sides = (
+  (sides.throughout (view_box line view) view.assumed.items (own_view line view is)).is,
+  (sides.interrupted (view_box line view) view.assumed.items (own_view line view is)).is,
 )
 
 pub ordered_views : (line : Line) (first second one other : Branch) (turned : Bool)

@@ -7,19 +7,20 @@ use Rattle.model_settle.specs.Schemes.{IsOneRailedBy}
 use Rattle.judge_cases.specs.Nodes.{preorder}
 use Rattle.judge_cases.specs.declared.node.CaseNode.{CaseNode}
 use Rattle.judge_cases.specs.Trees.{AreTree}
-use Rattle.judge_settle.specs.settle.{Times.IsHeldFor, Times.times_of, Trees.IsFailing}
+use Rattle.model_fine.specs.Fine.{EveryFineChoiceMeets}
+use Rattle.judge_settle.specs.settle.Trees.{IsFailing}
 use Rattle.judge_settle.specs.declared.settle.answer.Answer.{Answer}
 use Rattle.judge_settle.specs.declared.settle.answer.Answer.TheVariants.{Held, Fails, Open}
 
--- the nodes are those of a tree that is sound over the declared box, and each leaf is yes; so the
--- obligation is held for the times that the tree speaks of; a text of settled trees can have this tree
+-- the nodes are those of a tree that is sound over the declared box, and each leaf is yes; so every
+-- choice of fractions meets the obligation; a text of settled trees can have this tree
 pub record IsHeldTree (line : Line) (script : Script) (k : ℕ) (nodes : List CaseNode)
     : Type 0 where
   pub tree : CaseTree
   pub are : nodes ≡ preorder tree
   pub sound : AreSound line script k (declared_box line) [] tree
   pub yes : IsTrue (are_yes tree)
-  pub held : IsHeldFor line script k (times_of nodes)
+  pub meets : EveryFineChoiceMeets line script k
   pub written : AreTree line nodes
 
 -- they are those of a sound tree of which some leaf is undecided, which a text of settled trees can

@@ -7,8 +7,8 @@ use Rattle.judge_cases.specs.declared.node.CaseNode.TheVariants as node
 
 -- the node of a cut
 abbrev pub node_of : Cut → CaseNode
-node_of (cut.Split param mid) = node.Split param mid
-node_of (cut.Case case) = node.Case case.terminal case.tick
+node_of (cut.Parted param mid) = node.Parted param mid
+node_of (cut.Wanted span) = node.Wanted span.terminal span.from span.to
 
 abbrev pub leaf_of : Bool → CaseNode
 leaf_of true = node.Yes

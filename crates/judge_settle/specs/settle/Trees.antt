@@ -21,7 +21,7 @@ pub record IsFailing (line : Line) (script : Script) (k : ℕ) (timing : TimingV
   pub ascending : IsTrue (ascend timing.steps)
   pub fails : FailsAt line script k timing
 
--- how many splits and cases may stand above one another, and how many may be in a tree
+-- how many parts and pairs of cases may stand above one another, and how many may be in a tree
 pub record Size : Type 0 where
   pub depth : ℕ
   pub cuts : ℕ

@@ -1,8 +1,7 @@
 //! Answers.
 
 ghost use Rattle.std.specs.Prelude.{◌≡◌};
-ghost use Rattle.judge_settle.specs.settle.Times.{times_of as times_of_tree};
-ghost use Rattle.judge_settle.specs.settle.Words.{by_word as word_of_by, times_word as word_of_times};
+ghost use Rattle.judge_settle.specs.settle.Words.{by_word as word_of_by};
 
 use judge_cases::CaseNode;
 use model_timing::Timing;
@@ -10,12 +9,12 @@ use model_timing::Timing;
 /// What is known of an obligation. A tree is given by its nodes in preorder.
 #[derive(Drop)]
 pub enum Answer {
-    /// Each leaf of the tree is yes: every choice inside meets the obligation, of whole ticks, and where
-    /// the tree is one leaf of fractions.
+    /// Each leaf of the tree is yes: every choice inside meets the obligation, of whole ticks and of
+    /// fractions.
     Held(Vec<CaseNode>),
     /// The timing, which may have steps, is inside, and its history fails it.
     Fails(Timing),
-    /// The budget was spent, or nothing was left to split: some leaf is undecided.
+    /// The budget was spent, or nothing was left to cut: some leaf is undecided.
     Open(Vec<CaseNode>),
 }
 
@@ -44,35 +43,6 @@ pub fn by_word(by: By) -> &'static [u8]
         By::Corner => b"corner",
         By::Parts => b"parts",
         By::Cases => b"cases",
-    }
-}
-
-/// Of which times an answer that is held speaks.
-#[derive(Clone, Copy)]
-pub enum Times {
-    /// Every fraction of a tick: the interval rules hold it over the declared intervals.
-    All,
-    /// Whole ticks alone: it is held by parts of the intervals or by cases of echoes.
-    Ticks,
-}
-
-/// Of which times an answer that is held speaks, by its tree: of all where that is one leaf.
-pub fn times_of(nodes: &[CaseNode]) -> Times
-    ensures { result ≡ times_of_tree nodes.now }
-{
-    match nodes {
-        [CaseNode::Yes] => Times::All,
-        _ => Times::Ticks,
-    }
-}
-
-/// The word for these times, as tables have it.
-pub fn times_word(times: Times) -> &'static [u8]
-    ensures { result.now ≡ word_of_times times }
-{
-    match times {
-        Times::All => b"all",
-        Times::Ticks => b"ticks",
     }
 }
 

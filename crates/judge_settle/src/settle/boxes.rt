@@ -8,8 +8,8 @@ use crate::settle::budget::Budget;
 use crate::settle::play::fails;
 use crate::settle::sides::Branch;
 use judge_ahead::{
-    Assumed, CANDIDATES, Case, Chosen, Cut, Scene, Side, choose, cuts_beside, cuts_of, failing,
-    side_of,
+    Assumed, CANDIDATES, Chosen, Cut, Scene, Side, Span, choose, cuts_of, failing, side_of,
+    spans_of,
 };
 use judge_cases::View;
 use model_line::Memory;
@@ -31,14 +31,14 @@ pub fn side_in(
     side_of(alloc, scene, &view.ends, &assumed)
 }
 
-/// A timing of the box that fails the obligation, if one of its candidates does. After a case none
-/// is tried, since the box is as before.
+/// A timing of the box that fails the obligation, if one of its candidates does. Where the last cut
+/// told two cases apart none is tried, since the box is as before.
 pub fn failing_in(
     alloc: Global,
     compiled: &Compiled<'_>,
     scene: &Scene,
     view: &View,
-    last: Option<Case>,
+    same: bool,
     budget: &mut Budget,
 ) -> Result<Option<Timing>, Memory>
     requires { CanSearch compiled.now.line.now scene.now.script.now
@@ -47,7 +47,7 @@ pub fn failing_in(
         IsFailing compiled.now.line.now scene.now.script.now scene.now.terminal timing)) }
     ensures cuts { budget.new.cuts ≡ budget.old.cuts }
 {
-    if last.is_some() {
+    if same {
         return Ok(None);
     }
     budget.count(CANDIDATES);
@@ -61,25 +61,25 @@ pub fn failing_in(
     Ok(None)
 }
 
-/// Where to cut a view, if that helps: at a tick beside the last case if that settles a side, else
-/// wherever it helps most.
+/// Where to cut a view, if that helps: at a span that settles a side, else wherever it helps most.
 pub fn choose_in(
     alloc: Global,
     scene: &Scene,
     branch: &Branch,
-    last: Option<Case>,
     budget: &mut Budget,
 ) -> Result<Option<Chosen>, Memory>
     ensures { IfOk result (λ chosen. MatchOption chosen (budget.new.cuts ≡ budget.old.cuts)
         (λ _. budget.new.cuts ≡ budget.old.cuts - 1)) }
 {
-    let cuts = cuts_of(alloc, scene, &branch.view.ends, &branch.side.cases)?;
-    if let Some(case) = last {
-        let near = cuts_beside(alloc, &cuts, case)?;
-        if let Some(chosen) = choose_among(alloc, scene, branch, &near, true, budget)? {
-            return Ok(Some(chosen));
-        }
+    let ends = &branch.view.ends;
+    let stretches = &branch.side.stretches;
+    let assumed = assumed_in(alloc, &branch.view)?;
+    let spans = spans_of(alloc, scene, ends, &assumed, stretches)?;
+    budget.count(spans.analyses);
+    if let Some(chosen) = choose_among(alloc, scene, branch, &spans.cuts, true, budget)? {
+        return Ok(Some(chosen));
     }
+    let cuts = cuts_of(alloc, scene, ends, stretches)?;
     choose_among(alloc, scene, branch, &cuts, false, budget)
 }
 
@@ -106,7 +106,7 @@ fn choose_among(
     let Some(chosen) = choose(alloc, scene, ends, &assumed, cuts, score, settling)? else {
         return Ok(None);
     };
-    budget.cut(matches!(chosen.cut, Cut::Case(_)));
+    budget.cut(matches!(chosen.cut, Cut::Wanted(_)));
     Ok(Some(chosen))
 }
 
@@ -114,14 +114,9 @@ fn choose_among(
 fn assumed_in(alloc: Global, view: &View) -> Result<Vec<Assumed>, Memory> {
     let mut all = Vec::with_capacity(alloc, view.assumed.len())?;
     for one in &view.assumed {
-        let case = Case {
-            terminal: one.terminal(),
-            tick: one.tick(),
-        };
-        all.push(Assumed {
-            case,
-            level: one.level(),
-        })?;
+        let (terminal, from, to, throughout) = one.parts();
+        let span = Span { terminal, from, to };
+        all.push(Assumed { span, throughout })?;
     }
     Ok(all)
 }

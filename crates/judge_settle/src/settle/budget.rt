@@ -3,8 +3,8 @@
 ghost use Rattle.std.specs.Prelude.{◌≡◌, ◌<◌, ◌-◌, IsFalse};
 ghost use Rattle.judge_cases.specs.Trees.{most_branches};
 
-/// How many analyses of boxes and timings are made at most, and were made; how many splits and
-/// cases may still be made; and whether a split or a case was made.
+/// How many analyses of boxes and timings are made at most, and were made; how many parts and
+/// pairs of cases may still be made; and whether one of them was made.
 #[derive(Clone, Copy)]
 pub struct Budget {
     pub analyses: u32,

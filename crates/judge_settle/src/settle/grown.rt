@@ -59,10 +59,11 @@ fn node(cut: Cut) -> CaseNode
     ensures { result ≡ node_of cut }
 {
     match cut {
-        Cut::Split { param, mid } => CaseNode::Split { param, mid },
-        Cut::Case(case) => CaseNode::Case {
-            terminal: case.terminal,
-            tick: case.tick,
+        Cut::Parted { param, mid } => CaseNode::Parted { param, mid },
+        Cut::Wanted(span) => CaseNode::Wanted {
+            terminal: span.terminal,
+            from: span.from,
+            to: span.to,
         },
     }
 }

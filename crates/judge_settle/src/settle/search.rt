@@ -10,7 +10,7 @@ use crate::settle::budget::Budget;
 use crate::settle::grown::{Grown, join, leaf};
 use crate::settle::leaves::taken_leaf;
 use crate::settle::sides::{Branch, Branches, branches_of};
-use judge_ahead::{Case, Cut, Scene};
+use judge_ahead::{Cut, Scene};
 use judge_cases::View;
 use model_line::Memory;
 use model_timing::Timing;
@@ -26,14 +26,14 @@ pub enum Found {
 
 /// Searches a view: it is cut in two, at most `depth` times above one another, until each part is
 /// taken to be shown or the budget is spent. What has to be shown is added to the leaves. A timing
-/// that fails ends the search. `last` is the case that was told apart last, if that was the last
-/// cut.
+/// that fails ends the search. `same` says that the last cut told two cases apart, so that the box is
+/// as before.
 pub fn search_view(
     alloc: Global,
     compiled: &Compiled<'_>,
     scene: &Scene,
     branch: Branch,
-    last: Option<Case>,
+    same: bool,
     depth: u32,
     budget: &mut Budget,
     leaves: &mut Vec<View>,
@@ -57,10 +57,10 @@ pub fn search_view(
     if depth == 0 || budget.is_spent() {
         return Ok(Found::Tree(leaf(alloc, false)?));
     }
-    if let Some(timing) = failing_in(alloc, compiled, scene, &branch.view, last, budget)? {
+    if let Some(timing) = failing_in(alloc, compiled, scene, &branch.view, same, budget)? {
         return Ok(Found::Fails(timing));
     }
-    let Some(chosen) = choose_in(alloc, scene, &branch, last, budget)? else {
+    let Some(chosen) = choose_in(alloc, scene, &branch, budget)? else {
         return Ok(Found::Tree(leaf(alloc, false)?));
     };
     let cut = chosen.cut;
@@ -72,7 +72,7 @@ pub fn search_view(
         worse,
         other,
     } = branches;
-    let next = case_of(cut);
+    let next = matches!(cut, Cut::Wanted(_));
     let worse_tree = match search_view(
         alloc,
         compiled,
@@ -101,12 +101,4 @@ pub fn search_view(
     };
     let tree = join(alloc, cut, turned, &worse_tree, &other_tree)?;
     Ok(Found::Tree(tree))
-}
-
-// The case that a cut tells apart.
-fn case_of(cut: Cut) -> Option<Case> {
-    match cut {
-        Cut::Split { .. } => None,
-        Cut::Case(case) => Some(case),
-    }
 }

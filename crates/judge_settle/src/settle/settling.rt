@@ -1,6 +1,6 @@
 //! The answer to an obligation.
 
-ghost use Rattle.std.specs.Prelude.{◌≡◌, ◌<◌, ◌≤◌, ◌↔◌, ℕ, [], None, IfOk, IfSome, IsTrue};
+ghost use Rattle.std.specs.Prelude.{◌≡◌, ◌<◌, ◌≤◌, ◌↔◌, ℕ, [], IfOk, IfSome, IsTrue};
 ghost use Rattle.model_line.specs.{declared.line.Line.Line, declared.script.Script.Script};
 ghost use Rattle.model_line.specs.{Fits.Fits, Parameters.terminal_count};
 ghost use Rattle.model_logic.specs.Choice.{declared_box};
@@ -23,11 +23,12 @@ use crate::settle::sides::Branch;
 use judge_ahead::Scene;
 use judge_cases::declared_view;
 use judge_verdict::verdict::{Verdict, certify};
-use model_fine::fine_laws::{what_is_held_is_met_between_ticks, whole_ticks_are_the_case_of_one};
+use model_fine::fine_laws::what_is_held_is_met_between_ticks;
+use model_fine::span_laws::sound_trees_meet;
 use model_line::laws::deadlines_are_below_the_horizon;
 use model_line::{Line, Memory, Script};
-use model_logic::laws::{each_line_has_a_choice_inside, line_laws};
-use model_settle::case_laws::{each_box_has_one_history_under, sound_trees_meet};
+use model_logic::laws::line_laws;
+use model_settle::case_laws::each_box_has_one_history_under;
 use model_settle::polarity_laws::the_worst_choice_decides;
 use model_timing::Timing;
 use net_gates::Compiled;
@@ -38,7 +39,7 @@ const DEPTH: u32 = 1024;
 
 /// Settles the obligation of a script at a terminal: by the worst corner where the line's scheme
 /// makes every trip one-railed; else by the interval rules, by candidates, and by a search that
-/// splits the declared box and tells cases of echoes apart, until so many analyses were made.
+/// parts the declared box and tells cases of echoes apart, until so many analyses were made.
 pub fn settle(
     alloc: Global,
     compiled: &Compiled<'_>,
@@ -72,7 +73,7 @@ pub fn settle(
         compiled,
         &scene,
         root,
-        None,
+        false,
         DEPTH,
         &mut budget,
         &mut leaves,
@@ -125,7 +126,6 @@ fn held_at_once(alloc: Global) -> Result<Settled, Memory>
 {
     each_box_has_one_history_under();
     what_is_held_is_met_between_ticks();
-    whole_ticks_are_the_case_of_one();
     let tree = leaf(alloc, true)?;
     Ok(Settled {
         answer: Answer::Held(tree.nodes),
@@ -135,7 +135,7 @@ fn held_at_once(alloc: Global) -> Result<Settled, Memory>
 }
 
 // The answer of the interval rules over the declared box, or of the first of the line's candidates
-// that fails the obligation, if one of them settles it; else the rules do not hold it.
+// that fails the obligation, if one of them settles it.
 fn by_certificate(
     alloc: Global,
     compiled: &Compiled<'_>,
@@ -144,10 +144,8 @@ fn by_certificate(
 ) -> Result<Option<Settled>, Memory>
     requires fits { Fits compiled.now.line.now script.now }
     requires terminal { terminal < terminal_count compiled.now.line.now }
-    ensures answer { IfOk result (λ found. IfSome found (λ settled.
+    ensures { IfOk result (λ found. IfSome found (λ settled.
         IsAnswer compiled.now.line.now script.now terminal settled.answer)) }
-    ensures not_held { IfOk result (λ found. found ≡ None → ¬ (IsHeldOver compiled.now.line.now
-        script.now terminal (declared_box compiled.now.line.now))) }
 {
     line_laws();
     let said = certify(alloc, compiled, script)?;
@@ -179,14 +177,11 @@ fn is_yes(verdict: &Verdict) -> bool
 fn answer_of(found: Found) -> Answer
     ensures { (line : Line) (script : Script) (k : ℕ) (size : Size) (view : View) →
         script.deadline < line.horizon → k < terminal_count line →
-        ¬ (IsOneRailedBy line.scheme line) →
-        ¬ (IsHeldOver line script k (declared_box line)) → Views line (declared_box line) [] view →
+        ¬ (IsOneRailedBy line.scheme line) → Views line (declared_box line) [] view →
         size.depth ≤ size_of_text.depth → size.cuts ≤ size_of_text.cuts →
         IsFound line script k size view found → IsAnswer line script k result }
 {
     sound_trees_meet();
-    each_box_has_one_history_under();
-    each_line_has_a_choice_inside();
     match found {
         Found::Fails(timing) => Answer::Fails(timing),
         Found::Tree(tree) => {

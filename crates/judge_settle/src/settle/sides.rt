@@ -2,11 +2,12 @@
 
 ghost use Rattle.std.specs.Prelude.{IfOk, IfSome};
 ghost use Rattle.judge_cases.specs.Views.{IsView};
-ghost use Rattle.judge_settle.specs.settle.Sides.{AreSides, AreHalves, AreBothCases, AreOrdered};
+ghost use Rattle.judge_settle.specs.settle.Sides.{AreSides, AreParts, AreBothCases, AreOrdered};
 ghost use Rattle.judge_settle.specs.settle.Sides.{AreBranches};
+ghost use Rattle.judge_cases.specs.AssumedAt.{span_at};
 
-use judge_ahead::{Case, Chosen, Cut, Side};
-use judge_cases::{View, can_split, case_view, has_cases, lower_view, upper_view};
+use judge_ahead::{Chosen, Cut, Side, Span};
+use judge_cases::{Assumed, View, assumed_view, can_part, has_span, lower_view, upper_view};
 use model_line::{Line, Memory};
 use std::alloc::Global;
 
@@ -72,13 +73,13 @@ fn sides_of(alloc: Global, line: &Line, view: &View, cut: Cut) -> Result<Option<
         AreSides line.now view.now cut s.first s.second)) }
 {
     match cut {
-        Cut::Split { param, mid } => halves(alloc, line, view, param, mid),
-        Cut::Case(case) => cases(alloc, line, view, case),
+        Cut::Parted { param, mid } => parts(alloc, line, view, param, mid),
+        Cut::Wanted(span) => cases(alloc, line, view, span),
     }
 }
 
-// Both halves of a box, if it can be split there.
-fn halves(
+// Both parts of a box, if it can be parted there.
+fn parts(
     alloc: Global,
     line: &Line,
     view: &View,
@@ -87,9 +88,9 @@ fn halves(
 ) -> Result<Option<BothSides>, Memory>
     requires { IsView line.now view.now }
     ensures { IfOk result (λ sides. IfSome sides (λ s.
-        AreHalves line.now view.now param mid s.first s.second)) }
+        AreParts line.now view.now param mid s.first s.second)) }
 {
-    if !can_split(line, view, param, mid) {
+    if !can_part(line, view, param, mid) {
         return Ok(None);
     }
     let lower = lower_view(alloc, line, view, param, mid)?;
@@ -101,19 +102,19 @@ fn halves(
 }
 
 // Both cases, if they can be told apart there.
-fn cases(alloc: Global, line: &Line, view: &View, case: Case) -> Result<Option<BothSides>, Memory>
+fn cases(alloc: Global, line: &Line, view: &View, span: Span) -> Result<Option<BothSides>, Memory>
     ensures { IfOk result (λ sides. IfSome sides (λ s.
-        AreBothCases line.now view.now case.terminal case.tick s.first s.second)) }
+        AreBothCases line.now view.now (span_at span.terminal span.from span.to) s.first s.second)) }
 {
-    if !has_cases(line, case.terminal, case.tick) {
+    let Span { terminal, from, to } = span;
+    if !has_span(line, terminal, from, to) {
         return Ok(None);
     }
-    let off = case_view(alloc, line, view, case.terminal, case.tick, false)?;
-    let on = case_view(alloc, line, view, case.terminal, case.tick, true)?;
-    Ok(Some(BothSides {
-        first: off,
-        second: on,
-    }))
+    let throughout = Assumed::new(terminal, from, to, true);
+    let interrupted = Assumed::new(terminal, from, to, false);
+    let first = assumed_view(alloc, line, view, throughout)?;
+    let second = assumed_view(alloc, line, view, interrupted)?;
+    Ok(Some(BothSides { first, second }))
 }
 
 // The branch that is further from meeting the obligation, then the other.

@@ -13,7 +13,7 @@ returns-in_err-loaded c =
     let bytes = c.args.bytes.now in
     let ask = c.args.ask.now in
     rw (p.1, p.2) (load_halts bytes
-    (answer_by (map_of ask.form ask.x.now (option_copied ask.y) (given_of bytes)))
+    (answer_by (map_of ask.form ask.x.now (option_copied ask.y) ask.made.now (given_of bytes)))
     c.in_err-loaded.field-0.0 c.in_err-loaded.ensures
     (λ why. given_refused bytes _ _ _ why (refl, refl)))
 
@@ -23,8 +23,8 @@ returns c =
     let loaded = c.in_ok-loaded.loaded in
     let ask = c.args.ask.now in
     gives_wider
-    (answer_by (map_of ask.form ask.x.now (option_copied ask.y) (as_read (studied loaded))))
-    (answer_by (map_of ask.form ask.x.now (option_copied ask.y) (given_of bytes)))
+    (answer_by (map_of ask.form ask.x.now (option_copied ask.y) ask.made.now (as_read (studied loaded))))
+    (answer_by (map_of ask.form ask.x.now (option_copied ask.y) ask.made.now (given_of bytes)))
     c.map_over.result
     (λ end text said. given_read bytes loaded _ _ c.in_ok-loaded.ensures.0
     c.in_ok-loaded.ensures.1 said)

@@ -18,7 +18,7 @@ returns-in_err-said-in-None c =
     let ask = c.args.ask.now in
     let few : at_most 4096 (length loaded.study.scripts.items) ≡ None =
     (rw c.as_slice.ensures.value at (sym c.at_most.ensures)) ∙ c.in-None.is in
-    rw (p.1, p.2) (map_halts ask.form ask.x.now (option_copied ask.y) loaded
+    rw (p.1, p.2) (map_halts ask.form ask.x.now (option_copied ask.y) ask.made.now loaded
     c.in_err-said-in-None.field-0.0 _ few refl c.in_err-said-in-None.ensures.denied)
 
 pub returns-in_ok-said-in-None : goal.returns-in_ok-said-in-None

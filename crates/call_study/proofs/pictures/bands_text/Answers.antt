@@ -20,5 +20,5 @@ returns-clause-drawn c = record {
       c.in_ok-waves.ensures.history.only (pair_history c.in_ok-judged.judged)
       c.in_ok-judged.ensures.history.is;
   rules = c.in_ok-diagram.ensures.rules;
-  printed = c.in_ok-markup.ensures ∙ ap svg_of c.in_ok-drawn.ensures;
+  printed = c.in_ok-markup.ensures ∙ ap (svg_of c.args.made.now) c.in_ok-drawn.ensures;
 }

@@ -23,5 +23,5 @@ returns-clause-drawn c = record {
       steps c.args.which c.in_ok-diagram.diagram)
       c.steps.ensures.same c.in_ok-diagram.ensures.diagram;
   no_rules = c.in_ok-diagram.ensures.rules;
-  printed = c.in_ok-markup.ensures ∙ ap svg_of c.in_ok-drawn.ensures;
+  printed = c.in_ok-markup.ensures ∙ ap (svg_of c.args.made.now) c.in_ok-drawn.ensures;
 }

@@ -12,7 +12,7 @@ returns-in_err-loaded c =
     let p = err_from_is_err_and c.from_residual.result c.from_residual.ensures.1 in
     let bytes = c.args.bytes.now in
     rw (p.1, p.2) (load_halts bytes
-    (answer_by (bands_of c.args.which (given_of bytes) (option_copied c.args.script)))
+    (answer_by (bands_of c.args.which c.args.made.now (given_of bytes) (option_copied c.args.script)))
     c.in_err-loaded.field-0.0 c.in_err-loaded.ensures
     (λ why. given_refused bytes _ _ _ why (refl, refl)))
 
@@ -21,8 +21,8 @@ returns c =
     let bytes = c.args.bytes.now in
     let loaded = c.in_ok-loaded.loaded in
     gives_wider
-    (answer_by (bands_of c.args.which (as_read (studied loaded)) (option_copied c.args.script)))
-    (answer_by (bands_of c.args.which (given_of bytes) (option_copied c.args.script)))
+    (answer_by (bands_of c.args.which c.args.made.now (as_read (studied loaded)) (option_copied c.args.script)))
+    (answer_by (bands_of c.args.which c.args.made.now (given_of bytes) (option_copied c.args.script)))
     c.bands_over.result
     (λ end text said. given_read bytes loaded _ _ c.in_ok-loaded.ensures.0
     c.in_ok-loaded.ensures.1 said)

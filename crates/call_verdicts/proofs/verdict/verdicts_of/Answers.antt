@@ -2,7 +2,6 @@ use Rattle.std.proofs.Common.{◌++◌, [], List, ap, get_or, sym, ◌∙◌}
 use Rattle.std.specs.Prelude.{None}
 use Rattle.std.specs.List.{cons_option}
 use Rattle.judge_settle.specs.declared.settle.answer.By.TheVariants.{Rules}
-use Rattle.judge_settle.specs.declared.settle.answer.Times.TheVariants.{All}
 use Rattle.call_verdicts.specs.Faults.{verdict_at}
 use Rattle.call_verdicts.specs.declared.finding.Finding.{Finding}
 use Rattle.call_verdicts.specs.declared.finding.Standing.TheVariants.{Held}
@@ -13,7 +12,7 @@ use Rattle.call_verdicts.proofs.verdict.verdicts_of.Goals as goal
 pub loop-one-preserved : goal.loop-one-preserved
 loop-one-preserved c =
     let d : Finding =
-    record { script = 0; terminal = 0; standing = Held All; by = Rules; first_must = None } in
+    record { script = 0; terminal = 0; standing = Held; by = Rules; first_must = None } in
     c.in_ok-push_verdict.ensures
     ∙ ap (λ (vs : List Verdict).
     vs ++ cons_option (verdict_at c.args.scripts.now c.args.terminal

@@ -10,7 +10,7 @@ pub returns-clause-script : goal.returns-clause-script
 returns-clause-script c = λ line script results fits whole supported k result lt at.
     supported_told c.sound_trees_meet.ensures line script k result
     (c.deadlines_are_below_the_horizon.ensures line script fits)
-    (omega (arith, lt, whole)) (c.each_line_has_a_choice_inside.ensures.declared line)
+    (omega (arith, lt, whole))
     (supported k result lt at)
 
 pub returns-clause-text : goal.returns-clause-text

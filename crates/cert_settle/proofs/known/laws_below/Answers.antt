@@ -6,6 +6,4 @@ returns c = record {
   intervals = c.declared_intervals_are_in_order.ensures;
   delays = c.delays_are_parameters.ensures;
   names = c.parameters_have_names_of_their_own.ensures;
-  parts = c.a_part_stands_for_its_box.ensures;
-  middles = c.middles_are_below_the_greatest_interval.ensures;
 }

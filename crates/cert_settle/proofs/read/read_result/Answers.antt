@@ -1,6 +1,5 @@
 use Rattle.std.proofs.Common.{◌≡◌, List, [], ◌∷◌, ◌++◌, map, sym, ◌∙◌, ap, arith}
 use Rattle.std.proofs.lemmas.Result.{err_from_is_err_and}
-use Rattle.model_line.specs.SameLineLaws.{same_line}
 use Rattle.model_logic.specs.Choice.{Box, declared_box}
 use Rattle.base_text.specs.lines.LineLaws.{goes_one}
 use Rattle.base_text.specs.{lines.Reading.said_as, lines.ReadLaws.later_fault}
@@ -9,20 +8,23 @@ use Rattle.judge_cases.specs.Nodes.{preorder}
 use Rattle.cert_settle.specs.Grammar.{Stands, opens, result_over, says_node, after_node}
 use Rattle.cert_settle.specs.Grammar.{grammar_of, whole_over}
 use Rattle.judge_cases.specs.Trees.{most_branches}
+use Rattle.judge_cases.specs.Views.{view_box}
+use Rattle.cert_settle.proofs.NodeLaws.{own_box, over_box}
 use Rattle.cert_settle.proofs.TreeLaws.{whole_tree}
 use Rattle.cert_settle.proofs.read.read_result.Goals as goal
 
 pub returns-in_default : goal.returns-in_default
 returns-in_default c = λ later.
     let line = c.args.line.now in
-    let own = c.laws_below.ensures.parts.own line line (same_line line) in
+    let own = over_box line (declared_box line) [] c.in_ok-view.view c.in_ok-view.ensures in
     c.read_timing.ensures (declared_box line) later c.args.lines.now.rest.now c.in_ok-bytes.ensures.0
     (c.in_default.ensures (declared_box line) own)
 
 pub read_below-requires-clause-root : goal.read_below-requires-clause-root
 read_below-requires-clause-root c =
     let line = c.args.line.now in
-    (c.in-Some.ensures (declared_box line) (c.laws_below.ensures.parts.own line line (same_line line))).0
+    let view = c.in_ok-view.view in
+    (c.in-Some.ensures (view_box line view) (own_box line view c.in_ok-view.ensures.is)).0
 
 pub returns-in_err-read_below : goal.returns-in_err-read_below
 returns-in_err-read_below c =
@@ -32,7 +34,7 @@ returns-in_err-read_below c =
     let line = c.args.line.now in
     let box : Box = declared_box line in
     let root : CaseNode = c.in-Some.root in
-    let own = c.laws_below.ensures.parts.own line line (same_line line) in
+    let own = over_box line (declared_box line) [] c.in_ok-view.view c.in_ok-view.ensures in
     let one = goes_one (Stands line) opens (result_over box) later (says_node root)
     c.args.lines.now.rest.now c.in_ok-bytes.bytes.now c.take_line.new.self.rest.now
     c.args.lines.now.number c.take_line.new.self.number c.in_ok-bytes.ensures.0
@@ -48,7 +50,7 @@ returns c = λ later.
     let line = c.args.line.now in
     let box : Box = declared_box line in
     let root : CaseNode = c.in-Some.root in
-    let own = c.laws_below.ensures.parts.own line line (same_line line) in
+    let own = over_box line (declared_box line) [] c.in_ok-view.view c.in_ok-view.ensures in
     let one = goes_one (Stands line) opens (result_over box) later (says_node root)
     c.args.lines.now.rest.now c.in_ok-bytes.bytes.now c.take_line.new.self.rest.now
     c.args.lines.now.number c.take_line.new.self.number c.in_ok-bytes.ensures.0

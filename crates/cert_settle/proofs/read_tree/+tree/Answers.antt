@@ -1,27 +1,29 @@
 use Rattle.std.proofs.Common.{ℕ, List, [], ◌∷◌, ◌++◌, map, arith}
 use Rattle.std.proofs.lemmas.Result.{err_from_is_err_and, MatchResult-weaker}
-use Rattle.model_logic.specs.Choice.{declared_box}
-use Rattle.model_logic.specs.Boxes.{lower_half, upper_half}
+use Rattle.model_logic.specs.Boxes.{lower_half}
+use Rattle.model_settle.specs.Parts.{upper_from}
+use Rattle.judge_cases.specs.Views.{view_box}
 use Rattle.judge_cases.specs.declared.node.CaseNode.TheVariants as node
 use Rattle.base_text.specs.lines.ReadLaws.{later_fault}
 use Rattle.judge_cases.specs.Nodes.{preorder}
 use Rattle.cert_settle.specs.Grammar.{Place, Root, roots, says_node, expected, after_node}
 use Rattle.cert_settle.specs.Grammar.{grammar_of}
-use Rattle.cert_settle.proofs.TreeLaws.{split_can, case_can, below_fault, whole_tree}
-use Rattle.cert_settle.proofs.TreeLaws.{below_yes, below_undecided, below_split, below_case}
+use Rattle.cert_settle.proofs.TreeLaws.{part_can, tell_can, below_fault, whole_tree}
+use Rattle.cert_settle.proofs.TreeLaws.{below_yes, below_undecided, below_part, below_span}
 use Rattle.cert_settle.proofs.TreeLaws.{two_trees}
-use Rattle.cert_settle.proofs.NodeLaws.{may_in_box}
+use Rattle.cert_settle.proofs.NodeLaws.{may_in_box, own_box, as_views, over_box}
 use Rattle.cert_settle.proofs.read_tree.+tree.Goals as goal
 
 -- ---- a tree
 
 pub read_tree-read_below-requires : goal.read_tree-read_below-requires
 read_tree-read_below-requires t c =
-    let own = c.laws_below.ensures.parts.own c.args.line.now c.args.part.now c.requires in (
+    let line = c.args.line.now in
+    let view = c.args.view.now in (
       omega (arith, c.decreases),
       (
         c.requires,
-        (c.in_ok-node.ensures (declared_box c.args.part.now) [] [] own).0,
+        (c.in_ok-node.ensures (view_box line view) [] [] (own_box line view c.requires)).0,
       ),
     )
 
@@ -102,48 +104,64 @@ read_below-returns-in-Undecided t c = λ box others later p.
     c.push.new.self.items others c.args.lines.now.rest.now c.args.lines.now.number later
     c.in-Undecided.is c.in_ok-push.ensures.items
 
-pub read_below-returns-in_ok-upper-in-Split : goal.read_below-returns-in_ok-upper-in-Split
-read_below-returns-in_ok-upper-in-Split t c = λ box others later p.
+pub read_below-read_two-requires : goal.read_below-read_two-requires
+read_below-read_two-requires t c =
     let line = c.args.line.now in
+    let view = c.args.view.now in
+    let own : Root = record { depth = c.args.limits.depth; box = view_box line view } in
+    let can = part_can line c.args.limits.room own c.args.root c.in-Parted.param c.in-Parted.mid
+    c.in-Parted.is c.requires.root in
+    let views = as_views line own.box view (own_box line view c.requires.view) in (
+      omega (arith, can.left.deep, c.decreases),
+      (
+        (c.in_ok-lower-in-Parted.ensures own.box view.assumed.items views).is,
+        (c.in_ok-upper-in-Parted.ensures own.box view.assumed.items views).is,
+      ),
+    )
+
+pub read_below-returns-in_ok-upper-in-Parted : goal.read_below-returns-in_ok-upper-in-Parted
+read_below-returns-in_ok-upper-in-Parted t c = λ box others later p.
+    let line = c.args.line.now in
+    let view = c.args.view.now in
     let room : ℕ = c.args.limits.room in
     let root : Root = record { depth = c.args.limits.depth; box = box } in
     let n = c.args.root in
-    let param : ℕ = c.in-Split.param in
-    let mid : ℕ = c.in-Split.mid in
+    let param : ℕ = c.in-Parted.param in
+    let mid : ℕ = c.in-Parted.mid in
     let text : List ℕ = c.args.lines.now.rest.now in
     let a : ℕ = c.args.lines.now.number in
-    let can = split_can line room root n param mid c.in-Split.is
-    (may_in_box c.laws_below.ensures line c.args.part.now room c.args.limits.depth box n
-    c.requires.part p c.requires.root) in
+    let views = as_views line box view p in
+    let can = part_can line room root n param mid c.in-Parted.is
+    (may_in_box line view room c.args.limits.depth box n p c.requires.root) in
     MatchResult-weaker c.read_two.result
-    (c.read_two.ensures (lower_half box param mid) (upper_half box param mid) others later
-    (c.in_ok-lower-in-Split.ensures.part line box p)
-    (c.in_ok-upper-in-Split.ensures.part line box p))
-    (λ left two. below_split line room left root n param mid c.args.nodes.now.items
+    (c.read_two.ensures (lower_half box param mid) (upper_from box param mid) others later
+    (over_box line _ _ _ (c.in_ok-lower-in-Parted.ensures box view.assumed.items views))
+    (over_box line _ _ _ (c.in_ok-upper-in-Parted.ensures box view.assumed.items views)))
+    (λ left two. below_part line room left root n param mid c.args.nodes.now.items
     c.push.new.self.items c.read_two.new.nodes.items others text a later
-    c.read_two.new.lines.rest.now c.read_two.new.lines.number c.in-Split.is can
+    c.read_two.new.lines.rest.now c.read_two.new.lines.number c.in-Parted.is can
     c.in_ok-push.ensures.items two)
-    (λ f is. below_fault line room root others n (node.Split param mid) later text a f c.in-Split.is
+    (λ f is. below_fault line room root others n (node.Parted param mid) later text a f c.in-Parted.is
     is)
 
-pub read_below-returns-in-Case : goal.read_below-returns-in-Case
-read_below-returns-in-Case t c = λ box others later p.
+pub read_below-returns-in-Wanted : goal.read_below-returns-in-Wanted
+read_below-returns-in-Wanted t c = λ box others later p.
     let line = c.args.line.now in
     let room : ℕ = c.args.limits.room in
     let root : Root = record { depth = c.args.limits.depth; box = box } in
     let n = c.args.root in
-    let terminal : ℕ = c.in-Case._terminal in
-    let tick : ℕ = c.in-Case._tick in
+    let terminal : ℕ = c.in-Wanted._terminal in
+    let from : ℕ = c.in-Wanted._from in
+    let to : ℕ = c.in-Wanted._to in
     let text : List ℕ = c.args.lines.now.rest.now in
     let a : ℕ = c.args.lines.now.number in
-    let can = case_can line room root n terminal tick c.in-Case.is
-    (may_in_box c.laws_below.ensures line c.args.part.now room c.args.limits.depth box n
-    c.requires.part p c.requires.root) in
-    MatchResult-weaker c.read_two-in-Case.result
-    (c.read_two-in-Case.ensures box box others later p p)
-    (λ left two. below_case line room left root n terminal tick c.args.nodes.now.items
-    c.push.new.self.items c.read_two-in-Case.new.nodes.items others text a later
-    c.read_two-in-Case.new.lines.rest.now c.read_two-in-Case.new.lines.number c.in-Case.is can
+    let can = tell_can line room root n terminal from to c.in-Wanted.is
+    (may_in_box line c.args.view.now room c.args.limits.depth box n p c.requires.root) in
+    MatchResult-weaker c.read_two-in-Wanted.result
+    (c.read_two-in-Wanted.ensures box box others later p p)
+    (λ left two. below_span line room left root n terminal from to c.args.nodes.now.items
+    c.push.new.self.items c.read_two-in-Wanted.new.nodes.items others text a later
+    c.read_two-in-Wanted.new.lines.rest.now c.read_two-in-Wanted.new.lines.number c.in-Wanted.is can
     c.in_ok-push.ensures.items two)
-    (λ f is. below_fault line room root others n (node.Case terminal tick) later text a f
-    c.in-Case.is is)
+    (λ f is. below_fault line room root others n (node.Wanted terminal from to) later text a f
+    c.in-Wanted.is is)

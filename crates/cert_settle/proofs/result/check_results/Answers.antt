@@ -63,6 +63,5 @@ returns c =
           supported_told c.sound_trees_meet.ensures line script k
           result (c.deadlines_are_below_the_horizon.ensures line script c.requires.fits)
           (omega (arith, lt, c.requires.one_each.many))
-          (c.each_line_has_a_choice_inside.ensures.declared line)
           (c.loop-i.invariant k result (omega (arith, lt, many, done)) at);
     }

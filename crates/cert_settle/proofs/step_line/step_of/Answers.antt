@@ -1,6 +1,7 @@
-use Rattle.std.proofs.Common.{◌≡◌, ◌∙◌, ◌++◌, ◌∷◌, ℕ, List, decimal, sym, ap}
-use Rattle.cert_settle.proofs.StepLaws.{behind_name, first_is, rest_is, last_is}
-use Rattle.cert_settle.proofs.StepLaws.{tail_whole}
+use Rattle.std.proofs.Common.{◌≡◌, ◌≢◌, ◌<◌, ◌^◌, ◌∙◌, ◌++◌, ◌∷◌, ℕ, List, ap}
+use Rattle.base_text.specs.lines.AnswerLaws.{map_option}
+use Rattle.cert_settle.specs.Grammar.{step_line, two_numbers}
+use Rattle.cert_settle.proofs.StepLaws.{behind_name, numbers_are}
 use Rattle.cert_settle.proofs.step_line.step_of.Goals as goal
 
 pub returns-in_err-numbers : goal.returns-in_err-numbers
@@ -9,41 +10,35 @@ returns-in_err-numbers c =
     let at : List ℕ = c.in_ok-at.at.now in
     let goes_on : c.in_ok-named.named.now ≡ c.args.name ++ at =
     c.in_ok-at.ensures ∙ ap (λ (l : List ℕ). l ++ at) c.bytes.ensures.same in
-    c.in_err-numbers.ensures (decimal from ++ (32 ∷ decimal value))
+    c.in_err-numbers.ensures (two_numbers from value)
     (behind_name c.args.bytes.now c.in_ok-named.named.now at c.args.name from value
     c.in_ok-named.ensures goes_on is))
 
-pub returns-in_err-from : goal.returns-in_err-from
-returns-in_err-from c =
-    rw c.from_residual-in_err-from.ensures (λ from value small little is.
+pub returns : goal.returns
+returns c =
+    let bytes : List ℕ = c.args.bytes.now in
+    let name : List ℕ = c.args.name in
+    let named : List ℕ = c.in_ok-named.named.now in
     let at : List ℕ = c.in_ok-at.at.now in
-    let goes_on : c.in_ok-named.named.now ≡ c.args.name ++ at =
+    let numbers : List ℕ = c.in_ok-numbers.numbers.now in
+    let goes_on : named ≡ name ++ at =
     c.in_ok-at.ensures ∙ ap (λ (l : List ℕ). l ++ at) c.bytes.ensures.same in
-    c.in_err-from.ensures from small
-    (first_is c.args.bytes.now c.in_ok-named.named.now at c.args.name from value
-    c.in_ok-named.ensures goes_on is c.in_ok-numbers.numbers.now c.in_ok-numbers.ensures
-    c.find_byte-end.result c.find_byte-end.ensures.place small))
-
-pub returns-in_err-last : goal.returns-in_err-last
-returns-in_err-last c =
-    rw c.from_residual-in_err-last.ensures (λ from value small little is.
-    let at : List ℕ = c.in_ok-at.at.now in
-    let goes_on : c.in_ok-named.named.now ≡ c.args.name ++ at =
-    c.in_ok-at.ensures ∙ ap (λ (l : List ℕ). l ++ at) c.bytes.ensures.same in
-    c.in_err-last.ensures (decimal value)
-    (tail_whole c.find_byte-end.result c.in_ok-numbers.numbers.now
-    ∙ rest_is c.args.bytes.now c.in_ok-named.named.now at c.args.name from value
-    c.in_ok-named.ensures goes_on is c.in_ok-numbers.numbers.now c.in_ok-numbers.ensures
-    c.find_byte-end.result c.find_byte-end.ensures.place small))
-
-pub returns-in_err-value : goal.returns-in_err-value
-returns-in_err-value c =
-    rw c.from_residual-in_err-value.ensures (λ from value small little is.
-    let at : List ℕ = c.in_ok-at.at.now in
-    let goes_on : c.in_ok-named.named.now ≡ c.args.name ++ at =
-    c.in_ok-at.ensures ∙ ap (λ (l : List ℕ). l ++ at) c.bytes.ensures.same in
-    c.in_err-value.ensures value little
-    (last_is c.args.bytes.now c.in_ok-named.named.now at c.args.name from value
-    c.in_ok-named.ensures goes_on is c.in_ok-numbers.numbers.now c.in_ok-numbers.ensures
-    c.find_byte-end.result c.find_byte-end.ensures.place small c.in_ok-last.last.now
-    (sym (tail_whole c.find_byte-end.result c.in_ok-numbers.numbers.now) ∙ c.in_ok-last.ensures)))
+    map_option ((n m : ℕ) → n < 2 ^ 32 → m < 2 ^ 32 → numbers ≢ two_numbers n m)
+    ((from value : ℕ) → from < 2 ^ 32 → value < 2 ^ 32 → bytes ≢ step_line name from value)
+    (λ two. (two.0 < 2 ^ 32) × ((two.1 < 2 ^ 32) × (numbers ≡ two_numbers two.0 two.1)))
+    (λ two. (two.0 < 2 ^ 32) × ((two.1 < 2 ^ 32) × (bytes ≡ step_line name two.0 two.1)))
+    c.two_numbers.result
+    (λ none from value small little is. none from value small little
+    (numbers_are bytes named at name from value c.in_ok-named.ensures goes_on is numbers
+    c.in_ok-numbers.ensures))
+    (λ two is. (
+      is.0,
+      (
+        is.1.0,
+        c.in_ok-named.ensures
+            ∙ ap (λ (l : List ℕ). 115 ∷ (116 ∷ (101 ∷ (112 ∷ (32 ∷ l)))))
+            (goes_on ∙ ap (λ (l : List ℕ). name ++ l)
+            (c.in_ok-numbers.ensures ∙ ap (λ (l : List ℕ). 64 ∷ l) is.1.1)),
+      ),
+    ))
+    c.two_numbers.ensures

@@ -4,5 +4,4 @@ use Rattle.draw_page.proofs.badges.held_badge.Goals as goal
 pub returns : goal.returns
 unfolding held_html
 returns c =
-    c.mark.ensures _
-    (c.text_of.ensures _ (rw c.held_words-held.ensures at c.counted_words-words.ensures))
+    c.mark.ensures _ (c.text_of.ensures _ c.counted_words-words.ensures)

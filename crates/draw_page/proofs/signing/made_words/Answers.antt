@@ -3,4 +3,4 @@ use Rattle.draw_page.proofs.signing.made_words.Goals as goal
 
 pub returns : goal.returns
 unfolding made_said
-returns c = rw (c.as_slice-program.ensures.value, c.as_slice-kit.ensures.value) at c.words_of.ensures
+returns c = rw c.as_slice.ensures.value at c.words_of.ensures

@@ -51,7 +51,7 @@ returns c = record {
         pairs = pairs.pairs;
         owns = pairs.owns;
         excluded = excluded_decided c.gates_stand_for_their_trees.ensures.kinds line net
-            c.args.compiled.now.of_line script view (c.requires.views.each lane view at).cases lane
+            c.args.compiled.now.of_line script view (c.requires.views.each lane view at).spans lane
             w waves
             pairs (bit_on c.excluded_lanes-excluded.result lane)
             (c.excluded_lanes-excluded.ensures lane view at);

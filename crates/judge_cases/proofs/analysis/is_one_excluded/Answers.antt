@@ -1,39 +1,36 @@
-use Rattle.std.proofs.Common.{◌≡◌, ℕ, Bool, sym, ◌∙◌, ap, subst}
-use Rattle.std.specs.Prelude.{Decides}
-use Rattle.model_settle.specs.Assumed.{wanted}
-use Rattle.net_gates.specs.Formulas.{formula_of}
-use Rattle.model_history.specs.Rails.{Rails}
-use Rattle.model_settle.specs.Under.{Excludes}
-use Rattle.run_step.specs.WavesOf.{pair_in}
-use Rattle.run_ticks.specs.cases.UnderWaves.{own_wave}
-use Rattle.judge_verdict.specs.boxes.Terns.{terns_rails}
-use Rattle.judge_cases.proofs.OneGate.{one_gate}
+use Rattle.std.proofs.Common.{◌≡◌, ◌∙◌, Bool, sym, ap, subst}
+use Rattle.std.specs.Prelude.{Decides, false}
+use Rattle.model_settle.specs.Assumed.{Assumption, HasSpan, Throughout, Interrupted, span_of}
+use Rattle.judge_cases.specs.AssumedAt.{assumed_at, span_at}
+use Rattle.judge_cases.specs.AssumedParts.{span_back}
+use Rattle.judge_cases.specs.Excluded.{ExcludedIn}
 use Rattle.judge_cases.proofs.analysis.is_one_excluded.Goals as goal
 
-pub returns : goal.returns
-returns c =
-    let net = c.args.compiled.now.net.now in
-    let lane = c.args.lane in
-    let a = c.args.assumed in
-    let gate = c.wanted_gate-gate.result.0 in
-    let waves = c.args.waves.now in
-    let is : own_wave terns_rails lane waves gate a.tick ≡ terns_rails c.own-own.result lane =
-    ap (own_wave terns_rails lane waves gate) (sym c.tick.ensures)
-    ∙ ap (pair_in terns_rails lane) c.own-own.ensures in
-    let want : formula_of net.gates gate ≡ wanted c.args.compiled.now.line.now a.terminal =
-    c.wanted_gate-gate.ensures.is ∙ ap (wanted c.args.compiled.now.line.now) c.terminal.ensures in
-    let tells : Decides c.excludes.result (Excludes (terns_rails c.own-own.result lane) a.level) =
-    subst (λ (b : Bool). Decides c.excludes.result
-    (Excludes (terns_rails c.own-own.result lane) b)) c.level.ensures c.excludes.ensures in (
-      λ on other inside stands.
-          let same : gate ≡ other =
-          sym (one_gate net.gates c.gates_stand_for_their_trees.ensures.kinds
-          c.args.compiled.now.of_line.laws.gates other gate inside c.wanted_gate-gate.ensures.exists
-          (stands ∙ sym want)) in
-          subst (λ (g : ℕ). Excludes (own_wave terns_rails lane waves g a.tick) a.level) same
-          (subst (λ (r : Rails). Excludes r a.level) (sym is) (tells.0 on)),
-      λ excluded.
-          tells.1
-          (subst (λ (r : Rails). Excludes r a.level) is
-          (excluded gate c.wanted_gate-gate.ensures.exists want)),
-    )
+pub is_off_in-requires-clause-span : goal.is_off_in-requires-clause-span
+is_off_in-requires-clause-span c =
+    subst (HasSpan c.args.compiled.now.line.now)
+    (ap span_of c.parts-terminal.ensures
+    ∙ span_back c.parts-terminal.result.0 c.parts-terminal.result.1 c.parts-terminal.result.2 c.parts-terminal.result.3)
+    c.requires.span
+
+pub returns-then-throughout : goal.returns-then-throughout
+returns-then-throughout c =
+    let is : c.args.assumed
+    ≡ Throughout (span_at c.parts-terminal.result.0 c.parts-terminal.result.1 c.parts-terminal.result.2) =
+    c.parts-terminal.ensures
+    ∙ ap (λ (b : Bool). assumed_at c.parts-terminal.result.0 c.parts-terminal.result.1 c.parts-terminal.result.2 b)
+    c.if-throughout.true in
+    subst (λ (a : Assumption). Decides c.is_off_in.result
+    (ExcludedIn c.args.compiled.now.line.now c.args.compiled.now.net.now c.args.lane
+    c.args.waves.now a)) (sym is) c.is_off_in.ensures
+
+pub returns-else-throughout : goal.returns-else-throughout
+returns-else-throughout c =
+    let is : c.args.assumed
+    ≡ Interrupted (span_at c.parts-terminal.result.0 c.parts-terminal.result.1 c.parts-terminal.result.2) =
+    c.parts-terminal.ensures
+    ∙ ap (λ (b : Bool). assumed_at c.parts-terminal.result.0 c.parts-terminal.result.1 c.parts-terminal.result.2 b)
+    c.if-throughout.false in
+    subst (λ (a : Assumption). Decides false
+    (ExcludedIn c.args.compiled.now.line.now c.args.compiled.now.net.now c.args.lane
+    c.args.waves.now a)) (sym is) (λ on. absurd (cc), λ never. absurd never)

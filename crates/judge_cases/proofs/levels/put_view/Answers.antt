@@ -1,16 +1,15 @@
-use Rattle.std.proofs.Common.{◌≡◌, ◌<◌, ◌+◌, ◌-◌, ◌∷◌, ℕ, suc, length, drop, sym, ◌∙◌, ap}
+use Rattle.std.proofs.Common.{◌≡◌, ◌<◌, ◌+◌, ◌-◌, ◌∷◌, ℕ, suc, List, length, drop, sym, ◌∙◌, ap}
 use Rattle.std.proofs.Common.{arith, subst}
 use Rattle.std.specs.Prelude.{get_or}
-use Rattle.model_line.specs.Parameters.{terminal_count}
-use Rattle.model_settle.specs.Assumed.{Assumption}
-use Rattle.judge_cases.specs.Puts.{PutIn}
+use Rattle.model_settle.specs.Assumed.{Assumption, assumed_level}
+use Rattle.judge_cases.specs.{Puts.PutIn, Views.view_box}
 use Rattle.judge_cases.proofs.BelowLaws.{drop_at}
 use Rattle.judge_cases.proofs.levels.put_view.Goals as goal
 
 pub loop-back-preserved : goal.loop-back-preserved
 loop-back-preserved c =
     let line = c.args.compiled.now.line.now in
-    let all = c.args.assumed.now in
+    let all : List Assumption = c.deref-assumed.result.now in
     let back = c.loop-back.back in
     let a = c.index-assumed-assumed.result in
     let i : ℕ = length all - 1 - back in
@@ -24,12 +23,12 @@ loop-back-preserved c =
     record {
       count = c.put_one.ensures.count;
       lane = λ start.
-          subst (PutIn line c.args.compiled.now.net.now c.args.rows.now (terminal_count line)
-          line.horizon
-          c.put_one.new.masks.items c.args.lane) step
+          subst (λ (l : List Assumption). PutIn line c.args.compiled.now.net.now c.args.rows.now
+          c.put_one.new.masks.items c.args.lane
+          (assumed_level line (view_box line c.args.view.now) l)) step
           (c.put_one.ensures.lane (drop (length all - back) all)
           (c.loop-back.invariant.lane start));
-      others = λ k before low ne start.
-          c.put_one.ensures.others k before low ne
-          (c.loop-back.invariant.others k before low ne start);
+      others = λ k level low ne start.
+          c.put_one.ensures.others k level low ne
+          (c.loop-back.invariant.others k level low ne start);
     }

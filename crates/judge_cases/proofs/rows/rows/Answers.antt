@@ -1,4 +1,4 @@
-use Rattle.std.proofs.Common.{◌≡◌, ◌≤◌, ℕ, length, ap, subst, arith}
+use Rattle.std.proofs.Common.{◌≡◌, ◌≤◌, ◌*◌, ℕ, ◌∙◌, subst, arith}
 use Rattle.judge_cases.specs.Rows.{AreRows}
 use Rattle.judge_cases.proofs.RowLaws.{rows_none}
 use Rattle.judge_cases.proofs.rows.rows.Goals as goal
@@ -11,15 +11,9 @@ loop-terminal-init c =
 
 pub returns : goal.returns
 returns c =
-    let over : length c.as_slice-terminals.result.now ≤ c.loop-terminal.terminal =
-    c.loop-terminal-test.false in
-    let under : c.loop-terminal.terminal ≤ length c.as_slice-terminals.result.now =
-    c.loop-terminal.auto.terminal-end in
-    let len : length c.as_slice-terminals.result.now ≡ length
-    c.args.compiled.now.line.now.terminals.items =
-    ap length c.as_slice-terminals.ensures.value in
-    let last : c.loop-terminal.terminal ≡ length
-    c.args.compiled.now.line.now.terminals.items = omega arith in
-    subst (λ (n : ℕ). AreRows c.args.compiled.now.line.now c.args.compiled.now.net.now n
-    c.loop-terminal.rows.items) last
+    let over : c.terminals-count.result ≤ c.loop-terminal.terminal = c.loop-terminal-test.false in
+    let under : c.loop-terminal.terminal ≤ c.terminals-count.result = c.loop-terminal.auto.terminal-end in
+    let last : c.loop-terminal.terminal ≡ c.terminals-count.result = omega arith in
+    subst (λ (n : ℕ). AreRows c.args.compiled.now.line.now c.args.compiled.now.net.now (n * 2)
+    c.loop-terminal.rows.items) (last ∙ c.terminals-count.ensures.count)
     c.loop-terminal.invariant

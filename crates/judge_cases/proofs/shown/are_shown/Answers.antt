@@ -1,48 +1,46 @@
-use Rattle.std.proofs.Common.{◌≡◌, ◌≤◌, ◌+◌, ◌<◌, ◌∷◌, [], ℕ, Bool, List, Some, length, length-append, refl}
-use Rattle.std.proofs.Common.{sym, ◌∙◌, ap, subst, arith}
-use Rattle.std.proofs.lemmas.Option.{slice_get_read}
-use Rattle.std.specs.Prelude.{Decides, slice_get}
-use Rattle.judge_cases.specs.{declared.view.View.View, Analyses.IsShownOf}
-use Rattle.model_history.specs.ListLaws.{each_more}
+use Rattle.std.proofs.Common.{◌≡◌, ◌≤◌, ◌++◌, ℕ, Bool, List, Some, length, length-append}
+use Rattle.std.proofs.Common.{◌∙◌, ap, subst, arith}
+use Rattle.std.specs.Prelude.{slice_get}
+use Rattle.std.specs.List.{slice_range}
+use Rattle.judge_cases.specs.{Analyses.TellEach}
+use Rattle.judge_cases.proofs.BlockLaws.{block_views, range_length, tell_more}
 use Rattle.judge_cases.proofs.shown.are_shown.Goals as goal
 
-same_view : (views : List View) (i : ℕ) (x y : View) → slice_get views i ≡ Some x
-    → slice_get views i ≡ Some y → x ≡ y
-same_view views i x y e f = cc
+pub block_shown-requires-clause-views : goal.block_shown-requires-clause-views
+block_shown-requires-clause-views c =
+    block_views c.args.compiled.now.line.now c.args.views.now c.next_block.first c.min-next.result
+    c.requires.views
 
-pub is_shown-requires-clause-view : goal.is_shown-requires-clause-view
-is_shown-requires-clause-view c =
-    c.requires.views.each c.loop-i.i c.index-views-i.result
-    (slice_get_read c.args.views.now (length c.args.views.now) c.loop-i.i c.index-views-i.result refl
-    c.loop-i-test.true c.index-views-i.is)
-
-pub loop-i-preserved : goal.loop-i-preserved
-loop-i-preserved c =
-    let line = c.args.compiled.now.line.now in
-    let script = c.args.script.now in
-    let k = c.args.terminal in
+pub next_block-preserved : goal.next_block-preserved
+next_block-preserved c =
     let views = c.args.views.now in
-    let i : ℕ = c.loop-i.i in
-    let old = c.loop-i.shown.items in
-    let on : Bool = c.in_ok-on.on in
-    let inside : i < length views = c.loop-i-test.true in
-    let now : slice_get views i ≡ Some c.index-views-i.result =
-    slice_get_read views (length views) i c.index-views-i.result refl inside c.index-views-i.is in
+    let first : ℕ = c.next_block.first in
+    let next : ℕ = c.min-next.result in
+    let old : List Bool = c.next_block.shown.items in
+    let block : List Bool = c.in_ok-block.block.items in
+    let is : c.extend_from_slice.new.self.items ≡ old ++ block =
+    c.in_ok-extend_from_slice.ensures.items ∙ ap (λ (l : List Bool). old ++ l) c.deref.ensures.value in
+    let tells : TellEach c.args.compiled.now.line.now c.args.script.now c.args.terminal
+    (slice_range views first next) block = c.in_ok-block.ensures in
+    let within : next ≤ length views = omega (arith, c.min-next.ensures) in
+    let later : first ≤ next = omega (arith, c.min-next.ensures, c.next_block.invariant.inside) in
     record {
-      count = ap length c.in_ok-push.ensures.items ∙ length-append old (on ∷ [])
-          ∙ ap (λ (n : ℕ). n + 1) c.loop-i.invariant.count;
-      each = each_more (λ m x. (v : View) → slice_get views m ≡ Some v
-          → Decides x (IsShownOf line script k v)) old c.push.new.self.items on i
-          c.in_ok-push.ensures.items (sym c.loop-i.invariant.count) c.loop-i.invariant.each
-          (λ v here. subst (λ (u : View). Decides on (IsShownOf line script k u))
-          (same_view views i c.index-views-i.result v now here) c.in_ok-on.ensures.shown);
+      inside = within;
+      count = ap length is ∙ length-append old block
+          ∙ (let a = c.next_block.invariant.count in
+          let b = tells.count in
+          let r = range_length views first next later within in omega (arith, a, b, r));
+      each = λ j b at view here.
+          tell_more c.args.compiled.now.line.now c.args.script.now c.args.terminal views first next
+          old block c.next_block.invariant.count c.next_block.invariant.each tells later within j b
+          (subst (λ (l : List Bool). slice_get l j ≡ Some b) is at) view here;
     }
 
 pub returns : goal.returns
 returns c =
-    let over : length c.args.views.now ≤ c.loop-i.i = c.loop-i-test.false in
-    let under : c.loop-i.i ≤ length c.args.views.now = c.loop-i.auto.i-end in
+    let over : length c.args.views.now ≤ c.next_block.first = c.next_block-test.false in
+    let under : c.next_block.first ≤ length c.args.views.now = c.next_block.invariant.inside in
     record {
-      count = omega (arith, over, under, c.loop-i.invariant.count);
-      each = λ i b view at there. c.loop-i.invariant.each i b at view there;
+      count = omega (arith, over, under, c.next_block.invariant.count);
+      each = λ i b view at there. c.next_block.invariant.each i b at view there;
     }

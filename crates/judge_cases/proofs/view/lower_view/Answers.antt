@@ -21,7 +21,7 @@ returns c = λ box assumed views.
     c.new-new.ensures ∙ ap (λ (n : ℕ). ends_of n mid)
     (c.least-least.ensures.least ∙ ap (λ (e : Ends). e.least) c.ends_at-ends.ensures.ends) in
     subst (λ (e : Ends). Views line (box_with box param (ends_of e.least mid)) assumed half)
-    (views.same.numbers param c.requires.split.exists)
+    (views.same.numbers param c.requires.part.exists)
     (half_views c.delays_are_parameters.ensures line view half param new
     (c.in_ok-half.ensures.ends ∙ ap (slice_set es param) is) c.in_ok-half.ensures.assumed
-    c.requires.split.number c.requires.view box assumed views)
+    c.requires.part.number c.requires.view box assumed views)

@@ -1,4 +1,4 @@
-use Rattle.std.proofs.Common.{◌≡◌, ◌+◌, ◌∙◌, ℕ, ap, subst}
+use Rattle.std.proofs.Common.{◌≡◌, ◌∙◌, ℕ, ap, subst}
 use Rattle.std.specs.Prelude.{slice_set}
 use Rattle.model_history.specs.Rails.{Ends}
 use Rattle.model_logic.specs.Boxes.{box_with}
@@ -16,13 +16,13 @@ returns c = λ box assumed views.
     let param = c.args.param in
     let mid = c.args.mid in
     let half = c.in_ok-half.half in
-    let new : Ends = ends_of (mid + 1) (interval_of es param).greatest in
+    let new : Ends = ends_of mid (interval_of es param).greatest in
     let is : c.new-new.result ≡ new =
-    c.new-new.ensures ∙ ap (λ (n : ℕ). ends_of (mid + 1) n)
+    c.new-new.ensures ∙ ap (λ (n : ℕ). ends_of mid n)
     (c.greatest-greatest.ensures.greatest
     ∙ ap (λ (e : Ends). e.greatest) c.ends_at-ends.ensures.ends) in
-    subst (λ (e : Ends). Views line (box_with box param (ends_of (mid + 1) e.greatest)) assumed half)
-    (views.same.numbers param c.requires.split.exists)
+    subst (λ (e : Ends). Views line (box_with box param (ends_of mid e.greatest)) assumed half)
+    (views.same.numbers param c.requires.part.exists)
     (half_views c.delays_are_parameters.ensures line view half param new
     (c.in_ok-half.ensures.ends ∙ ap (slice_set es param) is) c.in_ok-half.ensures.assumed
-    c.requires.split.number c.requires.view box assumed views)
+    c.requires.part.number c.requires.view box assumed views)

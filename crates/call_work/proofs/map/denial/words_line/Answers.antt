@@ -5,12 +5,12 @@ pub returns-in-Some : goal.returns-in-Some
 returns-in-Some c =
     rw (sym c.in-Some.ensures)
     (rw (
-      c.side_words-side.ensures,
       c.place_words-place.ensures,
       c.as_bytes-number.ensures.value,
       c.format.ensures.text,
       c.as_bytes-what.ensures.value,
       c.words.ensures,
+      c.remedy-write.ensures,
     )
     at c.line_of.ensures)
 
@@ -18,9 +18,9 @@ pub returns-in-None : goal.returns-in-None
 returns-in-None c =
     rw (sym c.in-None.ensures)
     (rw (
-      c.side_words-side.ensures,
       c.place_words-place.ensures,
       c.as_bytes-what.ensures.value,
       c.words.ensures,
+      c.remedy-write.ensures,
     )
     at c.line_of-in-None.ensures)

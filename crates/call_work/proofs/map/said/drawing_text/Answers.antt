@@ -6,7 +6,7 @@ use Rattle.call_work.proofs.map.said.drawing_text.Goals as goal
 pub returns-clause-drawn : goal.returns-clause-drawn
 returns-clause-drawn c =
     let grid = c.in_ok-grid.grid in
-    IfOk-weaker c.grid_text.result (λ text. text.items ≡ svg_of (drawing_of grid)) _
+    IfOk-weaker c.grid_text.result (λ text. text.items ≡ svg_of c.args.ask.now.made.now (drawing_of grid)) _
     (λ text printed. record {
       cells = c.args.cells.now;
       are = c.requires.cells;

@@ -10,7 +10,7 @@ use Rattle.file_study.proofs.study.shows.push_shown.Goals as goal
 pub returns-in_err-shown : goal.returns-in_err-shown
 returns-in_err-shown c =
     let told = err_from_is_err_and c.from_residual.result c.from_residual.ensures.1 in
-    let more = shown_more c.args.upward c.args.units c.args.k c.args.path
+    let more = shown_more c.args.upward c.args.units c.args.lasts.now c.args.k c.args.path
     c.loop-i.i c.args.items.now c.index-items-i.result c.loop-i.shows.items c.loop-i-test.true in
     let here = rw (← c.index-items-i.is, ← c.item.ensures) at more in
     rw (told.1, told.2)
@@ -19,7 +19,7 @@ returns-in_err-shown c =
 
 pub loop-i-preserved : goal.loop-i-preserved
 loop-i-preserved c =
-    let more = shown_more c.args.upward c.args.units c.args.k c.args.path
+    let more = shown_more c.args.upward c.args.units c.args.lasts.now c.args.k c.args.path
     c.loop-i.i c.args.items.now c.index-items-i.result c.loop-i.shows.items c.loop-i-test.true in
     let here = rw (← c.index-items-i.is, ← c.item.ensures) at more in
     let next = rw (← c.in_ok-shown.ensures) at here in

@@ -10,7 +10,7 @@ use Rattle.file_study.proofs.study.shows.push_terminals.Goals as goal
 pub returns-in_err-push_terminal : goal.returns-in_err-push_terminal
 returns-in_err-push_terminal c =
     let told = err_from_is_err_and c.from_residual.result c.from_residual.ensures.1 in
-    let more = terminals_show_more c.args.upward c.args.units c.args.path
+    let more = terminals_show_more c.args.upward c.args.units c.args.lasts.now c.args.path
     (table_view c.args.table.now) c.loop-k.k c.args.terminals.now c.index-terminals-k.result
     c.loop-k.shows.items c.loop-k-test.true in
     let here = rw (← c.index-terminals-k.is) at more in
@@ -20,7 +20,7 @@ returns-in_err-push_terminal c =
 
 pub loop-k-preserved : goal.loop-k-preserved
 loop-k-preserved c =
-    let more = terminals_show_more c.args.upward c.args.units c.args.path
+    let more = terminals_show_more c.args.upward c.args.units c.args.lasts.now c.args.path
     (table_view c.args.table.now) c.loop-k.k c.args.terminals.now c.index-terminals-k.result
     c.loop-k.shows.items c.loop-k-test.true in
     let here = rw (← c.index-terminals-k.is) at more in

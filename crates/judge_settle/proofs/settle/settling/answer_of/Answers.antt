@@ -6,15 +6,14 @@ use Rattle.judge_settle.proofs.settle_lemmas.AnswerLaws.{held_answer, open_answe
 use Rattle.judge_settle.proofs.settle.settling.answer_of.Goals as goal
 
 pub returns-then-tree : goal.returns-then-tree
-returns-then-tree c = λ line script k size view early there mixed unheld views deep many found.
+returns-then-tree c = λ line script k size view early there mixed views deep many found.
     let over : IsGrownOver line script k size view c.in-Tree.tree =
     subst (λ (f : Found). IsFound line script k size view f) c.in-Tree.is found in
-    held_answer c.sound_trees_meet.ensures c.each_box_has_one_history_under.ensures line script k early
-    (c.each_line_has_a_choice_inside.ensures.declared line) there unheld size c.in-Tree.tree
-    c.if-tree.true deep many (over (declared_box line) [] views)
+    held_answer c.sound_trees_meet.ensures line script k size c.in-Tree.tree early there c.if-tree.true
+    deep many (over (declared_box line) [] views)
 
 pub returns-else-tree : goal.returns-else-tree
-returns-else-tree c = λ line script k size view early there mixed unheld views deep many found.
+returns-else-tree c = λ line script k size view early there mixed views deep many found.
     let over : IsGrownOver line script k size view c.in-Tree.tree =
     subst (λ (f : Found). IsFound line script k size view f) c.in-Tree.is found in
     open_answer line script k size c.in-Tree.tree c.if-tree.false deep many

@@ -1,13 +1,12 @@
 use Rattle.std.proofs.Common.{◌≡◌, Some, sym, ◌∙◌, ap}
 use Rattle.std.proofs.lemmas.Option.{slice_get_read}
-use Rattle.std.specs.Prelude.{IsTrue, slice_get}
+use Rattle.std.specs.Prelude.{slice_get}
 use Rattle.model_line.specs.Parameters.{terminal_count}
 use Rattle.judge_verdict.specs.declared.verdict.verdict.Verdict.TheVariants.{Yes}
-use Rattle.judge_settle.proofs.settle_lemmas.CornerLaws.{not_yes_not_held}
 use Rattle.judge_settle.proofs.settle.settling.by_certificate.Goals as goal
 
-pub returns-then-is_yes-clause-answer : goal.returns-then-is_yes-clause-answer
-returns-then-is_yes-clause-answer c =
+pub returns-then-is_yes : goal.returns-then-is_yes
+returns-then-is_yes c =
     let line = c.args.compiled.now.line.now in
     let script = c.args.script.now in
     let k = c.args.terminal in
@@ -19,35 +18,3 @@ returns-then-is_yes-clause-answer c =
     c.in_ok-settled.ensures line script k (c.line_laws.ensures.deadlines line script c.requires.fits)
     c.requires.terminal
     (record { held = λ w is. (c.in_ok-said.ensures.verdicts w is).each k Yes yes })
-
-pub returns-in_default-clause-not_held : goal.returns-in_default-clause-not_held
-returns-in_default-clause-not_held c = λ none.
-    let line = c.args.compiled.now.line.now in
-    let script = c.args.script.now in
-    let k = c.args.terminal in
-    let verdicts = c.in_ok-said.said.verdicts.items in
-    let at : slice_get verdicts k ≡ Some c.index.result.now =
-    slice_get_read verdicts (terminal_count line) k c.index.result.now
-    (sym c.in_ok-said.ensures.printable.verdicts.count) c.requires.terminal c.index.ensures in
-    not_yes_not_held c.line_laws.ensures line script k c.index.result.now
-    (λ w is. (c.in_ok-said.ensures.verdicts w is).each k c.index.result.now at)
-    (λ yes.
-    let told : IsTrue c.is_yes.result = c.is_yes.ensures.1 yes in
-    let other = c.if-is_yes.false in
-    absurd (cc))
-
-pub returns-clause-not_held : goal.returns-clause-not_held
-returns-clause-not_held c = λ none.
-    let line = c.args.compiled.now.line.now in
-    let script = c.args.script.now in
-    let k = c.args.terminal in
-    let verdicts = c.in_ok-said.said.verdicts.items in
-    let at : slice_get verdicts k ≡ Some c.index.result.now =
-    slice_get_read verdicts (terminal_count line) k c.index.result.now
-    (sym c.in_ok-said.ensures.printable.verdicts.count) c.requires.terminal c.index.ensures in
-    not_yes_not_held c.line_laws.ensures line script k c.index.result.now
-    (λ w is. (c.in_ok-said.ensures.verdicts w is).each k c.index.result.now at)
-    (λ yes.
-    let told : IsTrue c.is_yes.result = c.is_yes.ensures.1 yes in
-    let other = c.if-is_yes.false in
-    absurd (cc))
