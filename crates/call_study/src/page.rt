@@ -11,24 +11,14 @@ use call_work::load::{Bytes, Halt, Loaded, load};
 use std::alloc::Global;
 
 /// The page of a study, made by what these words say.
-pub fn page(
-    alloc: Global,
-    bytes: &Bytes,
-    analyses: u32,
-    made: &[u8],
-) -> Result<Said, Halt>
+pub fn page(alloc: Global, bytes: &Bytes, analyses: u32, made: &[u8]) -> Result<Said, Halt>
     ensures { Gives (answer_by (page_of (given_of bytes.now))) result }
 {
     let loaded = load(alloc, bytes)?;
     page_over(alloc, &loaded, analyses, made)
 }
 
-fn page_over(
-    alloc: Global,
-    loaded: &Loaded,
-    analyses: u32,
-    made: &[u8],
-) -> Result<Said, Halt>
+fn page_over(alloc: Global, loaded: &Loaded, analyses: u32, made: &[u8]) -> Result<Said, Halt>
     requires { IsLoaded loaded.now }
     ensures { Gives (answer_by (page_of (as_read (studied loaded.now)))) result }
 {

@@ -105,7 +105,10 @@ fn description(alloc: Global, words: &[u8]) -> Result<Markup, AllocError>
     ensures { IfOk result (λ markup. markup.text.items ≡ description_text words.now) }
 {
     let inside = Markup::words(alloc, words)?;
-    ended(alloc, Markup::element(alloc, Tag::Description, &[], &inside)?)
+    ended(
+        alloc,
+        Markup::element(alloc, Tag::Description, &[], &inside)?,
+    )
 }
 
 fn figures(alloc: Global, figures: &[Figure]) -> Result<Markup, AllocError>
