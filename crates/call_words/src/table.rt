@@ -7,6 +7,24 @@ use std::alloc::{AllocError, Global};
 // The version of the program.
 const VERSION: &str = "0.29.0";
 
+// What the help says behind the commands.
+const AFTER: &str = "Answer:    verdicts, lint, settle, recheck, explain
+Choose:    margins, map
+Show:      page, bands, run, vcd
+Exchange:  lines, scripts, comtrade
+
+A study is one file (TOML), as examples/studies has some; in place of it two files
+do, a line and its fault scripts, as `pilot` takes them.
+
+    study verdicts reversal.toml --faults
+    study page reversal.toml -o reversal.html
+    study map reversal.toml '*.z2.pickup=0 ms..30 ms:1 ms' -o map.svg
+    study verdicts line.toml scripts.csv
+
+Exit status: 0 done, and all that was asked is held; 1 something fails; 2 something is
+open or suspicious; 3 rejected; 4 usage; 5 to 8 input, output or memory; 9 a name that
+there is not. `study COMMAND --help` says more of a command.";
+
 // A command: its word, what it is for, its files, its options beside `-o`, and whether it writes three
 // files.
 #[derive(Clone, Copy)]
@@ -216,22 +234,8 @@ const EXPLAIN: &[Opt] = &[
     },
 ];
 
-// The commands before that of records.
+// The commands that answer.
 const ANSWERS: &[Word] = &[
-    Word {
-        name: "lines",
-        about: "The line as a line file for `pilot` (TOML, in ticks)",
-        files: STUDY,
-        options: &[],
-        in_three: false,
-    },
-    Word {
-        name: "scripts",
-        about: "The scripts as a scripts file for `pilot` (CSV), 64 at most",
-        files: STUDY,
-        options: &[PART],
-        in_three: false,
-    },
     Word {
         name: "verdicts",
         about: "Whether each fault is met at each terminal, script by script, in milliseconds (CSV)",
@@ -261,6 +265,17 @@ const ANSWERS: &[Word] = &[
         in_three: false,
     },
     Word {
+        name: "explain",
+        about: "A timing whose play is what the field recorded, each change within some ticks; or that there is none",
+        files: RECORD,
+        options: EXPLAIN,
+        in_three: false,
+    },
+];
+
+// Those to choose by.
+const CHOICES: &[Word] = &[
+    Word {
         name: "margins",
         about: "How far each end of each interval can move with all held that is held today (CSV)",
         files: STUDY,
@@ -274,6 +289,10 @@ const ANSWERS: &[Word] = &[
         options: &[CELLS],
         in_three: false,
     },
+];
+
+// Those that show.
+const PICTURES: &[Word] = &[
     Word {
         name: "page",
         about: "The whole study as one page (HTML), to print and to sign",
@@ -282,10 +301,42 @@ const ANSWERS: &[Word] = &[
         in_three: false,
     },
     Word {
-        name: "explain",
-        about: "A timing whose play is what the field recorded, each change within some ticks; or that there is none",
-        files: RECORD,
-        options: EXPLAIN,
+        name: "bands",
+        about: "Every choice of delays at once as a timing diagram (SVG)",
+        files: STUDY,
+        options: &[SCRIPT, ALL_ROWS],
+        in_three: false,
+    },
+    Word {
+        name: "run",
+        about: "A play as a timing diagram (SVG): the script under one timing",
+        files: TIMINGS,
+        options: &[TIMING, SCRIPT, ALL_ROWS],
+        in_three: false,
+    },
+    Word {
+        name: "vcd",
+        about: "A play as a value change dump (VCD) of every gate, for a waveform viewer",
+        files: TIMINGS,
+        options: &[TIMING, SCRIPT],
+        in_three: false,
+    },
+];
+
+// Those that exchange, before that of records.
+const FILES: &[Word] = &[
+    Word {
+        name: "lines",
+        about: "The line as a line file for `pilot` (TOML, in ticks)",
+        files: STUDY,
+        options: &[],
+        in_three: false,
+    },
+    Word {
+        name: "scripts",
+        about: "The scripts as a scripts file for `pilot` (CSV), 64 at most",
+        files: STUDY,
+        options: &[PART],
         in_three: false,
     },
 ];
@@ -322,46 +373,24 @@ const RECORDS: &[Word] = &[
     },
 ];
 
-// Those behind them: pictures.
-const PICTURES: &[Word] = &[
-    Word {
-        name: "bands",
-        about: "Every choice of delays at once as a timing diagram (SVG)",
-        files: STUDY,
-        options: &[SCRIPT, ALL_ROWS],
-        in_three: false,
-    },
-    Word {
-        name: "run",
-        about: "A play as a timing diagram (SVG): the script under one timing",
-        files: TIMINGS,
-        options: &[TIMING, SCRIPT, ALL_ROWS],
-        in_three: false,
-    },
-    Word {
-        name: "vcd",
-        about: "A play as a value change dump (VCD) of every gate, for a waveform viewer",
-        files: TIMINGS,
-        options: &[TIMING, SCRIPT],
-        in_three: false,
-    },
-];
-
 /// The command line: a word for each command, with files and names.
 pub fn command<'a>(alloc: Global) -> Result<Command<'a>, AllocError> {
     let mut commands = Vec::new(alloc);
     push_commands(alloc, &mut commands)?;
     let study = Command::new(alloc, "study")
-        .about("A line and its fault scripts: answers and pictures.")
+        .about("Whether a pilot scheme holds for every choice of times: a line, its faults, and proved answers.")
+        .after_help(AFTER)
         .version(VERSION);
     with_commands(study, commands)
 }
 
 // Pushes the commands, in the order of the help.
 fn push_commands<'a>(alloc: Global, commands: &mut Vec<Command<'a>>) -> Result<(), AllocError> {
-    push_words(alloc, ANSWERS, commands)?;
+    for words in [ANSWERS, CHOICES, PICTURES, FILES] {
+        push_words(alloc, words, commands)?;
+    }
     commands.push(comtrade(alloc)?)?;
-    push_words(alloc, PICTURES, commands)
+    Ok(())
 }
 
 fn comtrade<'a>(alloc: Global) -> Result<Command<'a>, AllocError> {
