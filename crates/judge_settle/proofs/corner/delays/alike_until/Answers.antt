@@ -1,4 +1,4 @@
-use Rattle.std.proofs.Common.{◌≡◌, ◌≤◌, ◌<◌, ℕ, List, sym, subst, ◌∙◌, arith}
+use Rattle.std.proofs.Common.{◌≤◌, ℕ, List, sym, subst, ◌∙◌, arith}
 use Rattle.model_history.specs.Rails.{Rails}
 use Rattle.run_signal.specs.declared.tern.Tern.{Tern}
 use Rattle.run_waves.specs.waves.Waves.{IsWaveOf}

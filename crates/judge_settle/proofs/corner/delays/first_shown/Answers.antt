@@ -1,4 +1,4 @@
-use Rattle.std.proofs.Common.{◌≡◌, ◌<◌, ◌≤◌, ℕ, List, sym, ap, subst, ◌∙◌, arith, ⊎_elim}
+use Rattle.std.proofs.Common.{ℕ, List, sym, ap, subst, ◌∙◌, arith, ⊎_elim}
 use Rattle.std.proofs.lemmas.Bool.{cases_lt}
 use Rattle.model_history.specs.Rails.{Rails}
 use Rattle.model_settle.specs.Sides.{value_on}
@@ -7,7 +7,6 @@ use Rattle.run_signal.specs.declared.tern.Tern.{Tern}
 use Rattle.run_waves.specs.waves.Waves.{IsWaveOf}
 use Rattle.judge_verdict.specs.verdict.PairWavesOf.{pair_history}
 use Rattle.judge_settle.specs.corner.Named.{rail_named}
-use Rattle.judge_settle.specs.corner.Delays.{is_shown_at}
 use Rattle.judge_settle.proofs.corner.delays.first_shown.Goals as goal
 
 pub stretches-preserved : goal.stretches-preserved

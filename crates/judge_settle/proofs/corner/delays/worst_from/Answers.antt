@@ -1,4 +1,4 @@
-use Rattle.std.proofs.Common.{◌≡◌, ◌<◌, ◌≤◌, ◌-◌, ◌+◌, ℕ, sym, subst, arith}
+use Rattle.std.proofs.Common.{◌≡◌, ◌<◌, ◌-◌, ℕ, subst, arith}
 use Rattle.model_history.specs.Rails.{Rails, Ends}
 use Rattle.model_settle.specs.Sides as model
 use Rattle.judge_settle.specs.corner.Delays.{NothingIsAwaited}
