@@ -8,13 +8,13 @@ ghost use Rattle.net_gates.specs.NetOf.{IsNetOf};
 ghost use Rattle.run_step.specs.Runs.{IsTheHistory};
 ghost use Rattle.judge_verdict.specs.verdict.PairWavesOf.{pair_history};
 ghost use Rattle.judge_verdict.specs.verdict.OneEach.{OneEach};
-ghost use Rattle.judge_settle.specs.settle.Answers.{IsAnswer};
+ghost use Rattle.judge_settle.specs.settle.Answers.{IsAnswer, AreAnswers};
 ghost use Rattle.call_verdicts.specs.Cases.{IsCases};
 ghost use Rattle.call_verdicts.specs.Findings.{AreFindings, IsFinding, IsStanding};
 ghost use Rattle.judge_report.specs.Firsts.{IsFirstMust};
 
 use crate::cases::Cases;
-use judge_settle::settle::{Answer, By, settle};
+use judge_settle::settle::{Answer, By, Settled, settle};
 use judge_verdict::verdict::{PairWaves, analyse};
 use model_line::Memory;
 use std::alloc::Global;
@@ -42,8 +42,8 @@ pub struct Finding {
 }
 
 /// What is found of each obligation, script by script and in each its terminals in line order. One
-/// analysis of a script serves the first ticks of all its terminals; each obligation is settled
-/// after at most so many analyses.
+/// analysis of a script serves all its terminals; each obligation is settled after at most so many
+/// more.
 pub fn find_all(alloc: Global, cases: &Cases, analyses: u32) -> Result<Vec<Finding>, Memory>
     requires { IsCases cases.now }
     ensures { IfOk result (λ found.
@@ -73,17 +73,18 @@ fn push_script(
         cases.now.compiled.line.now)
         found.new.items) }
 {
-    let waves = analyse(alloc, &cases.compiled, &cases.scripts[i])?;
-    push_under(alloc, cases, &waves, i, analyses, found)
+    let script = &cases.scripts[i];
+    let waves = analyse(alloc, &cases.compiled, script)?;
+    let settled = settle(alloc, &cases.compiled, script, &waves, analyses)?;
+    push_settled(cases, &waves, i, &settled, found)
 }
 
-// Adds what is found of script i, whose history this is.
-fn push_under(
-    alloc: Global,
+// Adds what is found of script i, whose history and answers these are.
+fn push_settled(
     cases: &Cases,
     waves: &PairWaves,
     i: usize,
-    analyses: u32,
+    settled: &[Settled],
     found: &mut Vec<Finding>,
 ) -> Result<(), Memory>
     requires cases { IsCases cases.now }
@@ -95,27 +96,22 @@ fn push_under(
     requires history { (script : Script) → slice_get cases.now.scripts.now i ≡ Some script →
         IsTheHistory cases.now.compiled.line.now script (declared_box cases.now.compiled.line.now)
         (pair_history waves.now) }
+    requires settled { (script : Script) → slice_get cases.now.scripts.now i ≡ Some script →
+        AreAnswers cases.now.compiled.line.now script settled.now }
     ensures { OnOk result (OneEach (IsFinding cases.now.compiled.line.now cases.now.scripts.now)
         (i * terminal_count cases.now.compiled.line.now + terminal_count
         cases.now.compiled.line.now)
         found.new.items) }
 {
     for k in 0..cases.compiled.line.terminals.len() {
-        let one = find(alloc, cases, waves, i, k as u32, analyses)?;
+        let one = find(cases, waves, i, k as u32, &settled[k]);
         found.push(one)?;
     }
     Ok(())
 }
 
-// What is found of script i at a terminal.
-fn find(
-    alloc: Global,
-    cases: &Cases,
-    waves: &PairWaves,
-    i: usize,
-    terminal: u32,
-    analyses: u32,
-) -> Result<Finding, Memory>
+// What is found of script i at a terminal, to whose obligation this is the answer.
+fn find(cases: &Cases, waves: &PairWaves, i: usize, terminal: u32, settled: &Settled) -> Finding
     requires cases { IsCases cases.now }
     requires exists { i < length cases.now.scripts.now }
     requires terminal { terminal < terminal_count cases.now.compiled.line.now }
@@ -124,24 +120,18 @@ fn find(
     requires history { (script : Script) → slice_get cases.now.scripts.now i ≡ Some script →
         IsTheHistory cases.now.compiled.line.now script (declared_box cases.now.compiled.line.now)
         (pair_history waves.now) }
-    ensures { IfOk result (λ found. IsFinding cases.now.compiled.line.now cases.now.scripts.now
-        (i * terminal_count cases.now.compiled.line.now + terminal) found) }
+    requires answer { (script : Script) → slice_get cases.now.scripts.now i ≡ Some script →
+        IsAnswer cases.now.compiled.line.now script terminal settled.now.answer }
+    ensures { IsFinding cases.now.compiled.line.now cases.now.scripts.now
+        (i * terminal_count cases.now.compiled.line.now + terminal) result }
 {
-    let first_must = waves.first_must(terminal);
-    let settled = settle(
-        alloc,
-        &cases.compiled,
-        &cases.scripts[i],
-        terminal,
-        analyses,
-    )?;
-    Ok(Finding {
+    Finding {
         script: i as u32,
         terminal,
         standing: standing_of(&settled.answer),
         by: settled.by,
-        first_must,
-    })
+        first_must: waves.first_must(terminal),
+    }
 }
 
 fn standing_of(answer: &Answer) -> Standing

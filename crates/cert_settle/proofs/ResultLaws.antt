@@ -12,11 +12,8 @@ use Rattle.judge_cases.specs.Trees.{branch_count}
 use Rattle.judge_cases.specs.Nodes.{preorder}
 use Rattle.cert_settle.specs.Grammar.{SettleResult, tree, fails}
 use Rattle.judge_cases.specs.Trees.{AreTree}
-use Rattle.cert_settle.specs.declared.tree.NotShown.{NotShown}
 use Rattle.cert_settle.specs.Results.{IsSupported, IsTold}
-use Rattle.cert_settle.specs.FirstLeaf.{IsFirstNotShown, IsTreeNotShown}
-use Rattle.cert_settle.specs.Walks.{IsNotShownFrom}
-use Rattle.cert_settle.specs.{CaseParts.leaves, CaseParts.whole_part, Counts.is_decided}
+use Rattle.cert_settle.specs.Counts.{is_decided}
 
 -- ---- few nodes
 
@@ -44,21 +41,6 @@ pub tree_few : (line : Line) (nodes : List CaseNode) → AreTree line nodes
     → length nodes < 2 ^ 32
 tree_few line nodes are =
     omega (arith, ap length are.are, nodes_count are.tree, are.few)
-
--- ---- a whole tree
-
-pub whole_not_shown : (line : Line) (script : Script) (k : ℕ) (nodes : List CaseNode) (t : CaseTree)
-    (fault : NotShown) → nodes ≡ preorder t
-    → IsNotShownFrom line script k (whole_part line) t 0 fault
-    → IsTreeNotShown line script k nodes fault.leaf
-whole_not_shown line script k nodes t fault are h =
-    let place : h.place ≡ fault.leaf = omega (arith, h.is) in
-    record {
-      tree = t;
-      are = are;
-      first = subst (λ (m : ℕ). IsFirstNotShown line script k (leaves (whole_part line) t) m) place
-          h.leaf;
-    }
 
 -- ---- what is supported is so
 

@@ -1,13 +1,16 @@
--- What a walk finds of a tree, from its root and what it finds of both trees below it.
-use Rattle.std.proofs.Common.{◌≡◌, ◌<◌, ◌≤◌, ◌+◌, ℕ, List, [], ◌∷◌, ◌++◌, length, drop, get_or}
+-- The leaves that a walk adds of a tree, from its root and what it adds of both trees below it.
+use Rattle.std.proofs.Common.{◌≡◌, ◌<◌, ◌≤◌, ◌+◌, ◌⊎◌, ⊎_elim, ℕ, Bool, List, [], ◌∷◌, ◌++◌, length, drop, get_or}
 use Rattle.std.proofs.Common.{true, refl, sym, ◌∙◌, ap, subst, arith, length-append}
 use Rattle.std.proofs.Common.{append_assoc, Option, None, Some}
 use Rattle.std.proofs.Math.Seq.{drop-append_seam}
 use Rattle.std.proofs.lemmas.List.{drop-drop, get_or-drop, length-drop}
 use Rattle.std.proofs.lemmas.Option.{same_Some}
-use Rattle.base_memory.specs.{Gives.OfFault, declared.stopped.Stopped.Stopped}
-use Rattle.base_memory.specs.declared.stopped.Stopped.TheVariants as stopped
-use Rattle.model_line.specs.{declared.line.Line.Line, declared.script.Script.Script}
+use Rattle.std.proofs.lemmas.Option.{slice_get_within}
+use Rattle.std.proofs.lemmas.List.{map-append}
+use Rattle.std.proofs.lemmas.Bool.{false_from_ne_true}
+use Rattle.std.specs.Prelude.{slice_get, Decides}
+use Rattle.model_history.specs.ListLaws.{at_push}
+use Rattle.model_line.specs.declared.line.Line.{Line}
 use Rattle.model_settle.specs.CaseTrees.{CaseTree, Yes, Undecided, Parted, Wanted}
 use Rattle.model_settle.specs.Assumed.{Throughout, Interrupted}
 use Rattle.judge_cases.specs.{declared.view.View.View, Views.view_box}
@@ -15,14 +18,11 @@ use Rattle.judge_cases.specs.declared.node.CaseNode.{CaseNode}
 use Rattle.judge_cases.specs.declared.node.CaseNode.TheVariants as node
 use Rattle.judge_cases.specs.Trees.{Branches}
 use Rattle.judge_cases.specs.Nodes.{preorder}
-use Rattle.cert_settle.specs.declared.tree.{NotShown.NotShown, Passed.Passed}
+use Rattle.cert_settle.specs.declared.tree.LeafViews.{LeafViews}
 use Rattle.cert_settle.specs.CaseParts.{CasePart, Leaf, leaves, lower_of, upper_of, under}
-use Rattle.cert_settle.specs.CaseParts.{parts_below, IsShownOver, AreSoundOver}
-use Rattle.cert_settle.specs.FirstLeaf.{IsFirstNotShown}
-use Rattle.cert_settle.specs.Walks.{IsWalked, IsNotShownFrom, IsLeafFault}
-use Rattle.cert_settle.specs.Walks.{IsViewOf, CanStand}
+use Rattle.cert_settle.specs.CaseParts.{parts_below}
+use Rattle.cert_settle.specs.Walks.{IsViewOf, CanStand, AreOfLeaves, AreAdded}
 use Rattle.cert_settle.proofs.NodeLaws.{parted_alike}
-use Rattle.cert_settle.proofs.FirstLeafLaws.{sound_shown, not_shown_first, not_shown_second}
 
 -- ---- the root
 
@@ -76,8 +76,6 @@ pub record AreTwoNext (line : Line) (part : CasePart) (tree : CaseTree) (a b : C
   pub leaves : leaves part tree ≡ leaves a first ++ leaves b second
   pub lower : Branches line a.box first
   pub upper : Branches line b.box second
-  pub sound : (script : Script) (k : ℕ) → AreSoundOver line script k a first
-      → AreSoundOver line script k b second → AreSoundOver line script k part tree
   pub first_next : drop (at + 1) nodes ≡ preorder first ++ (preorder second ++ after)
   pub second_next : drop ((at + 1) + length (preorder first)) nodes ≡ preorder second ++ after
 
@@ -126,7 +124,6 @@ two_next line part (Parted param mid first second) root a b after nodes at branc
       leaves = refl;
       lower = branches.1.0;
       upper = branches.1.1;
-      sound = λ script k one two. (branches.0, (one, two));
       first_next = first_after (node.Parted param mid) pre post after nodes at are;
       second_next = second_after (node.Parted param mid) pre post after nodes at are;
     })
@@ -142,7 +139,6 @@ two_next line part (Wanted span first second) root a b after nodes at branches a
       leaves = refl;
       lower = branches.1.0;
       upper = branches.1.1;
-      sound = λ script k one two. (branches.0, (one, two));
       first_next = first_after (node.Wanted span.terminal span.from span.to) pre post after nodes at are;
       second_next = second_after (node.Wanted span.terminal span.from span.to) pre post after nodes at are;
     })
@@ -171,103 +167,75 @@ few_leaves (Wanted span first second) part =
       length-append (preorder first) (preorder second),
     )
 
-module _ (line : Line) (script : Script) (k : ℕ) where
-  -- ---- leaves
+-- ---- leaves that are added
 
-  pub walked_leaf : (tree : CaseTree) (part : CasePart) (root : CaseNode) (passed walked : Passed)
-      → root_of tree ≡ root → parts_below part root ≡ None
-      → (root ≡ node.Yes → IsShownOver line script k part) → walked.nodes ≡ passed.nodes + 1
-      → walked.leaves ≡ passed.leaves + 1 → IsWalked line script k part tree passed walked
-  walked_leaf Yes part root passed walked is below shown nodes count = record {
-    nodes = nodes;
-    leaves = count;
-    sound = shown (sym is);
-  }
-  walked_leaf Undecided part root passed walked is below shown nodes count = record {
-    nodes = nodes;
-    leaves = count;
-    sound = tt;
-  }
-  walked_leaf (Parted p m first second) part root passed walked is below shown nodes count =
-      absurd (let some : Some (lower_of part p m, upper_of part p m) ≡ None =
-      subst (λ (r : CaseNode). parts_below part r ≡ None) (sym is) below in cc)
-  walked_leaf (Wanted span first second) part root passed walked is below shown nodes count =
-      absurd (let some : Some (under part (Throughout span), under part (Interrupted span)) ≡ None =
-      subst (λ (r : CaseNode). parts_below part r ≡ None) (sym is) below in cc)
+abbrev leaf_of : CasePart → Bool → Leaf
+leaf_of part yes = record { part = part; yes = yes }
 
-  yes_not_shown : (tree : CaseTree) (part : CasePart) (leaf : ℕ) (fault : NotShown)
-      → root_of tree ≡ node.Yes → fault.leaf ≡ leaf → ¬ (IsShownOver line script k part)
-      → IsNotShownFrom line script k part tree leaf fault
-  yes_not_shown Yes part leaf fault is at never = record {
-    place = 0;
-    is = omega (arith, at);
-    leaf = record {
-      leaf = record { part = part; yes = true };
-      at = refl;
-      yes = refl;
-      not_shown = never;
-      before = λ i earlier lt at yes. absurd (omega (arith, lt));
-    };
-  }
-  yes_not_shown Undecided part leaf fault is at never = absurd (cc)
-  yes_not_shown (Parted p m first second) part leaf fault is at never = absurd (cc)
-  yes_not_shown (Wanted span first second) part leaf fault is at never = absurd (cc)
+-- one leaf more
+one_leaf : (line : Line) (all : List Leaf) (part : CasePart) (view : View) (yes : Bool)
+    (old new : LeafViews) → new.views.items ≡ old.views.items ++ view ∷ []
+    → new.yes.items ≡ old.yes.items ++ yes ∷ [] → IsViewOf line part view
+    → AreOfLeaves line all old → AreOfLeaves line (all ++ leaf_of part yes ∷ []) new
+one_leaf line all part view yes old new views told is so_far = record {
+  many = ap length views ∙ length-append old.views.items (view ∷ [])
+      ∙ ap (λ (n : ℕ). n + 1) so_far.many ∙ sym (length-append all (leaf_of part yes ∷ []));
+  each = λ i leaf v at here.
+      let there : (slice_get old.views.items i ≡ Some v)
+      ⊎ ((i ≡ length old.views.items) × (v ≡ view)) =
+      at_push old.views.items view v i (subst (λ (l : List View). slice_get l i ≡ Some v) views here) in
+      ⊎_elim
+      (λ early. ⊎_elim (λ before. so_far.each i leaf v early before)
+      (λ last. absurd (omega (arith, last.0, so_far.many, slice_get_within all i leaf early))) there)
+      (λ late. ⊎_elim
+      (λ before. absurd (omega (arith, late.0, so_far.many,
+      slice_get_within old.views.items i v before)))
+      (λ last. subst (λ (l : Leaf). IsViewOf line l.part v) (sym late.1)
+      (subst (IsViewOf line part) (sym last.1) is)) there)
+      (at_push all (leaf_of part yes) leaf i at);
+  yes = told ∙ ap (λ (l : List Bool). l ++ yes ∷ []) so_far.yes
+      ∙ sym (map-append (λ (l : Leaf). l.yes) all (leaf_of part yes ∷ []));
+}
 
-  -- what is wrong with a leaf is wrong with the tree that it is
-  pub fault_leaf : (tree : CaseTree) (part : CasePart) (root : CaseNode) (leaf : ℕ)
-      (why : Stopped NotShown) → root_of tree ≡ root
-      → OfFault (IsLeafFault line script k part root leaf) why
-      → OfFault (IsNotShownFrom line script k part tree leaf) why
-  fault_leaf tree part root leaf (stopped.Fault fault) is h =
-      yes_not_shown tree part leaf fault (is ∙ h.1.0) h.0 h.1.1
-  fault_leaf tree part root leaf stopped.Memory is h = tt
+-- a tree that is one leaf
+pub added_leaf : (line : Line) (tree : CaseTree) (part : CasePart) (root : CaseNode) (view : View)
+    (yes : Bool) (old new : LeafViews) (at end : ℕ) → root_of tree ≡ root
+    → parts_below part root ≡ None → Decides yes (root ≡ node.Yes)
+    → new.views.items ≡ old.views.items ++ view ∷ []
+    → new.yes.items ≡ old.yes.items ++ yes ∷ [] → IsViewOf line part view → end ≡ at + 1
+    → AreAdded line part tree at end old new
+added_leaf line Yes part root view yes old new at end is below told views flags of_part past = record {
+  nodes = past;
+  more = λ all so_far. subst (λ (b : Bool). AreOfLeaves line (all ++ leaf_of part b ∷ []) new)
+      (told.1 (sym is)) (one_leaf line all part view yes old new views flags of_part so_far);
+}
+added_leaf line Undecided part root view yes old new at end is below told views flags of_part past = record {
+  nodes = past;
+  more = λ all so_far. subst (λ (b : Bool). AreOfLeaves line (all ++ leaf_of part b ∷ []) new)
+      (false_from_ne_true yes (λ on. let same : root ≡ node.Yes = told.0 on in cc))
+      (one_leaf line all part view yes old new views flags of_part so_far);
+}
+added_leaf line (Parted p m first second) part root view yes old new at end is below told views flags
+    of_part past =
+    absurd (let some : Some (lower_of part p m, upper_of part p m) ≡ None =
+    subst (λ (r : CaseNode). parts_below part r ≡ None) (sym is) below in cc)
+added_leaf line (Wanted span first second) part root view yes old new at end is below told views flags
+    of_part past =
+    absurd (let some : Some (under part (Throughout span), under part (Interrupted span)) ≡ None =
+    subst (λ (r : CaseNode). parts_below part r ≡ None) (sym is) below in cc)
 
-  -- ---- two trees
-
-  module _ (part a b : CasePart) (tree : CaseTree) (after nodes : List CaseNode) (at : ℕ)
-      (two : AreTwoNext line part tree a b after nodes at) where
-    pub walked_two : (passed below between walked : Passed)
-        → below.nodes ≡ passed.nodes + 1 → below.leaves ≡ passed.leaves
-        → IsWalked line script k a two.first below between
-        → IsWalked line script k b two.second between walked
-        → IsWalked line script k part tree passed walked
-    walked_two passed below between walked nodes count one other = record {
-      nodes = omega (arith, nodes, one.nodes, other.nodes, two.count);
-      leaves = omega (
-        arith,
-        count,
-        one.leaves,
-        other.leaves,
-        ap length two.leaves,
-        length-append (leaves a two.first) (leaves b two.second),
-      );
-      sound = two.sound script k one.sound other.sound;
-    }
-
-    pub fault_first : (leaf : ℕ) (why : Stopped NotShown)
-        → OfFault (IsNotShownFrom line script k a two.first leaf) why
-        → OfFault (IsNotShownFrom line script k part tree leaf) why
-    fault_first leaf (stopped.Fault fault) h = record {
-      place = h.place;
-      is = h.is;
-      leaf = subst (λ (l : List Leaf). IsFirstNotShown line script k l h.place) (sym two.leaves)
-          (not_shown_first line script k (leaves a two.first) (leaves b two.second) h.place h.leaf);
-    }
-    fault_first leaf stopped.Memory h = tt
-
-    pub fault_second : (below between : Passed) (why : Stopped NotShown)
-        → IsWalked line script k a two.first below between
-        → OfFault (IsNotShownFrom line script k b two.second between.leaves) why
-        → OfFault (IsNotShownFrom line script k part tree below.leaves) why
-    fault_second below between (stopped.Fault fault) one h = record {
-      place = length (leaves a two.first) + h.place;
-      is = omega (arith, h.is, one.leaves);
-      leaf = subst (λ (l : List Leaf). IsFirstNotShown line script k l (length (leaves a two.first) + h.place))
-          (sym two.leaves)
-          (not_shown_second line script k (leaves a two.first) (leaves b two.second) h.place
-          (sound_shown line script k two.first a one.sound) h.leaf);
-    }
-    fault_second below between stopped.Memory one h = tt
+-- a tree of two
+pub added_two : (line : Line) (part a b : CasePart) (tree : CaseTree) (after nodes : List CaseNode)
+    (at : ℕ) (two : AreTwoNext line part tree a b after nodes at) (between end : ℕ)
+    (old mid new : LeafViews) → AreAdded line a two.first (at + 1) between old mid
+    → AreAdded line b two.second between end mid new → AreAdded line part tree at end old new
+added_two line part a b tree after nodes at two between end old mid new one other = record {
+  nodes = omega (arith, one.nodes, other.nodes, two.count);
+  more = λ all so_far. subst (λ (l : List Leaf). AreOfLeaves line l new)
+      (append_assoc all (leaves a two.first) (leaves b two.second)
+      ∙ ap (λ (l : List Leaf). all ++ l) (sym two.leaves))
+      (other.more (all ++ leaves a two.first) (one.more all so_far));
+}
 
 -- ---- what can stand
 

@@ -1,16 +1,15 @@
--- A walk through the nodes of a tree, as the code does it.
-use Rattle.std.specs.Prelude.{◌≡◌, ◌+◌, ◌++◌, ℕ, List, length, Some}
-use Rattle.model_line.specs.{declared.line.Line.Line, declared.script.Script.Script}
+-- A walk through the nodes of a tree, as the code does it, and what it gathers.
+use Rattle.std.specs.Prelude.{◌≡◌, ◌<◌, ◌+◌, ◌++◌, ℕ, Bool, true, false, List, Option, Some, None}
+use Rattle.std.specs.Prelude.{length, map, slice_get, IsTrue}
+use Rattle.model_line.specs.declared.line.Line.{Line}
 use Rattle.model_settle.specs.{CaseTrees.CaseTree, Assumed.HasSpan, Parts.CanPart}
 use Rattle.judge_cases.specs.AssumedAt.{span_at}
 use Rattle.judge_cases.specs.Trees.{Branches}
 use Rattle.judge_cases.specs.{declared.node.CaseNode.CaseNode, Nodes.preorder}
 use Rattle.judge_cases.specs.declared.node.CaseNode.TheVariants as node
 use Rattle.judge_cases.specs.{declared.view.View.View, Views.Views, Views.view_box}
-use Rattle.cert_settle.specs.declared.tree.{NotShown.NotShown, Passed.Passed}
-use Rattle.cert_settle.specs.FirstLeaf.{IsFirstNotShown}
-use Rattle.cert_settle.specs.CaseParts.{CasePart, parts_below, leaves, IsShownOver}
-use Rattle.cert_settle.specs.CaseParts.{AreSoundOver}
+use Rattle.cert_settle.specs.declared.tree.LeafViews.{LeafViews}
+use Rattle.cert_settle.specs.CaseParts.{CasePart, Leaf, parts_below, leaves}
 
 -- the view is of this part
 abbrev pub IsViewOf : Line → CasePart → View → Type 0
@@ -41,21 +40,31 @@ pub record AreViewsBelow (line : Line) (part : CasePart) (root : CaseNode) (one 
   pub at_first : IsViewOf line first one
   pub at_second : IsViewOf line second two
 
--- from so far on the tree was walked to its end, and it is sound
-pub record IsWalked (line : Line) (script : Script) (k : ℕ) (part : CasePart) (tree : CaseTree)
-    (passed walked : Passed) : Type 0 where
-  pub nodes : walked.nodes ≡ passed.nodes + length (preorder tree)
-  pub leaves : walked.leaves ≡ passed.leaves + length (leaves part tree)
-  pub sound : AreSoundOver line script k part tree
+-- the views are of these leaves, one for each, and it is told which are yes
+pub record AreOfLeaves (line : Line) (all : List Leaf) (told : LeafViews) : Type 0 where
+  pub many : length told.views.items ≡ length all
+  pub each : (i : ℕ) (leaf : Leaf) (view : View) → slice_get all i ≡ Some leaf
+      → slice_get told.views.items i ≡ Some view → IsViewOf line leaf.part view
+  pub yes : told.yes.items ≡ map (λ l. l.yes) all
 
--- this yes leaf of it is not shown, where its first leaf has number `first`
-pub record IsNotShownFrom (line : Line) (script : Script) (k : ℕ) (part : CasePart)
-    (tree : CaseTree) (first : ℕ) (fault : NotShown) : Type 0 where
-  pub place : ℕ
-  pub is : fault.leaf ≡ first + place
-  pub leaf : IsFirstNotShown line script k (leaves part tree) place
+-- the tree ends there, and its leaves were added to those before
+pub record AreAdded (line : Line) (part : CasePart) (tree : CaseTree) (at end : ℕ)
+    (old new : LeafViews) : Type 0 where
+  pub nodes : end ≡ at + length (preorder tree)
+  pub more : (all : List Leaf) → AreOfLeaves line all old
+      → AreOfLeaves line (all ++ leaves part tree) new
 
--- a leaf of this number is yes and not shown
-abbrev pub IsLeafFault : Line → Script → ℕ → CasePart → CaseNode → ℕ → NotShown → Type 0
-IsLeafFault line script k part root leaf fault =
-    (fault.leaf ≡ leaf) × ((root ≡ node.Yes) × ¬ (IsShownOver line script k part))
+-- at each of the first n places that is yes it is shown
+abbrev pub NoneIsWrong : List Bool → List Bool → ℕ → Type 0
+NoneIsWrong yes shown n = (i : ℕ) (b : Bool) → i < n → slice_get yes i ≡ Some true
+    → slice_get shown i ≡ Some b → IsTrue b
+
+-- at this place it is yes and not shown, and it is at no place before; or it is at none
+pub record IsWrongAt (yes shown : List Bool) (n : ℕ) : Type 0 where
+  pub yes : slice_get yes n ≡ Some true
+  pub not_shown : slice_get shown n ≡ Some false
+  pub before : NoneIsWrong yes shown n
+
+abbrev pub IsFirstWrong : List Bool → List Bool → Option ℕ → Type 0
+IsFirstWrong yes shown None = NoneIsWrong yes shown (length yes)
+IsFirstWrong yes shown (Some n) = IsWrongAt yes shown n

@@ -1,8 +1,11 @@
 //! The check of what is said of a script.
 
-ghost use Rattle.std.specs.Prelude.{◌<◌, map, IfOk, MatchResult};
+ghost use Rattle.std.specs.Prelude.{◌≡◌, ◌<◌, map, IfOk, MatchResult};
 ghost use Rattle.base_memory.specs.Gives.{OfFault};
 ghost use Rattle.model_line.specs.{Fits.Fits, Parameters.terminal_count};
+ghost use Rattle.model_logic.specs.Choice.{declared_box};
+ghost use Rattle.run_step.specs.Runs.{IsTheHistory};
+ghost use Rattle.judge_verdict.specs.verdict.PairWavesOf.{pair_history};
 ghost use Rattle.judge_cases.specs.Trees.{AreTree};
 ghost use Rattle.cert_settle.specs.Grammar.{IsSettleResult, HasOneEach};
 ghost use Rattle.cert_settle.specs.Reading.{result_in};
@@ -13,16 +16,18 @@ ghost use Rattle.cert_settle.specs.Results.{AreTold, IsFirstFault};
 use crate::claim::TreeClaim;
 use crate::fault::ResultFault;
 use crate::timing::check_timing;
-use crate::tree::{Obligation, Passed, walk};
+use crate::tree::{Obligation, first_not_shown};
 use base_memory::Stopped;
-use judge_cases::{CaseNode, declared_view};
+use judge_cases::CaseNode;
+use judge_verdict::verdict::{PairWaves, analyse};
 use model_fine::span_laws::sound_trees_meet;
 use model_line::Script;
 use model_line::laws::deadlines_are_below_the_horizon;
 use net_gates::Compiled;
 use std::alloc::Global;
 
-/// Checks the results of a script, by terminal. The error is the first fault.
+/// Checks the results of a script, by terminal. The error is the first fault. One analysis serves the
+/// trees of one leaf.
 pub(crate) fn check_results(
     alloc: Global,
     compiled: &Compiled<'_>,
@@ -40,8 +45,9 @@ pub(crate) fn check_results(
 {
     sound_trees_meet();
     deadlines_are_below_the_horizon();
+    let waves = analyse(alloc, compiled, script)?;
     for i in 0..results.len() {
-        check_result(alloc, compiled, script, i as u32, &results[i])?;
+        check_result(alloc, compiled, script, &waves, i as u32, &results[i])?;
     }
     Ok(())
 }
@@ -51,11 +57,16 @@ fn check_result(
     alloc: Global,
     compiled: &Compiled<'_>,
     script: &Script,
+    waves: &PairWaves,
     terminal: u32,
     claim: &TreeClaim,
 ) -> Result<(), Stopped<ResultFault>>
     requires fits { Fits compiled.now.line.now script.now }
     requires terminal { terminal < terminal_count compiled.now.line.now }
+    requires terminals { waves.now.terminals ≡ terminal_count compiled.now.line.now }
+    requires horizon { waves.now.horizon ≡ compiled.now.line.now.horizon }
+    requires history { IsTheHistory compiled.now.line.now script.now
+        (declared_box compiled.now.line.now) (pair_history waves.now) }
     requires said { IsSettleResult compiled.now.line.now (result_in claim.now) }
     ensures { MatchResult result
         (λ _. IsSupported compiled.now.line.now script.now terminal (result_in claim.now))
@@ -68,7 +79,7 @@ fn check_result(
                 script,
                 terminal,
             };
-            check_tree(alloc, &of, nodes.as_slice())
+            check_tree(alloc, &of, waves, nodes.as_slice())
         }
         TreeClaim::Fails { steps, numbers } => {
             let (steps, numbers) = (steps.as_slice(), numbers.as_slice());
@@ -84,27 +95,26 @@ fn check_result(
 fn check_tree(
     alloc: Global,
     of: &Obligation<'_>,
+    waves: &PairWaves,
     nodes: &[CaseNode],
 ) -> Result<(), Stopped<ResultFault>>
     requires fits { Fits of.now.compiled.line.now of.now.script.now }
     requires terminal { of.now.terminal < terminal_count of.now.compiled.line.now }
+    requires terminals { waves.now.terminals ≡ terminal_count of.now.compiled.line.now }
+    requires horizon { waves.now.horizon ≡ of.now.compiled.line.now.horizon }
+    requires history { IsTheHistory of.now.compiled.line.now of.now.script.now
+        (declared_box of.now.compiled.line.now) (pair_history waves.now) }
     requires tree { AreTree of.now.compiled.line.now nodes.now }
     ensures { MatchResult result
         (λ _. IsTreeShown of.now.compiled.line.now of.now.script.now of.now.terminal nodes.now)
         (OfFault (IsTreeFault of.now.compiled.line.now of.now.script.now of.now.terminal
         nodes.now)) }
 {
-    let view = declared_view(alloc, of.compiled.line)?;
-    let none = Passed {
-        nodes: 0,
-        leaves: 0,
-    };
-    match walk(alloc, of, &view, nodes, none) {
-        Ok(_) => Ok(()),
-        Err(Stopped::Fault(not_shown)) => Err(Stopped::Fault(ResultFault::NotShown {
+    match first_not_shown(alloc, of, waves, nodes)? {
+        Some(leaf) => Err(Stopped::Fault(ResultFault::NotShown {
             terminal: of.terminal,
-            leaf: not_shown.leaf,
+            leaf,
         })),
-        Err(Stopped::Memory) => Err(Stopped::Memory),
+        None => Ok(()),
     }
 }

@@ -1,37 +1,39 @@
-//! The check of a tree: a walk through its nodes, each leaf with its part of the box and what is
-//! assumed there.
+//! The check of a tree: its leaves, each with its part of the box and what is assumed there.
 
-ghost use Rattle.std.specs.Prelude.{◌≡◌, ◌≤◌, ◌<◌, ◌+◌, ◌++◌, ◌^◌, List, length, drop, MatchResult};
-ghost use Rattle.std.specs.Prelude.{IfOk, MatchOption, None};
-ghost use Rattle.base_memory.specs.Gives.{OfFault};
+ghost use Rattle.std.specs.Prelude.{◌≡◌, ◌≤◌, ◌<◌, ◌+◌, ◌++◌, ◌∷◌, ◌^◌, [], List, length, drop};
+ghost use Rattle.std.specs.Prelude.{IfOk, OnOk, MatchOption, None};
+ghost use Rattle.std.specs.Bool.{Decides};
 ghost use Rattle.model_line.specs.{Fits.Fits, Parameters.terminal_count};
+ghost use Rattle.model_logic.specs.Choice.{declared_box};
 ghost use Rattle.model_settle.specs.CaseTrees.{CaseTree};
+ghost use Rattle.run_step.specs.Runs.{IsTheHistory};
+ghost use Rattle.judge_verdict.specs.verdict.PairWavesOf.{pair_history};
 ghost use Rattle.judge_cases.specs.Views.{IsView};
 ghost use Rattle.judge_cases.specs.declared.node.CaseNode.{CaseNode};
-ghost use Rattle.judge_cases.specs.Trees.{Branches};
+ghost use Rattle.judge_cases.specs.Trees.{Branches, AreTree};
 ghost use Rattle.judge_cases.specs.Nodes.{preorder};
-ghost use Rattle.cert_settle.specs.CaseParts.{CasePart, parts_below, IsShownOver};
-ghost use Rattle.cert_settle.specs.Walks.{BeginWithTree, IsWalked, IsLeafFault, IsNotShownFrom};
-ghost use Rattle.cert_settle.specs.Walks.{IsViewOf, CanStand, AreViewsBelow};
+ghost use Rattle.cert_settle.specs.CaseParts.{CasePart, parts_below};
+ghost use Rattle.cert_settle.specs.FirstLeaf.{IsTreeShown, IsTreeNotShown};
+ghost use Rattle.cert_settle.specs.Walks.{BeginWithTree, IsViewOf, CanStand, AreViewsBelow, AreAdded};
+ghost use Rattle.cert_settle.specs.Walks.{IsFirstWrong};
 
-use base_memory::Stopped;
-use judge_cases::{Assumed, CaseNode, View, assumed_view, is_shown, lower_view, upper_view};
+use judge_cases::laws::a_view_stands_for_its_box;
+use judge_cases::{
+    Assumed, CaseNode, View, are_shown, assumed_view, declared_view, lower_view, upper_view,
+};
+use judge_verdict::verdict::{PairWaves, Rule, judge};
 use model_line::laws::deadlines_are_below_the_horizon;
 use model_line::{Line, Memory, Script};
+use model_logic::laws::the_rule_is_exact;
+use model_settle::case_laws::each_box_has_one_history_under;
 use net_gates::Compiled;
 use std::alloc::Global;
 
-/// How many nodes and how many leaves of a tree a walk has passed.
-#[derive(Clone, Copy)]
-pub(crate) struct Passed {
-    pub nodes: usize,
-    pub leaves: u32,
-}
-
-/// The number of a yes leaf that is not shown.
-#[derive(Clone, Copy, Drop)]
-pub(crate) struct NotShown {
-    pub leaf: u32,
+/// The views of leaves, in the order of their tree, and which of them are yes.
+#[derive(Drop)]
+pub(crate) struct LeafViews {
+    pub views: Vec<View>,
+    pub yes: Vec<bool>,
 }
 
 /// An obligation: a script at a terminal of a line, and the line's net.
@@ -42,36 +44,120 @@ pub(crate) struct Obligation<'a> {
     pub terminal: u32,
 }
 
-/// Walks through the tree that comes next among the nodes, over the box of a view under what it
-/// assumes. The error is its first yes leaf that is not shown.
-pub(crate) fn walk(
+/// The number of the first yes leaf of a tree over the declared box that is not shown, if there is
+/// one. The script's waves tell of the whole box, where the tree is one leaf; else one run serves 64
+/// leaves.
+pub(crate) fn first_not_shown(
     alloc: Global,
     of: &Obligation<'_>,
-    view: &View,
+    waves: &PairWaves,
     nodes: &[CaseNode],
-    passed: Passed,
-) -> Result<Passed, Stopped<NotShown>>
+) -> Result<Option<u32>, Memory>
     requires fits { Fits of.now.compiled.line.now of.now.script.now }
     requires terminal { of.now.terminal < terminal_count of.now.compiled.line.now }
-    requires few { length nodes.now < 2 ^ 32 }
-    requires leaves { passed.leaves ≤ passed.nodes }
-    requires tree { BeginWithTree of.now.compiled.line.now view.now (drop passed.nodes nodes.now) }
-    ensures { (part : CasePart) (tree : CaseTree) (after : List CaseNode) →
-        IsViewOf of.now.compiled.line.now part view.now → Branches of.now.compiled.line.now part.box
-        tree →
-        drop passed.nodes nodes.now ≡ preorder tree ++ after → MatchResult result
-        (λ walked. IsWalked of.now.compiled.line.now of.now.script.now of.now.terminal part tree
-        passed walked)
-        (OfFault (IsNotShownFrom of.now.compiled.line.now of.now.script.now of.now.terminal
-        part tree passed.leaves)) }
+    requires terminals { waves.now.terminals ≡ terminal_count of.now.compiled.line.now }
+    requires horizon { waves.now.horizon ≡ of.now.compiled.line.now.horizon }
+    requires history { IsTheHistory of.now.compiled.line.now of.now.script.now
+        (declared_box of.now.compiled.line.now) (pair_history waves.now) }
+    requires tree { AreTree of.now.compiled.line.now nodes.now }
+    ensures { IfOk result (λ found. MatchOption found
+        (IsTreeShown of.now.compiled.line.now of.now.script.now of.now.terminal nodes.now)
+        (λ leaf. IsTreeNotShown of.now.compiled.line.now of.now.script.now of.now.terminal nodes.now
+        leaf)) }
 {
-    let root = nodes[passed.nodes];
-    let Some((first, second)) = views_below(alloc, of.compiled.line, view, root)? else {
-        check_leaf(alloc, of, view, root, passed.leaves)?;
-        return Ok(after_leaf(passed));
+    if nodes.len() == 1 {
+        return Ok(root_not_shown(of, waves, nodes[0]));
+    }
+    leaf_not_shown(alloc, of, nodes)
+}
+
+// The root of a tree that is one leaf, by its number, where it is yes and not shown.
+fn root_not_shown(of: &Obligation<'_>, waves: &PairWaves, root: CaseNode) -> Option<u32>
+    requires fits { Fits of.now.compiled.line.now of.now.script.now }
+    requires terminal { of.now.terminal < terminal_count of.now.compiled.line.now }
+    requires terminals { waves.now.terminals ≡ terminal_count of.now.compiled.line.now }
+    requires horizon { waves.now.horizon ≡ of.now.compiled.line.now.horizon }
+    requires history { IsTheHistory of.now.compiled.line.now of.now.script.now
+        (declared_box of.now.compiled.line.now) (pair_history waves.now) }
+    ensures { AreTree of.now.compiled.line.now (root ∷ []) → MatchOption result
+        (IsTreeShown of.now.compiled.line.now of.now.script.now of.now.terminal (root ∷ []))
+        (λ leaf. IsTreeNotShown of.now.compiled.line.now of.now.script.now of.now.terminal
+        (root ∷ []) leaf) }
+{
+    each_box_has_one_history_under();
+    deadlines_are_below_the_horizon();
+    if is_yes(root) && judge(waves, of.script, of.terminal) != Rule::Held {
+        return Some(0);
+    }
+    None
+}
+
+fn is_yes(node: CaseNode) -> bool
+    ensures { Decides result (node ≡ CaseNode.Yes) }
+{
+    matches!(node, CaseNode::Yes)
+}
+
+// The first yes leaf that is not shown, of all leaves, which are shown side by side.
+fn leaf_not_shown(
+    alloc: Global,
+    of: &Obligation<'_>,
+    nodes: &[CaseNode],
+) -> Result<Option<u32>, Memory>
+    requires fits { Fits of.now.compiled.line.now of.now.script.now }
+    requires terminal { of.now.terminal < terminal_count of.now.compiled.line.now }
+    requires tree { AreTree of.now.compiled.line.now nodes.now }
+    ensures { IfOk result (λ found. MatchOption found
+        (IsTreeShown of.now.compiled.line.now of.now.script.now of.now.terminal nodes.now)
+        (λ leaf. IsTreeNotShown of.now.compiled.line.now of.now.script.now of.now.terminal nodes.now
+        leaf)) }
+{
+    a_view_stands_for_its_box();
+    deadlines_are_below_the_horizon();
+    let view = declared_view(alloc, of.compiled.line)?;
+    let mut leaves = LeafViews {
+        views: Vec::new(alloc),
+        yes: Vec::new(alloc),
     };
-    let between = walk(alloc, of, &first, nodes, after_branch(passed))?;
-    walk(alloc, of, &second, nodes, between)
+    let _end = add_leaves(alloc, of.compiled.line, view, nodes, 0, &mut leaves)?;
+    let shown = are_shown(alloc, &of.compiled, of.script, of.terminal, &leaves.views)?;
+    Ok(first_wrong(&leaves.yes, &shown))
+}
+
+// Adds the leaves of the tree that comes next among the nodes, over the box of a view under what it
+// assumes, and answers where the tree ends.
+fn add_leaves(
+    alloc: Global,
+    line: &Line,
+    view: View,
+    nodes: &[CaseNode],
+    at: usize,
+    leaves: &mut LeafViews,
+) -> Result<usize, Memory>
+    requires few { length nodes.now < 2 ^ 32 }
+    requires tree { BeginWithTree line.now view (drop at nodes.now) }
+    ensures { (part : CasePart) (tree : CaseTree) (after : List CaseNode) →
+        IsViewOf line.now part view → Branches line.now part.box tree →
+        drop at nodes.now ≡ preorder tree ++ after →
+        IfOk result (λ end. AreAdded line.now part tree at end leaves.old leaves.new) }
+{
+    let root = nodes[at];
+    let Some((first, second)) = views_below(alloc, line, &view, root)? else {
+        push_leaf(view, is_yes(root), leaves)?;
+        return Ok(at + 1);
+    };
+    let between = add_leaves(alloc, line, first, nodes, at + 1, leaves)?;
+    add_leaves(alloc, line, second, nodes, between, leaves)
+}
+
+// Adds a leaf.
+fn push_leaf(view: View, yes: bool, leaves: &mut LeafViews) -> Result<(), Memory>
+    ensures views { OnOk result (leaves.new.views.items ≡ leaves.old.views.items ++ view ∷ []) }
+    ensures yes { OnOk result (leaves.new.yes.items ≡ leaves.old.yes.items ++ yes ∷ []) }
+{
+    leaves.views.push(view)?;
+    leaves.yes.push(yes)?;
+    Ok(())
 }
 
 // The views of the two trees below a node, where it is a part or a pair of cases.
@@ -105,54 +191,16 @@ fn views_below(
     }
 }
 
-fn after_leaf(passed: Passed) -> Passed
-    requires few { passed.nodes + 1 < 2 ^ 32 }
-    requires leaves { passed.leaves ≤ passed.nodes }
-    ensures nodes { result.nodes ≡ passed.nodes + 1 }
-    ensures leaves { result.leaves ≡ passed.leaves + 1 }
+// The first place where a leaf is yes and not shown.
+fn first_wrong(yes: &[bool], shown: &[bool]) -> Option<u32>
+    requires one_each { length shown.now ≡ length yes.now }
+    requires few { length yes.now < 2 ^ 32 }
+    ensures { IsFirstWrong yes.now shown.now result }
 {
-    Passed {
-        nodes: passed.nodes + 1,
-        leaves: passed.leaves + 1,
+    for i in 0..yes.len() {
+        if yes[i] && !shown[i] {
+            return Some(i as u32);
+        }
     }
-}
-
-fn after_branch(passed: Passed) -> Passed
-    requires { passed.nodes < 2 ^ 32 }
-    ensures nodes { result.nodes ≡ passed.nodes + 1 }
-    ensures leaves { result.leaves ≡ passed.leaves }
-{
-    Passed {
-        nodes: passed.nodes + 1,
-        leaves: passed.leaves,
-    }
-}
-
-// Checks the leaf of this number: where it is yes, the obligation is shown over the view.
-fn check_leaf(
-    alloc: Global,
-    of: &Obligation<'_>,
-    view: &View,
-    root: CaseNode,
-    leaf: u32,
-) -> Result<(), Stopped<NotShown>>
-    requires fits { Fits of.now.compiled.line.now of.now.script.now }
-    requires terminal { of.now.terminal < terminal_count of.now.compiled.line.now }
-    requires view { (part : CasePart) × IsViewOf of.now.compiled.line.now part view.now }
-    ensures { (part : CasePart) → IsViewOf of.now.compiled.line.now part view.now → MatchResult
-        result
-        (λ _. root ≡ CaseNode.Yes → IsShownOver of.now.compiled.line.now of.now.script.now
-        of.now.terminal part)
-        (OfFault (IsLeafFault of.now.compiled.line.now of.now.script.now of.now.terminal part root
-        leaf)) }
-{
-    deadlines_are_below_the_horizon();
-    if root != CaseNode::Yes {
-        return Ok(());
-    }
-    if is_shown(alloc, &of.compiled, of.script, of.terminal, view)? {
-        Ok(())
-    } else {
-        Err(Stopped::Fault(NotShown { leaf }))
-    }
+    None
 }

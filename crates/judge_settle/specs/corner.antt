@@ -1,5 +1,6 @@
 pub mod Named
 pub mod Corner
+pub mod Delays
 pub mod Steps
 pub mod Decided
 pub mod Failing

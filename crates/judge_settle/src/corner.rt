@@ -1,7 +1,7 @@
 //! The worst corner as a timing, and a timing that fails, cut to what matters.
 //!
-//! - `decided`: where a line's scheme reads every number at one end alone, one timing for each
-//!   script, its delays moving, decides every obligation of it.
+//! - `decided`: where a line's scheme reads every number at one end alone, the rules decide every
+//!   obligation of a script, and one timing, its delays moving, fails each that is not held.
 //! - `cutting`: each number that may stand in the middle of its interval, or else at its least,
 //!   stands there, and each step that may be left out is left out, as long as the obligation still
 //!   fails.
@@ -25,7 +25,7 @@ mod timing;
 pub use changed::number_of;
 pub use cutting::cut;
 pub use decided::{Decided, decide};
-pub use delays::delay_at;
+pub use delays::{Lasting, delay_from};
 pub use obligation::Obligation;
 pub(crate) use play::fails;
 pub use rail::{End, Rail, deciding};

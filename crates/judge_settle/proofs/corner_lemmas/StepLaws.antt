@@ -30,12 +30,12 @@ before_parts s param t before =
     inr (eqb-true s.param param p.0, ltb-true s.from t p.1))
     (or_cases (nat_lt s.param param) ((s.param == param) && nat_lt s.from t) before)
 
-before_later : (s : Step ℕ) (param t : ℕ) → comes_before s (at param t) ≡ true
-    → comes_before s (at param (t + 1)) ≡ true
-before_later s param t before =
-    ⊎_elim (λ less. before_by_param s (at param (t + 1)) less)
+before_later : (s : Step ℕ) (param t later : ℕ) → t ≤ later → comes_before s (at param t) ≡ true
+    → comes_before s (at param later) ≡ true
+before_later s param t later more before =
+    ⊎_elim (λ less. before_by_param s (at param later) less)
     (λ same. let less : s.from < t = same.1 in
-    before_by_tick s (at param (t + 1)) same.0 (omega arith))
+    before_by_tick s (at param later) same.0 (omega arith))
     (before_parts s param t before)
 
 before_next : (s : Step ℕ) (param next t : ℕ) → param < next
@@ -123,6 +123,23 @@ module _ (line : Line) (delay : ℕ → ℕ → ℕ) (numbers : List ℕ) where
         (before_parts (get_or steps k e) (delay_param line c) 1
         (so_far.before c (omega arith) cn k e lt)))
 
+    -- a delay that stays has its last number
+    pub goes_on : (t until n : ℕ) → t ≤ until → AreStepsUpTo line delay numbers c t steps
+        → IsNumberFrom steps (delay_param line c) (own_of c) t n
+        → ((r : ℕ) → t ≤ r → r < until → n ≡ delay c r)
+        → AreStepsUpTo line delay numbers c until steps
+    goes_on t until n later so_far now stays = record {
+      ascending = so_far.ascending;
+      before = λ d low high k e lt.
+          before_later (get_or steps k e) (delay_param line d) t until later
+          (so_far.before d low high k e lt);
+      inside = so_far.inside;
+      done = so_far.done;
+      begun = λ r late early.
+          ⊎_elim (λ past. so_far.begun r late past) (λ here. now r here ∙ stays r here early)
+          (cases_lt r t);
+    }
+
     module _ (t last n : ℕ) (so_far : AreStepsUpTo line delay numbers c t steps)
         (now : IsNumberFrom steps (delay_param line c) (own_of c) t last) (is : n ≡ delay c t)
         (inside : IsStepInside line
@@ -131,19 +148,10 @@ module _ (line : Line) (delay : ℕ → ℕ → ℕ) (numbers : List ℕ) where
       step = record { param = delay_param line c; from = t; value = n }
 
       stays : n ≡ last → AreStepsUpTo line delay numbers c (t + 1) steps
-      stays same = record {
-        ascending = so_far.ascending;
-        before = λ d low high k e lt.
-            before_later (get_or steps k e) (delay_param line d) t
-            (so_far.before d low high k e lt);
-        inside = so_far.inside;
-        done = so_far.done;
-        begun = λ r late early.
-            ⊎_elim (λ past. so_far.begun r late past)
-            (λ here. let e : r ≡ t = omega (arith, early, here) in
-            now r here ∙ sym same ∙ is ∙ ap (λ (k : ℕ). delay c k) (sym e))
-            (cases_lt r t);
-      }
+      stays same =
+          goes_on t (t + 1) last (omega arith) so_far now (λ r late early.
+          let e : r ≡ t = omega (arith, early, late) in
+          sym same ∙ is ∙ ap (λ (k : ℕ). delay c k) (sym e))
 
       stands_before : (d : ℕ) → c ≤ d → d < channel_count line
           → comes_before step (at (delay_param line d) (t + 1)) ≡ true
@@ -166,7 +174,7 @@ module _ (line : Line) (delay : ℕ → ℕ → ℕ) (numbers : List ℕ) where
             let Before : Step ℕ → Type 0 =
             λ s. comes_before s (at (delay_param line d) (t + 1)) ≡ true in
             All-append Before steps (step ∷ [])
-            (λ k e lt. before_later (get_or steps k e) (delay_param line d) t
+            (λ k e lt. before_later (get_or steps k e) (delay_param line d) t (t + 1) (omega arith)
             (so_far.before d low high k e lt))
             (All-cons Before step [] (stands_before d low high) (All-nil Before));
         inside = All-append (IsStepInside line) steps (step ∷ []) so_far.inside

@@ -1,5 +1,6 @@
 -- One timing that decides every obligation of a script.
-use Rattle.std.specs.Prelude.{◌≡◌, ℕ, Bool, true, false, List, Some, length, map, slice_get}
+use Rattle.std.specs.Prelude.{◌≡◌, ◌<◌, ℕ, Bool, true, false, List, Option, Some, None, length}
+use Rattle.std.specs.Prelude.{map, slice_get}
 use Rattle.std.specs.List.{range_with_len}
 use Rattle.model_line.specs.{declared.line.Line.Line, declared.script.Script.Script}
 use Rattle.model_line.specs.Parameters.{terminal_count}
@@ -26,6 +27,17 @@ pub record OneTimingDecides (line : Line) (script : Script) (timing : TimingValu
   pub count : length held ≡ terminal_count line
   pub meets : (k : ℕ) → slice_get held k ≡ Some true → EveryChoiceMeets line script k
   pub fails : (k : ℕ) → slice_get held k ≡ Some false → Fails line script k timing
+
+-- for each terminal it is told that it is held, and every choice inside meets each obligation
+pub record AreAllHeld (line : Line) (script : Script) (held : List Bool) : Type 0 where
+  pub count : length held ≡ terminal_count line
+  pub told : (k : ℕ) (b : Bool) → slice_get held k ≡ Some b → b ≡ true
+  pub meets : (k : ℕ) → k < terminal_count line → EveryChoiceMeets line script k
+
+-- all are held, where there is no timing; else this one timing decides each
+abbrev pub AreDecided : Line → Script → Option TimingValues → List Bool → Type 0
+AreDecided line script None held = AreAllHeld line script held
+AreDecided line script (Some timing) held = OneTimingDecides line script timing held
 
 -- over the run the timing is the worst choice over the interval history of the script, where trips
 -- are read on the rail that decides

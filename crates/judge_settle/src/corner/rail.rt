@@ -5,7 +5,7 @@ ghost use Rattle.run_signal.specs.Terns.{tern_rails};
 ghost use Rattle.model_settle.specs.Sides.{turned as turned_rail, value_on};
 ghost use Rattle.model_settle.specs.Sides.{pickup_end as end_of_pickup};
 ghost use Rattle.model_settle.specs.Sides.{dropout_end as end_of_dropout};
-ghost use Rattle.model_settle.specs.Worst.{deciding as deciding_rail};
+ghost use Rattle.model_settle.specs.Worst.{deciding as deciding_rail, shows as is_looked_for};
 ghost use Rattle.judge_settle.specs.corner.Named.{rail_named, end_named};
 
 use model_line::Kind;
@@ -74,6 +74,17 @@ impl Rail {
         match self {
             Rail::Must => value.must(0),
             Rail::May => value.may(0),
+        }
+    }
+
+    /// Whether a delay is looked for with which this arrives: on the may rail something, on the must
+    /// rail nothing.
+    pub fn looks_for(self, arrives: bool) -> bool
+        ensures { result ≡ is_looked_for (rail_named self) arrives }
+    {
+        match self {
+            Rail::Must => !arrives,
+            Rail::May => arrives,
         }
     }
 }

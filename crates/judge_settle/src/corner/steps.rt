@@ -7,7 +7,7 @@ ghost use Rattle.judge_settle.specs.corner.Named.{rail_named};
 ghost use Rattle.judge_settle.specs.corner.Corner.{corner};
 ghost use Rattle.judge_settle.specs.corner.Steps.{AreStepsUpTo, with_change};
 
-use crate::corner::delays::delay_at;
+use crate::corner::delays::delay_from;
 use crate::corner::rail::Rail;
 use judge_verdict::verdict::PairWaves;
 use model_line::laws::{delays_are_parameters, settings_are_counted};
@@ -63,10 +63,12 @@ fn push_steps(
     settings_are_counted();
     let param = line.delay_of(channel);
     let mut last = numbers[param as usize].value();
-    for t in 1..line.horizon {
-        let delay = delay_at(line, waves, rail, channel, t);
-        push_change(steps, param, t, last, delay)?;
-        last = delay;
+    let mut t = 1;
+    'changes: while t < line.horizon {
+        let lasting = delay_from(line, waves, rail, channel, t);
+        push_change(steps, param, t, last, lasting.delay)?;
+        last = lasting.delay;
+        t = lasting.until;
     }
     Ok(())
 }

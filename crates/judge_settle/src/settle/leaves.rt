@@ -1,8 +1,7 @@
 //! The leaves of a tree that are taken to be yes, and are shown side by side once it is whole.
 
-ghost use Rattle.std.specs.Prelude.{◌≤◌, ◌<◌, ℕ, length, IfOk, IsTrue};
+ghost use Rattle.std.specs.Prelude.{◌≡◌, ℕ, Bool, Some, slice_get, IfOk, IsTrue};
 ghost use Rattle.model_line.specs.{declared.line.Line.Line, declared.script.Script.Script};
-ghost use Rattle.run_signal.specs.Bits.{bit_on};
 ghost use Rattle.judge_cases.specs.{declared.view.View.View, Views.IsView, Views.AreViews};
 ghost use Rattle.judge_settle.specs.settle.Scenes.{CanSearch};
 ghost use Rattle.judge_settle.specs.settle.Trees.{IsGrownOver, IsFound, Size};
@@ -12,11 +11,10 @@ use crate::settle::grown::{Grown, leaf};
 use crate::settle::search::Found;
 use judge_ahead::Scene;
 use judge_cases::laws::a_view_stands_for_its_box;
-use judge_cases::{View, analyse};
+use judge_cases::{View, are_shown};
 use model_line::Memory;
 use model_line::laws::deadlines_are_below_the_horizon;
 use net_gates::Compiled;
-use run_signal::{Lanes64, Signal};
 use std::alloc::Global;
 
 /// The leaf of a view that is taken to be yes. The view is added to those that have to be shown.
@@ -50,10 +48,13 @@ pub fn confirmed(
         leaves.now found →
         IsFound compiled.now.line.now scene.now.script.now scene.now.terminal size view sure) }
 {
+    deadlines_are_below_the_horizon();
     match found {
         Found::Fails(timing) => Ok(Found::Fails(timing)),
         Found::Tree(tree) => {
-            let all = all_shown(alloc, compiled, scene, leaves)?;
+            let (script, terminal) = (scene.script, scene.terminal);
+            let told = are_shown(alloc, compiled, script, terminal, leaves)?;
+            let all = are_all(&told);
             if all {
                 Ok(Found::Tree(tree))
             } else {
@@ -64,59 +65,12 @@ pub fn confirmed(
     }
 }
 
-// Whether the obligation is shown over each of these views. One run serves 64 of them.
-fn all_shown(
-    alloc: Global,
-    compiled: &Compiled<'_>,
-    scene: &Scene,
-    views: &[View],
-) -> Result<bool, Memory>
-    requires can { CanSearch compiled.now.line.now scene.now.script.now
-        scene.now.terminal }
-    requires views { AreViews compiled.now.line.now views.now }
-    ensures { IfOk result (λ all. IsTrue all →
-        AreAllShown compiled.now.line.now scene.now.script.now scene.now.terminal views.now) }
+// Whether each of these is so.
+fn are_all(told: &[bool]) -> bool
+    ensures { IsTrue result → (i : ℕ) (b : Bool) → slice_get told.now i ≡ Some b → IsTrue b }
 {
-    let mut first = 0;
-    'next_block: while first < views.len() {
-        let next = views.len().min(first + 64);
-        let all = is_block_shown(alloc, compiled, scene, &views[first..next])?;
-        if !all {
-            return Ok(false);
-        }
-        first = next;
-    }
-    Ok(true)
-}
-
-// Whether the obligation is shown over each of up to 64 views.
-fn is_block_shown(
-    alloc: Global,
-    compiled: &Compiled<'_>,
-    scene: &Scene,
-    views: &[View],
-) -> Result<bool, Memory>
-    requires can { CanSearch compiled.now.line.now scene.now.script.now
-        scene.now.terminal }
-    requires some { 1 ≤ length views.now }
-    requires few { length views.now ≤ 64 }
-    requires views { AreViews compiled.now.line.now views.now }
-    ensures { IfOk result (λ all. IsTrue all →
-        AreAllShown compiled.now.line.now scene.now.script.now scene.now.terminal views.now) }
-{
-    deadlines_are_below_the_horizon();
-    let analysis = analyse(alloc, compiled, scene.script, views)?;
-    let shown = analysis.shown(compiled, scene.script, scene.terminal);
-    Ok(are_on(shown, views.len()))
-}
-
-// Whether the first so many lanes are on.
-fn are_on(lanes: Lanes64, count: usize) -> bool
-    requires { count ≤ 64 }
-    ensures { IsTrue result → (lane : ℕ) → lane < count → IsTrue (bit_on lanes lane) }
-{
-    for lane in 0..count {
-        if !lanes.must(lane as u32) {
+    for one in told {
+        if !*one {
             return false;
         }
     }

@@ -14,20 +14,16 @@ returns c =
     let line : Line = c.args.cases.now.compiled.line.now in
     let scripts : List Script = c.args.cases.now.scripts.now in
     let k : ℕ = c.args.terminal in
-    let script : Script = c.index-cases-i.result in
     let trip : ℕ → Rails = pair_at c.args.waves.now.trips k in
-    let at : slice_get scripts c.args.i ≡ Some script =
-    slice_get_read scripts _ c.args.i script refl c.requires.exists c.index-cases-i.is in
+    let (script, at) = exists_at scripts c.args.i c.requires.exists in
     record {
       script = script;
       at = at;
       terminal = c.requires.terminal;
       place = refl;
-      standing = c.standing_of.ensures line script k
-          (subst (λ (s : Script). IsAnswer line s k c.in_ok-settled.settled.answer)
-          (sym c.index-cases-i.is) c.in_ok-settled.ensures);
+      standing = c.standing_of.ensures line script k (c.requires.answer script at);
       first = λ w is_w.
-          c.first_must-first_must.ensures.first
+          c.first_must.ensures.first
           ∙ ap (first_on (λ t. (trip t).must)) c.requires.horizon
           ∙ first_on-same (λ t. (trip t).must) (λ t. (w.trip k t).must) line.horizon
           (λ t lt.

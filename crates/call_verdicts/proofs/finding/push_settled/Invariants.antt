@@ -2,7 +2,7 @@ use Rattle.std.proofs.Common.{◌*◌, ◌+◌}
 use Rattle.model_line.specs.Parameters.{terminal_count}
 use Rattle.judge_verdict.specs.verdict.OneEach.{OneEach}
 use Rattle.call_verdicts.specs.Findings.{IsFinding}
-use Rattle.call_verdicts.proofs.finding.push_under.Given as goal
+use Rattle.call_verdicts.proofs.finding.push_settled.Given as goal
 
 abbrev pub invariant-loop-k : goal.invariant-loop-k
 invariant-loop-k l =

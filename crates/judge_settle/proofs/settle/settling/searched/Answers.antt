@@ -1,10 +1,7 @@
-use Rattle.std.proofs.Common.{ℕ, ◌-◌, ◌≤◌, Option, subst, arith}
-use Rattle.std.specs.Prelude.{IsSome}
+use Rattle.std.proofs.Common.{ℕ, ◌-◌, ◌≤◌, subst, arith}
 use Rattle.model_line.specs.declared.script.Script.{Script}
-use Rattle.judge_settle.specs.declared.corner.decided.Decided.{Decided}
-use Rattle.model_settle.specs.Schemes.{IsOneRailedBy}
 use Rattle.judge_settle.specs.settle.Trees.{IsFound, Size, size_of_text}
-use Rattle.judge_settle.proofs.settle.settling.settle.Goals as goal
+use Rattle.judge_settle.proofs.settle.settling.searched.Goals as goal
 
 pub returns : goal.returns
 returns c =
@@ -18,11 +15,6 @@ returns c =
       depth = 1024;
       cuts = c.side_in.new.budget.cuts - c.search_view.new.budget.cuts;
     } in
-    let mixed : ¬ (IsOneRailedBy line.scheme line) = λ railed.
-    let some =
-    subst (λ (o : Option Decided). IsSome o) c.in-None.is
-    (c.in_ok-decided.ensures.one_railed.1 railed) in
-    absurd (cc) in
     let over_line : IsFound line c.in_ok-scene.scene.script.now c.in_ok-scene.scene.terminal size
     view found =
     (rw c.as_slice.ensures.value at c.in_ok-sure.ensures) size view c.in_ok-found.ensures.found in
@@ -35,4 +27,4 @@ returns c =
     omega (arith, c.side_in.ensures, c.new-budget.ensures) in
     c.answer_of-answer.ensures line script k size view
     (c.deadlines_are_below_the_horizon.ensures line script c.requires.fits) c.requires.terminal
-    mixed c.in_ok-view.ensures (omega arith) many is
+    c.requires.mixed c.in_ok-view.ensures (omega arith) many is
