@@ -268,6 +268,13 @@ const ANSWERS: &[Word] = &[
         in_three: false,
     },
     Word {
+        name: "races",
+        about: "What each external fault has to spare, as what ends and what begins (CSV)",
+        files: STUDY,
+        options: &[],
+        in_three: false,
+    },
+    Word {
         name: "map",
         about: "Where all obligations are held as one setting or two move (SVG)",
         files: AXES,
