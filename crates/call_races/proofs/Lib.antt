@@ -3,4 +3,4 @@ pub mod Conjunctions
 pub mod Waves
 pub mod Telling
 pub mod Terminals
-pub mod Faults
+pub mod OfFaults

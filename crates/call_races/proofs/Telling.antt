@@ -1,8 +1,10 @@
 -- What is told, one thing after another.
-use Rattle.std.proofs.Common.{◌≡◌, ◌<◌, ◌++◌, ℕ, suc, Bool, true, false, List, [], ◌∷◌, refl, ap, sym, ◌∙◌, subst}
+use Rattle.std.proofs.Common.{◌≡◌, ◌+◌, ◌++◌, ℕ, suc, arith, Bool, true, false, List, [], ◌∷◌, refl, ap, sym, ◌∙◌, subst}
 use Rattle.std.specs.Prelude.{◌||◌}
 use Rattle.std.proofs.lemmas.List.{append-nil, append_assoc}
-use Rattle.call_races.specs.Races.{Adds, Both, IsNothing, Telling, if_external}
+use Rattle.model_line.specs.{declared.line.Line.Line, declared.script.Script.Script}
+use Rattle.file_study.specs.declared.sweeps.group.Group.{Group}
+use Rattle.call_races.specs.Races.{Adds, AtTerminals, Both, IsAtTerminal, IsNothing, Telling, if_external}
 
 -- nothing is told
 pub adds_nothing : (old : List ℕ) → Adds IsNothing old old false
@@ -41,3 +43,14 @@ pub adds_if_not : (b : Bool) (telling : Telling) (old : List ℕ) → b ≡ fals
     → Adds (if_external b telling) old old false
 adds_if_not true telling old e = absurd (cc)
 adds_if_not false telling old e = adds_nothing old
+
+-- at one terminal more
+pub adds_terminal : (line : Line) (group : Group) (scripts : List Script) (k : ℕ) (old middle new : List ℕ)
+    (first second both : Bool) → Adds (AtTerminals line group scripts k) old middle first
+    → Adds (IsAtTerminal line group scripts k) middle new second → both ≡ first || second
+    → Adds (AtTerminals line group scripts (k + 1)) old new both
+adds_terminal line group scripts k old middle new first second both a b is =
+    let e : k + 1 ≡ suc k = omega arith in
+    let P : ℕ → Type 0 = λ n. Adds (AtTerminals line group scripts n) old new both in
+    subst P (sym e) (adds_both (AtTerminals line group scripts k) (IsAtTerminal line group scripts k)
+    old middle new first second both a b is)

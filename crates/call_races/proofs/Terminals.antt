@@ -1,6 +1,8 @@
 -- What is told of a fault at a terminal.
-use Rattle.std.proofs.Common.{◌≡◌, ◌<◌, ◌++◌, ℕ, zero, suc, List, [], ◌∷◌, ap, refl, ◌∙◌, length, arith}
+use Rattle.std.proofs.Common.{◌≡◌, ◌≤◌, ◌<◌, ◌++◌, ℕ, zero, suc, List, [], ◌∷◌, ap, refl, ◌∙◌, length, arith}
 use Rattle.std.specs.Prelude.{get_or, slice_get, Option, Some, None, Vec}
+use Rattle.std.specs.Prelude.{not}
+use Rattle.std.proofs.lemmas.List.Sums.{prefix_len-le-length}
 use Rattle.std.specs.declared.alloc.Global.{Global}
 use Rattle.csv.specs.Writing.{row_text, default_writer}
 use Rattle.model_line.specs.{declared.line.Line.Line, declared.script.Script.Script}
@@ -11,7 +13,7 @@ use Rattle.judge_races.specs.Lasting.{IsTerminal}
 use Rattle.judge_races.specs.declared.places.Terminal.{Terminal}
 use Rattle.judge_races.specs.declared.races.Race.{Race}
 use Rattle.judge_races.specs.declared.stretch.Stretch.{Stretch}
-use Rattle.call_races.specs.Trips.{begin_words, longest_place, longest_trip}
+use Rattle.call_races.specs.Trips.{begin_words, is_longest, longest_place, longest_trip}
 use Rattle.call_races.specs.Rows.{each_rows, empty_record, rows_or_none, trip_rows}
 use Rattle.call_races.specs.Races.{AreBegins, conjunctions_at}
 
@@ -20,6 +22,10 @@ there : (trips : List (Option Stretch)) (p : ℕ) (trip : Stretch)
 there [] p trip e = absurd (cc)
 there (x ∷ trips) zero trip e = ap Some e
 there (x ∷ trips) (suc p) trip e = there trips p trip e
+
+pub longest_within : (trips : List (Option Stretch)) → longest_place trips ≤ length trips
+longest_within trips =
+    prefix_len-le-length (λ (trip : Option Stretch). not (is_longest trips trip)) trips
 
 pub begins_told : (line : Line) (scripts : List Script) (k : ℕ) (found : Terminal)
     (each : List (List Tree)) (place : ℕ) (trip : Option Stretch) (begins : List ℕ)

@@ -1,4 +1,4 @@
-use Rattle.call_races.proofs.Faults.{faults_more, faults_none}
+use Rattle.call_races.proofs.OfFaults.{faults_more, faults_none}
 use Rattle.call_races.proofs.faults.+push_faults.Goals as goal
 
 pub returns-in-empty : goal.returns-in-empty

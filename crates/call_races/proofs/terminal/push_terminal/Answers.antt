@@ -15,9 +15,15 @@ use Rattle.call_races.proofs.terminal.push_terminal.Goals as goal
 pub rows_at-requires-clause-place : goal.rows_at-requires-clause-place
 rows_at-requires-clause-place c =
     let is = c.in_ok-found.ensures c.args.fault.now.scripts.now c.requires.fault.are in
-    omega (arith, c.longest_place-place.ensures, longest_within c.deref.result.now,
-    ap (λ (l : List (Option Stretch)). length l) c.deref.ensures.value, is.trips.count,
-    c.requires.fault.are.count, c.requires.fault.few)
+    omega (
+      arith,
+      c.longest_place-place.ensures,
+      longest_within c.deref.result.now,
+      ap (λ (l : List (Option Stretch)). length l) c.deref.ensures.value,
+      is.trips.count,
+      c.requires.fault.are.count,
+      c.requires.fault.few,
+    )
 
 pub returns : goal.returns
 returns c =
