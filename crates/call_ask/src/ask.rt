@@ -82,6 +82,8 @@ pub enum Table {
     /// How many scripts of each fault are held at each terminal, and where not, with at most so many
     /// analyses for each obligation.
     Faults { analyses: u32 },
+    /// What each external fault has to spare at each terminal, as what ends and what begins.
+    Races,
     /// The line, as a line file.
     Line,
     /// The part of this number of its scripts, 64 a part, as a scripts file. The first is 1.

@@ -1,6 +1,6 @@
 //! What is asked for, over what a source says.
 
-ghost use Rattle.std.specs.Prelude.{[], ◌≡◌, ◌≤◌, ◌<◌, ◌∷◌, length, map, slice_get, IfOk, None, Some};
+ghost use Rattle.std.specs.Prelude.{[], ◌≡◌, ◌≤◌, ◌<◌, ◌^◌, ◌∷◌, length, map, slice_get, IfOk, None, Some};
 ghost use Rattle.std.specs.List.{All};
 ghost use Rattle.model_line.specs.declared.script.Script.{Script as ScriptOf};
 ghost use Rattle.std.specs.Option.{option_copied};
@@ -16,11 +16,13 @@ ghost use Rattle.call_work.specs.load.Reading.{denied_of, recheck_of, table_of, 
 ghost use Rattle.call_work.specs.load.Reading.{which_unnamed};
 ghost use Rattle.call_work.specs.load.Reading.{at_most as at_most_of};
 ghost use Rattle.call_answer.specs.Answers.{Says};
+ghost use Rattle.call_races.specs.Races.{races_answer};
 
 use crate::pictures::{bands_text, dump_text, record_data, run_text};
 use crate::settled::{failing_said, trees_said};
 use call_answer::{Said, Study};
 use call_ask::{Form, Table};
+use call_races::races_table;
 use call_tables::{margins_table, recheck_settled, settle_table};
 use call_verdicts::{Cases, faults_table, verdicts_table};
 use call_work::load::{
@@ -101,7 +103,7 @@ fn denied(which: Table, scripts: &[Script]) -> Option<Denial>
     ensures { result ≡ denied_of which (length scripts.now) }
 {
     match which {
-        Table::Settled { .. } | Table::Verdicts { .. } | Table::Faults { .. } => {
+        Table::Settled { .. } | Table::Verdicts { .. } | Table::Faults { .. } | Table::Races => {
             at_most(4_096_000, scripts)
         }
         Table::Trees { .. } | Table::Margins => at_most(64, scripts),
@@ -149,12 +151,22 @@ fn table_said(alloc: Global, which: Table, loaded: &Loaded) -> Result<Said, Memo
         Table::Margins => margins_table(alloc, study),
         Table::Verdicts { analyses } => verdicts_table(alloc, &cases_of(loaded), analyses),
         Table::Faults { analyses } => faults_table(alloc, &cases_of(loaded), analyses),
+        Table::Races => races_of(alloc, &cases_of(loaded)),
         Table::Line => Ok(Said::good(print_line(alloc, &study.line)?)),
         Table::Part(n) => match part_text(alloc, &study.line, &study.scripts, n as usize)? {
             Some(text) => Ok(Said::good(text)),
             None => Err(Memory),
         },
     }
+}
+
+// The table of races of all faults.
+fn races_of(alloc: Global, cases: &Cases<'_>) -> Result<Said, Memory>
+    requires { length cases.now.scripts.now < 2 ^ 32 }
+    ensures { IfOk result (Says (races_answer cases.now.compiled.line.now cases.now.scripts.now
+        cases.now.groups.now)) }
+{
+    races_table(alloc, &cases.compiled, cases.scripts, cases.groups)
 }
 
 // The cases of all faults.

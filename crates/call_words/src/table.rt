@@ -9,7 +9,7 @@ const VERSION: &str = "0.29.0";
 
 // What the help says behind the commands.
 const AFTER: &str = "Answer:    verdicts, lint, settle, recheck, explain
-Choose:    margins, map
+Choose:    margins, races, map
 Show:      page, bands, run, vcd
 Exchange:  lines, scripts, comtrade
 
@@ -278,6 +278,13 @@ const CHOICES: &[Word] = &[
     Word {
         name: "margins",
         about: "How far each end of each interval can move with all held that is held today (CSV)",
+        files: STUDY,
+        options: &[],
+        in_three: false,
+    },
+    Word {
+        name: "races",
+        about: "What each external fault has to spare, as what ends and what begins (CSV)",
         files: STUDY,
         options: &[],
         in_three: false,

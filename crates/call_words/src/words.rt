@@ -196,6 +196,7 @@ fn work_of<'a>(
         },
         "recheck" => Work::Recheck { trees: *last },
         "margins" => Work::Table(Table::Margins),
+        "races" => Work::Table(Table::Races),
         "run" => played(own, *last, diagram(own)),
         "vcd" => played(own, *last, Form::Dump),
         _ => Work::Bands {

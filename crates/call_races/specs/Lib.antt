@@ -1,0 +1,5 @@
+pub mod Words
+pub mod Trips
+pub mod Fault
+pub mod Rows
+pub mod Races
