@@ -385,7 +385,9 @@ pub fn command<'a>(alloc: Global) -> Result<Command<'a>, AllocError> {
     let mut commands = Vec::new(alloc);
     push_commands(alloc, &mut commands)?;
     let study = Command::new(alloc, "study")
-        .about("Whether a pilot scheme holds for every choice of times: a line, its faults, and proved answers.")
+        .about(
+            "Whether a pilot scheme holds for every choice of times: a line, its faults, and proved answers.",
+        )
         .after_help(AFTER)
         .version(VERSION);
     with_commands(study, commands)

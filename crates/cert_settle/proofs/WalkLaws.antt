@@ -188,8 +188,12 @@ one_leaf line all part view yes old new views told is so_far = record {
       (λ early. ⊎_elim (λ before. so_far.each i leaf v early before)
       (λ last. absurd (omega (arith, last.0, so_far.many, slice_get_within all i leaf early))) there)
       (λ late. ⊎_elim
-      (λ before. absurd (omega (arith, late.0, so_far.many,
-      slice_get_within old.views.items i v before)))
+      (λ before. absurd (omega (
+        arith,
+        late.0,
+        so_far.many,
+        slice_get_within old.views.items i v before,
+      )))
       (λ last. subst (λ (l : Leaf). IsViewOf line l.part v) (sym late.1)
       (subst (IsViewOf line part) (sym last.1) is)) there)
       (at_push all (leaf_of part yes) leaf i at);
