@@ -2,7 +2,7 @@
 use Rattle.std.specs.Prelude.{◌≡◌, ◌≤◌, ◌<◌, ℕ, Bool, false, List, [], Vec, length, map, get_or}
 use Rattle.model_line.specs.Parameters.{terminal_count, channel_count, param_count, delay_param}
 use Rattle.model_line.specs.{declared.line.Line.Line, declared.script.Script.Script}
-use Rattle.model_plain.specs.{declared.formula.Formula.Formula, Formulas.tree_of}
+use Rattle.model_plain.specs.{declared.formula.Formula.Formula, Formulas.own_tree}
 use Rattle.model_logic.specs.Mean.{Signals, mean}
 use Rattle.model_logic.specs.Choice.{world_of, steady_choice}
 use Rattle.model_logic.specs.{Tree.Tree, Names.Names}
@@ -38,4 +38,4 @@ pub record CanAsk (line : Line) (values : List ℕ) (keys : List (List Bool)) (x
 abbrev pub value_of : {A : Type 0} → Line → Script → List ℕ → List (Vec Bool A) → Formula
     → ℕ → Bool
 value_of line script values keys x =
-    mean (world_of line script (steady_choice line values)) (key_at (histories keys)) (tree_of x)
+    mean (world_of line script (steady_choice line values)) (key_at (histories keys)) (own_tree x)

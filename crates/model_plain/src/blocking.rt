@@ -1,10 +1,11 @@
 //! The blocking scheme, as formulas.
 
-ghost use Rattle.std.specs.Prelude.{◌≡◌, ◌<◌, IfOk};
+ghost use Rattle.std.specs.Prelude.{◌≡◌, ◌<◌, IfOk, List};
 ghost use Rattle.model_line.specs.Parameters.{terminal_count};
 ghost use Rattle.model_plain.specs.Formulas.{tree_of};
 ghost use Rattle.model_logic.specs.Logic.{blocking_key as blocking_key_tree};
 ghost use Rattle.model_logic.specs.Logic.{blocking_pilot as blocking_pilot_tree};
+ghost use Rattle.model_logic.specs.Tree.{Tree};
 
 use crate::build::{and, not, timer};
 use crate::formula::Formula;
@@ -17,7 +18,8 @@ use std::alloc::Global;
 
 pub fn blocking_key(alloc: Global, line: &Line, k: u32) -> Result<Formula, Memory>
     requires { k < terminal_count line.now }
-    ensures { IfOk result (λ f. tree_of f ≡ blocking_key_tree line.now k) }
+    ensures { (parts : List Tree) → IfOk result (λ f. tree_of parts f
+        ≡ blocking_key_tree line.now k) }
 {
     let zone2 = element_formula(alloc, line, k, Element::Z2);
     let reverse = element_formula(alloc, line, k, Element::Rv);
@@ -28,7 +30,8 @@ pub fn blocking_key(alloc: Global, line: &Line, k: u32) -> Result<Formula, Memor
 
 pub fn blocking_pilot(alloc: Global, line: &Line, k: u32) -> Result<Formula, Memory>
     requires { k < terminal_count line.now }
-    ensures { IfOk result (λ f. tree_of f ≡ blocking_pilot_tree line.now k) }
+    ensures { (parts : List Tree) → IfOk result (λ f. tree_of parts f
+        ≡ blocking_pilot_tree line.now k) }
 {
     let coordination = terminal_time(line, k, Setting::BlockCoord);
     let zone2 = element_formula(alloc, line, k, Element::Z2);

@@ -7,7 +7,7 @@ ghost use Rattle.model_line.specs.Channels.{from_of};
 ghost use Rattle.model_logic.specs.Choice.{world_of, steady_choice, time_by};
 ghost use Rattle.model_logic.specs.{Names.HasTime, Mean.Signals, Solution.AgreeBefore};
 ghost use Rattle.model_plain.specs.Keys.{AreValues, Reach, CanAsk, histories, key_at, value_of};
-ghost use Rattle.model_plain.specs.Formulas.{tree_of};
+ghost use Rattle.model_plain.specs.Formulas.{own_tree};
 ghost use Rattle.model_logic.specs.Mean.{mean as mean_of};
 
 use crate::formula::Formula;
@@ -27,14 +27,14 @@ pub fn mean(
     keys: &[Vec<bool>],
     t: u32,
 ) -> bool
-    requires { CanAsk line.now values.now (histories keys.now) (tree_of formula.now) t }
+    requires { CanAsk line.now values.now (histories keys.now) (own_tree formula.now) t }
     ensures value { result ≡ mean_of
         (world_of line.now script.now (steady_choice line.now values.now))
-        (key_at (histories keys.now)) (tree_of formula.now) t }
+        (key_at (histories keys.now)) (own_tree formula.now) t }
     // No key at t or later counts.
     ensures past { (other : Signals) → AgreeBefore line.now other (key_at (histories keys.now)) t →
         result ≡ mean_of (world_of line.now script.now (steady_choice line.now values.now))
-        other (tree_of formula.now) t }
+        other (own_tree formula.now) t }
 {
     history_laws();
     values_rest_on_earlier_keys();
@@ -98,10 +98,11 @@ fn value(
     keys: &[Vec<bool>],
     t: u32,
 ) -> bool
-    requires { CanAsk line.now values.now (histories keys.now) (tree_of formula.now) t }
+    requires { CanAsk line.now values.now (histories keys.now) (own_tree formula.now) t }
     ensures { result ≡ value_of line.now script.now values.now keys.now formula.now t }
 {
     match formula {
+        Formula::Part(_) => false,
         Formula::Const(value) => *value,
         Formula::Seen(place) => seen(script, *place, t),
         Formula::Loss(channel) => loss(script, *channel, t),
@@ -143,7 +144,7 @@ fn is_held(
     values: &[u32],
     keys: &[Vec<bool>],
 ) -> bool
-    requires ask { CanAsk line.now values.now (histories keys.now) (tree_of x.now) end }
+    requires ask { CanAsk line.now values.now (histories keys.now) (own_tree x.now) end }
     requires within { count ≤ end + 1 }
     ensures { result ≡ every_below
         (λ i. value_of line.now script.now values.now keys.now x.now (end - i)) count }
@@ -167,7 +168,7 @@ fn stays(
     values: &[u32],
     keys: &[Vec<bool>],
 ) -> bool
-    requires ask { CanAsk line.now values.now (histories keys.now) (tree_of x.now) t }
+    requires ask { CanAsk line.now values.now (histories keys.now) (own_tree x.now) t }
     requires within { s ≤ t }
     ensures { result ≡ every_below
         (λ r. nat_le r s || value_of line.now script.now values.now keys.now x.now r) (t + 1) }
@@ -192,7 +193,7 @@ fn is_timed(
     keys: &[Vec<bool>],
     t: u32,
 ) -> bool
-    requires ask { CanAsk line.now values.now (histories keys.now) (tree_of x.now) t }
+    requires ask { CanAsk line.now values.now (histories keys.now) (own_tree x.now) t }
     requires pickup { pickup ≤ 4000 }
     requires dropout { dropout ≤ 4000 }
     ensures { result ≡ timed_at

@@ -1,9 +1,9 @@
 //! The formulas of all terminals but one, joined.
 
-ghost use Rattle.std.specs.Prelude.{◌≡◌, ◌≢◌, ℕ, ◌<◌, IfOk, Ok, option_map};
+ghost use Rattle.std.specs.Prelude.{◌≡◌, ◌≢◌, ℕ, ◌<◌, IfOk, List, Ok, option_map};
 ghost use Rattle.model_line.specs.Parameters.{terminal_count};
 ghost use Rattle.model_logic.specs.Tree.{Tree};
-ghost use Rattle.model_plain.specs.Formulas.{tree_of};
+ghost use Rattle.model_plain.specs.{Formulas.tree_of, Parts.IsClosed};
 ghost use Rattle.model_logic.specs.Received.{join_of, joined as joined_trees};
 ghost use Rattle.model_logic.specs.Received.{all_others as all_other_trees};
 
@@ -26,10 +26,10 @@ pub fn all_others<P>(
 where
     P: Fn(u32) -> Result<Formula, Memory>,
     requires { (j : ℕ) → j < terminal_count line.now → j ≢ k → P.pre part j }
-    ensures { (tree : ℕ → Tree)
+    ensures { (parts : List Tree) (tree : ℕ → Tree)
         → ((j : ℕ) (f : Formula) → j < terminal_count line.now → j ≢ k → P.post part j (Ok f)
-        → tree_of f ≡ tree j)
-        → IfOk result (λ f. tree_of f ≡ all_other_trees (join_of join) tree line.now k) }
+        → IsClosed (tree j) f)
+        → IfOk result (λ f. tree_of parts f ≡ all_other_trees (join_of join) tree line.now k) }
 {
     let mut all = None;
     for j in 0..line.terminals.len() as u32 {
@@ -47,8 +47,9 @@ fn joined(
     before: Option<Formula>,
     next: Result<Formula, Memory>,
 ) -> Result<Formula, Memory>
-    ensures { (t : Tree) → IfOk next (λ f. tree_of f ≡ t) → IfOk result (λ f. tree_of f
-        ≡ joined_trees (join_of join) (option_map tree_of before) t) }
+    ensures { (parts : List Tree) (t : Tree) → IfOk next (λ f. tree_of parts f ≡ t)
+        → IfOk result (λ f. tree_of parts f
+        ≡ joined_trees (join_of join) (option_map (tree_of parts) before) t) }
 {
     match before {
         None => next,

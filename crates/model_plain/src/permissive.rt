@@ -1,14 +1,13 @@
-//! Permission schemes, as formulas: current reversal guard, echo, weak infeed, key and trip.
+//! Permission schemes, as formulas: current reversal guard, permission, and what a terminal that is
+//! no weak infeed sends and trips on.
 
-ghost use Rattle.std.specs.Prelude.{◌≡◌, ◌<◌, IfOk};
-ghost use Rattle.model_plain.specs.Formulas.{tree_of};
+ghost use Rattle.std.specs.Prelude.{◌≡◌, ◌<◌, IfOk, List, false};
+ghost use Rattle.model_plain.specs.Formulas.{tree_of, own_tree};
+ghost use Rattle.model_plain.specs.Parts.{permitted_over, ahead as ahead_tree};
 ghost use Rattle.model_line.specs.Parameters.{terminal_count};
 ghost use Rattle.model_logic.specs.{Names.Names, Permissive.permission as permission_tree};
+ghost use Rattle.model_logic.specs.{Elements.is_weak, Tree.Tree};
 ghost use Rattle.model_logic.specs.Permissive.{reversal_guard as reversal_guard_tree};
-ghost use Rattle.model_logic.specs.Permissive.{quiet as quiet_tree};
-ghost use Rattle.model_logic.specs.Permissive.{echo_wanted as echo_wanted_tree};
-ghost use Rattle.model_logic.specs.Permissive.{echo as echo_tree};
-ghost use Rattle.model_logic.specs.Permissive.{weak_infeed_trip as weak_infeed_trip_tree};
 ghost use Rattle.model_logic.specs.Permissive.{permissive_key as permissive_key_tree};
 ghost use Rattle.model_logic.specs.Permissive.{permissive_pilot as permissive_pilot_tree};
 
@@ -19,13 +18,13 @@ use crate::seen_elements::element_formula;
 use crate::unblocking::all_open;
 use base_memory::Memory;
 use model_line::{Element, Line, Scheme, Setting};
-use model_logic::{Time, is_terminal_guarded, is_terminal_weak, terminal_time};
+use model_logic::{is_terminal_guarded, terminal_time};
 use std::alloc::Global;
 
 #[tactic(auto, unfolding(model_logic::specs::Permissive::permission))]
-fn permission(alloc: Global, line: &Line, k: u32) -> Result<Formula, Memory>
+pub fn permission(alloc: Global, line: &Line, k: u32) -> Result<Formula, Memory>
     requires { k < terminal_count line.now }
-    ensures { IfOk result (λ f. tree_of f ≡ permission_tree line.now k) }
+    ensures { (parts : List Tree) → IfOk result (λ f. tree_of parts f ≡ permission_tree line.now k) }
 {
     match line.scheme {
         Scheme::Pott => all_received(alloc, line, k),
@@ -34,12 +33,13 @@ fn permission(alloc: Global, line: &Line, k: u32) -> Result<Formula, Memory>
     }
 }
 
-/// The formula of a terminal's guard against current reversal.
+/// A terminal's guard against current reversal.
 #[tactic(auto, unfolding(model_logic::specs::Permissive::reversal_guard, model_logic::specs::Names::Names))]
 pub fn guard_formula(alloc: Global, line: &Line, k: u32) -> Result<Formula, Memory>
     requires { k < terminal_count line.now }
-    ensures is { IfOk result (λ f. tree_of f ≡ reversal_guard_tree line.now k) }
-    ensures named { IfOk result (λ f. Names line.now (tree_of f)) }
+    ensures is { (parts : List Tree) → IfOk result (λ f. tree_of parts f
+        ≡ reversal_guard_tree line.now k) }
+    ensures named { IfOk result (λ f. Names line.now (own_tree f)) }
 {
     if is_terminal_guarded(line, k) {
         let pickup = terminal_time(line, k, Setting::ReversalPickup);
@@ -51,78 +51,46 @@ pub fn guard_formula(alloc: Global, line: &Line, k: u32) -> Result<Formula, Memo
     }
 }
 
-fn quiet(alloc: Global, line: &Line, k: u32) -> Result<Formula, Memory>
+/// What a terminal sees ahead, where its guard does not hold.
+pub fn ahead(alloc: Global, line: &Line, k: u32) -> Result<Formula, Memory>
     requires { k < terminal_count line.now }
-    ensures { IfOk result (λ f. tree_of f ≡ quiet_tree line.now k) }
+    ensures { (parts : List Tree) → IfOk result (λ f. tree_of parts f ≡ ahead_tree line.now k) }
 {
     let zone2 = element_formula(alloc, line, k, Element::Z2);
-    let fault = or(alloc, zone2, element_formula(alloc, line, k, Element::Rv));
-    let block = terminal_time(line, k, Setting::EchoBlock);
-    not(alloc, timer(alloc, fault, Time::Zero, block))
+    and(alloc, zone2, not(alloc, guard_formula(alloc, line, k)))
 }
 
-#[tactic(auto, unfolding(model_logic::specs::Permissive::echo_wanted))]
-fn echo_wanted(alloc: Global, line: &Line, k: u32) -> Result<Formula, Memory>
+/// Zone 2 with this permission, where the guard does not hold.
+pub fn permitted(
+    alloc: Global,
+    line: &Line,
+    k: u32,
+    permission: Result<Formula, Memory>,
+) -> Result<Formula, Memory>
     requires { k < terminal_count line.now }
-    ensures { IfOk result (λ f. tree_of f
-        ≡ echo_wanted_tree line.now k (permission_tree line.now k)) }
+    ensures { (parts : List Tree) (t : Tree) → IfOk permission (λ f. tree_of parts f ≡ t)
+        → IfOk result (λ f. tree_of parts f ≡ permitted_over line.now k t) }
 {
-    if is_terminal_weak(line, k) {
-        let permitted = and(alloc, permission(alloc, line, k), quiet(alloc, line, k));
-        let pickup = terminal_time(line, k, Setting::EchoPickup);
-        timer(alloc, permitted, pickup, Time::Zero)
-    } else {
-        Ok(Formula::Const(false))
-    }
-}
-
-#[tactic(auto, unfolding(model_logic::specs::Permissive::echo))]
-fn echo(alloc: Global, line: &Line, k: u32) -> Result<Formula, Memory>
-    requires { k < terminal_count line.now }
-    ensures { IfOk result (λ f. tree_of f ≡ echo_tree line.now k (permission_tree line.now k)) }
-{
-    if is_terminal_weak(line, k) {
-        let pulse = terminal_time(line, k, Setting::EchoPulse);
-        let over = timer(alloc, echo_wanted(alloc, line, k), pulse, Time::Zero);
-        let wanted = echo_wanted(alloc, line, k);
-        and(alloc, wanted, not(alloc, over))
-    } else {
-        Ok(Formula::Const(false))
-    }
-}
-
-#[tactic(auto, unfolding(model_logic::specs::Permissive::weak_infeed_trip))]
-fn weak_infeed_trip(alloc: Global, line: &Line, k: u32) -> Result<Formula, Memory>
-    requires { k < terminal_count line.now }
-    ensures { IfOk result (λ f. tree_of f
-        ≡ weak_infeed_trip_tree line.now k (permission_tree line.now k)) }
-{
-    if is_terminal_weak(line, k) {
-        let wanted = echo_wanted(alloc, line, k);
-        and(alloc, wanted, element_formula(alloc, line, k, Element::Uv))
-    } else {
-        Ok(Formula::Const(false))
-    }
+    let zone2 = element_formula(alloc, line, k, Element::Z2);
+    let permitted = and(alloc, zone2, permission);
+    and(alloc, permitted, not(alloc, guard_formula(alloc, line, k)))
 }
 
 pub fn permissive_key(alloc: Global, line: &Line, k: u32) -> Result<Formula, Memory>
-    requires { k < terminal_count line.now }
-    ensures { IfOk result (λ f. tree_of f
+    requires exists { k < terminal_count line.now }
+    requires strong { is_weak line.now k ≡ false }
+    ensures { (parts : List Tree) → IfOk result (λ f. tree_of parts f
         ≡ permissive_key_tree line.now k (permission_tree line.now k)) }
 {
-    let zone2 = element_formula(alloc, line, k, Element::Z2);
-    let ahead = and(alloc, zone2, not(alloc, guard_formula(alloc, line, k)));
-    or(alloc, ahead, echo(alloc, line, k))
+    or(alloc, ahead(alloc, line, k), Ok(Formula::Const(false)))
 }
 
 pub fn permissive_pilot(alloc: Global, line: &Line, k: u32) -> Result<Formula, Memory>
-    requires { k < terminal_count line.now }
-    ensures { IfOk result (λ f. tree_of f
+    requires exists { k < terminal_count line.now }
+    requires strong { is_weak line.now k ≡ false }
+    ensures { (parts : List Tree) → IfOk result (λ f. tree_of parts f
         ≡ permissive_pilot_tree line.now k (permission_tree line.now k)) }
 {
-    let zone2 = element_formula(alloc, line, k, Element::Z2);
-    let permitted = and(alloc, zone2, permission(alloc, line, k));
-    let steady = not(alloc, guard_formula(alloc, line, k));
-    let ahead = and(alloc, permitted, steady);
-    or(alloc, ahead, weak_infeed_trip(alloc, line, k))
+    let permitted = permitted(alloc, line, k, permission(alloc, line, k));
+    or(alloc, permitted, Ok(Formula::Const(false)))
 }

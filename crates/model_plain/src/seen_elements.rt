@@ -1,9 +1,10 @@
 //! What a terminal sees for itself, as formulas.
 
-ghost use Rattle.std.specs.Prelude.{◌≡◌, ◌<◌, IfOk};
-ghost use Rattle.model_plain.specs.Formulas.{tree_of};
+ghost use Rattle.std.specs.Prelude.{◌≡◌, ◌<◌, IfOk, List};
+ghost use Rattle.model_plain.specs.Formulas.{tree_of, own_tree};
 ghost use Rattle.model_line.specs.Parameters.{terminal_count};
 ghost use Rattle.model_logic.specs.{Names.Names, Elements.seen_timed as seen_timed_tree};
+ghost use Rattle.model_logic.specs.Tree.{Tree};
 
 use crate::build::timer;
 use crate::formula::Formula;
@@ -21,8 +22,9 @@ pub fn element_formula(
     element: Element,
 ) -> Result<Formula, Memory>
     requires { k < terminal_count line.now }
-    ensures is { IfOk result (λ f. tree_of f ≡ seen_timed_tree line.now k element) }
-    ensures named { IfOk result (λ f. Names line.now (tree_of f)) }
+    ensures is { (parts : List Tree) → IfOk result (λ f. tree_of parts f
+        ≡ seen_timed_tree line.now k element) }
+    ensures named { IfOk result (λ f. Names line.now (own_tree f)) }
 {
     let seen = Formula::Seen(Place {
         element,

@@ -1,13 +1,14 @@
 //! Channels that open for a while when they are lost, as formulas.
 
-ghost use Rattle.std.specs.Prelude.{◌≡◌, ◌<◌, IfOk};
+ghost use Rattle.std.specs.Prelude.{◌≡◌, ◌<◌, IfOk, List};
 ghost use Rattle.model_logic.specs.Unblocking.{guard_seen as guard_seen_tree, late as late_tree};
 ghost use Rattle.model_logic.specs.Unblocking.{unblocked as unblocked_tree};
 ghost use Rattle.model_logic.specs.Unblocking.{locked_out as locked_out_tree};
 ghost use Rattle.model_logic.specs.Unblocking.{open_from as open_from_tree};
 ghost use Rattle.model_logic.specs.Unblocking.{all_open as all_open_tree};
-ghost use Rattle.model_plain.specs.Formulas.{tree_of};
+ghost use Rattle.model_plain.specs.{Formulas.tree_of, Parts.IsClosed};
 ghost use Rattle.model_line.specs.Parameters.{terminal_count};
+ghost use Rattle.model_logic.specs.Tree.{Tree};
 
 use crate::build::{and, not, or, seal, timer};
 use crate::formula::Formula;
@@ -19,7 +20,8 @@ use model_logic::{Join, Time, channel_time, channel_to};
 use std::alloc::Global;
 
 fn guard_seen(alloc: Global, line: &Line, k: u32, j: u32) -> Result<Formula, Memory>
-    ensures { IfOk result (λ f. tree_of f ≡ guard_seen_tree line.now k j) }
+    ensures { (parts : List Tree) → IfOk result (λ f. tree_of parts f
+        ≡ guard_seen_tree line.now k j) }
 {
     let channel = channel_to(line, k, j);
     let silent = not(alloc, Ok(Formula::Raw(channel)));
@@ -28,7 +30,8 @@ fn guard_seen(alloc: Global, line: &Line, k: u32, j: u32) -> Result<Formula, Mem
 }
 
 fn late(alloc: Global, line: &Line, k: u32, j: u32) -> Result<Formula, Memory>
-    ensures { IfOk result (λ f. tree_of f ≡ late_tree line.now k j) }
+    ensures { (parts : List Tree) → IfOk result (λ f. tree_of parts f
+        ≡ late_tree line.now k j) }
 {
     let lost = Formula::Loss(channel_to(line, k, j));
     let window = channel_time(line, k, j, Setting::UnblockWindow);
@@ -36,7 +39,8 @@ fn late(alloc: Global, line: &Line, k: u32, j: u32) -> Result<Formula, Memory>
 }
 
 fn unblocked(alloc: Global, line: &Line, k: u32, j: u32) -> Result<Formula, Memory>
-    ensures { IfOk result (λ f. tree_of f ≡ unblocked_tree line.now k j) }
+    ensures { (parts : List Tree) → IfOk result (λ f. tree_of parts f
+        ≡ unblocked_tree line.now k j) }
 {
     let lost = Formula::Loss(channel_to(line, k, j));
     let pickup = channel_time(line, k, j, Setting::UnblockPickup);
@@ -46,7 +50,8 @@ fn unblocked(alloc: Global, line: &Line, k: u32, j: u32) -> Result<Formula, Memo
 }
 
 fn locked_out(alloc: Global, line: &Line, k: u32, j: u32) -> Result<Formula, Memory>
-    ensures { IfOk result (λ f. tree_of f ≡ locked_out_tree line.now k j) }
+    ensures { (parts : List Tree) → IfOk result (λ f. tree_of parts f
+        ≡ locked_out_tree line.now k j) }
 {
     let guard = guard_seen(alloc, line, k, j);
     let restore = channel_time(line, k, j, Setting::UnblockRestore);
@@ -56,7 +61,7 @@ fn locked_out(alloc: Global, line: &Line, k: u32, j: u32) -> Result<Formula, Mem
 }
 
 fn open_from(alloc: Global, line: &Line, k: u32, j: u32) -> Result<Formula, Memory>
-    ensures { IfOk result (λ f. tree_of f ≡ open_from_tree line.now k j) }
+    ensures { IfOk result (IsClosed (open_from_tree line.now k j)) }
 {
     let sent = received(alloc, line, k, j);
     let open = or(alloc, sent, unblocked(alloc, line, k, j));
@@ -67,7 +72,8 @@ fn open_from(alloc: Global, line: &Line, k: u32, j: u32) -> Result<Formula, Memo
 #[tactic(auto, unfolding(model_logic::specs::Unblocking::all_open))]
 pub fn all_open(alloc: Global, line: &Line, k: u32) -> Result<Formula, Memory>
     requires { k < terminal_count line.now }
-    ensures { IfOk result (λ f. tree_of f ≡ all_open_tree line.now k) }
+    ensures { (parts : List Tree) → IfOk result (λ f. tree_of parts f
+        ≡ all_open_tree line.now k) }
 {
     all_others(alloc, line, k, Join::And, |j| open_from(alloc, line, k, j))
 }

@@ -1,5 +1,5 @@
 -- A gate that is added keeps the laws.
-use Rattle.std.proofs.Common.{◌≡◌, ◌≢◌, ◌||◌, ℕ, zero, suc, ◌<◌, Bool, true, false, List, []}
+use Rattle.std.proofs.Common.{◌≡◌, ◌≢◌, ◌||◌, ◌+◌, ◌≤◌, ℕ, zero, suc, ◌<◌, Bool, true, false, List, []}
 use Rattle.std.proofs.Common.{◌∷◌, ◌++◌, length, Some, cond, refl, sym, ap, ◌∙◌, subst, arith}
 use Rattle.std.proofs.Common.{⊎_elim, length-append}
 use Rattle.std.proofs.Math.Seq.{take-append_seam, take-length}
@@ -99,6 +99,10 @@ module _ (ks new : List Gate) (g : Gate) (ins : Inserts ks new g) where
   pub names_more : (line : Line) → GateNames line g → KeepsNames line ks new
   names_more line named = inserted (KeepsNames line ks) (λ n all. all)
       (λ none. names_push line ks g named)
+
+  pub few_more : length new ≤ length ks + 1
+  few_more = inserted (λ l. length l ≤ length ks + 1) (omega arith)
+      (λ none. omega (arith, length-append ks (g ∷ [])))
 
   pub adds : AreGates ks → length ks < 512 → HasArguments (length ks) g → (id : ℕ)
       → slice_get new id ≡ Some g → Adds ks new g id

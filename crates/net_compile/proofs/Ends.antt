@@ -1,5 +1,5 @@
 -- The keys and trips of the terminals below some number.
-use Rattle.std.proofs.Common.{◌≡◌, ◌⊎◌, ℕ, zero, suc, ◌<◌, List, [], ◌∷◌, ◌++◌, length}
+use Rattle.std.proofs.Common.{◌≡◌, ◌⊎◌, ℕ, zero, suc, ◌<◌, ◌≤◌, ◌*◌, List, [], ◌∷◌, ◌++◌, length}
 use Rattle.std.proofs.Common.{refl, sym, ◌∙◌, subst, arith, inl, inr, ⊎_elim, length-append}
 use Rattle.std.specs.Prelude.{Result, Ok, Err, IfOk}
 use Rattle.model_line.specs.{declared.line.Line.Line, Parameters.terminal_count}
@@ -9,7 +9,7 @@ use Rattle.net_gates.specs.Named.{NamedFrom}
 use Rattle.net_gates.specs.{declared.gate.Gate.Gate, declared.gate.GateId.GateId, Formulas.Stands}
 use Rattle.net_gates.specs.NetOf.{NetOf, AreGatesOf, IsNet, IsNetOf, id_at}
 use Rattle.net_compile.specs.Growing.{Grows, ExtendsFor}
-use Rattle.net_compile.specs.{declared.terminal_gates.Ends.Ends, Compiled.AreEnds}
+use Rattle.net_compile.specs.{declared.program_gates.Ends.Ends, Compiled.AreEndsOf}
 
 -- one gate for each terminal below j, which stands for the terminal's tree
 pub record StandInOrder (gates : List Gate) (ids : List GateId) (tree : ℕ → Tree) (j : ℕ)
@@ -21,6 +21,7 @@ pub record StandInOrder (gates : List Gate) (ids : List GateId) (tree : ℕ → 
 pub record HaveEnds (line : Line) (gates : List Gate) (keys trips : List GateId) (j : ℕ)
     : Type 0 where
   pub named : NamedFrom line 0 gates
+  pub few : length gates ≤ 170 * j
   pub key_gates : StandInOrder gates keys (key_tree line) j
   pub trip_gates : StandInOrder gates trips (trip_tree line) j
 
@@ -65,16 +66,18 @@ in_order_more old new ids last tree j grows sofar next = record {
 pub have_none : (line : Line) → HaveEnds line [] [] [] 0
 have_none line = record {
   named = record { each = λ i g le at. absurd (cc) };
+  few = omega arith;
   key_gates = record { count = refl; each = λ k lt. absurd (omega arith) };
   trip_gates = record { count = refl; each = λ k lt. absurd (omega arith) };
 }
 
 -- and one terminal more
 pub have_more : (line : Line) (old new : List Gate) (keys trips : List GateId) (ends : Ends) (j : ℕ)
-    → HaveEnds line old keys trips j → ExtendsFor line old new → AreEnds line j new ends
+    → HaveEnds line old keys trips j → ExtendsFor line 170 old new → AreEndsOf line j new ends
     → HaveEnds line new (keys ++ ends.key ∷ []) (trips ++ ends.trip ∷ []) (suc j)
 have_more line old new keys trips ends j sofar adds next = record {
   named = adds.named 0 sofar.named;
+  few = omega (arith, adds.few, sofar.few);
   key_gates =
       in_order_more old new keys ends.key (key_tree line) j adds.grows sofar.key_gates
       next.key_gate;

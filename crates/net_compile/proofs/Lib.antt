@@ -4,3 +4,4 @@ pub mod Adding
 pub mod Ends
 pub mod Nodes
 pub mod Channels
+pub mod PartGates

@@ -1,6 +1,6 @@
 //! A net while it is built.
 
-ghost use Rattle.std.specs.Prelude.{◌≡◌, [], length, IfOk};
+ghost use Rattle.std.specs.Prelude.{◌≡◌, ◌<◌, [], length, IfOk};
 ghost use Rattle.net_gates.specs.Gates.{HasArguments};
 ghost use Rattle.net_compile.specs.Growing.{Makes};
 ghost use Rattle.net_gates.specs.{NetOf.AreGatesOf, NetOf.IsNet};
@@ -11,9 +11,6 @@ use model_line::Memory;
 use net_gates::{Gate, GateId, Net};
 use std::alloc::Global;
 use std::marker::Model;
-
-// The most gates that a net has.
-const MOST: usize = 512;
 
 /// The gates so far, in order.
 #[derive(Drop)]
@@ -43,15 +40,12 @@ impl NetBuilder {
     }
 
     /// The number of a gate. One that stands already keeps its number, and nothing changes;
-    /// otherwise the gate goes last. A full net, of 512 gates, is answered as want of memory. After
-    /// `Memory` nothing has changed.
+    /// otherwise the gate goes last. After `Memory` nothing has changed.
     pub fn add(&mut self, gate: Gate) -> Result<GateId, Memory>
         requires arguments { HasArguments (length self.old) gate }
+        requires room { length self.old < 512 }
         ensures { Makes self.old self.new gate result }
     {
-        if self.gates.len() >= MOST {
-            return Err(Memory);
-        }
         let (at, _) = self.gates.insert_full(gate)?;
         Ok(GateId(at as u32))
     }

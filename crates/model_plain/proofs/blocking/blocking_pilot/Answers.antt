@@ -3,7 +3,7 @@ use Rattle.model_plain.proofs.blocking.blocking_pilot.Goals as goal
 
 pub returns : goal.returns
 unfolding blocking_pilot
-returns c =
-    rw c.terminal_time-coordination.ensures.is at (c.and.ensures _ _
-    (c.timer-ahead.ensures _ c.element_formula-zone2.ensures.is)
-    (c.not.ensures _ c.any_received-blocked.ensures))
+returns c parts =
+    rw c.terminal_time-coordination.ensures.is at (c.and.ensures parts _ _
+    (c.timer-ahead.ensures parts _ (c.element_formula-zone2.ensures.is parts))
+    (c.not.ensures parts _ (c.any_received-blocked.ensures parts)))

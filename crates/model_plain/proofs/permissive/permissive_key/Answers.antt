@@ -1,8 +1,7 @@
-use Rattle.model_logic.specs.Permissive.{permissive_key}
+use Rattle.std.proofs.Common.{refl}
+use Rattle.model_logic.specs.Permissive.{permissive_key, echo}
 use Rattle.model_plain.proofs.permissive.permissive_key.Goals as goal
 
 pub returns : goal.returns
-unfolding permissive_key
-returns c =
-    c.or.ensures _ _ (c.and-ahead.ensures _ _ c.element_formula-zone2.ensures.is
-    (c.not.ensures _ c.guard_formula.ensures.is)) c.echo.ensures
+unfolding permissive_key echo
+returns c parts = rw c.requires.strong (c.or.ensures parts _ _ (c.ahead.ensures parts) refl)

@@ -1,9 +1,9 @@
-use Rattle.model_logic.specs.Permissive.{permissive_pilot}
+use Rattle.std.proofs.Common.{refl}
+use Rattle.model_logic.specs.Permissive.{permissive_pilot, weak_infeed_trip}
 use Rattle.model_plain.proofs.permissive.permissive_pilot.Goals as goal
 
 pub returns : goal.returns
-unfolding permissive_pilot
-returns c =
-    c.or.ensures _ _ (c.and-ahead.ensures _ _
-    (c.and-permitted.ensures _ _ c.element_formula-zone2.ensures.is c.permission.ensures)
-    (c.not-steady.ensures _ c.guard_formula.ensures.is)) c.weak_infeed_trip.ensures
+unfolding permissive_pilot weak_infeed_trip
+returns c parts =
+    rw c.requires.strong (c.or.ensures parts _ _
+    (c.permitted-permitted.ensures parts _ (c.permission.ensures parts)) refl)

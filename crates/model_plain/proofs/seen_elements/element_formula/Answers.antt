@@ -1,4 +1,4 @@
-use Rattle.std.proofs.Common.{refl}
+use Rattle.std.proofs.Common.{refl, []}
 use Rattle.model_logic.specs.{Names.Names, Tree.Seen, Tree.Timer}
 use Rattle.model_plain.specs.FormulaLaws.{named_as}
 use Rattle.model_plain.proofs.seen_elements.element_formula.Goals as goal
@@ -11,4 +11,4 @@ returns-in-Some-clause-named c =
     c.time_of-dropout.result)
     c.timer.result
     (c.requires, (c.time_of-pickup.ensures.has, c.time_of-dropout.ensures.has))
-    (c.timer.ensures _ refl)
+    (c.timer.ensures [] _ refl)

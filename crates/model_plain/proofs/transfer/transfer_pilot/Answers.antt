@@ -3,5 +3,5 @@ use Rattle.model_plain.proofs.transfer.transfer_pilot.Goals as goal
 
 pub returns : goal.returns
 unfolding transfer_pilot
-returns c =
-    rw c.terminal_time-security.ensures.is at (c.timer.ensures _ c.any_received-sent.ensures)
+returns c parts =
+    rw c.terminal_time-security.ensures.is at (c.timer.ensures parts _ (c.any_received-sent.ensures parts))

@@ -3,5 +3,5 @@ use Rattle.model_plain.proofs.transfer.underreach_pilot.Goals as goal
 
 pub returns : goal.returns
 unfolding underreach_pilot
-returns c =
-    c.and.ensures _ _ c.element_formula-ahead.ensures.is c.any_received.ensures
+returns c parts =
+    c.and.ensures parts _ _ (c.element_formula-ahead.ensures.is parts) (c.any_received.ensures parts)

@@ -4,6 +4,6 @@ use Rattle.model_plain.proofs.unblocking.guard_seen.Goals as goal
 
 pub returns : goal.returns
 unfolding guard_seen
-returns c =
-    rw c.channel_to-channel.ensures.is at (c.and.ensures _ _ (c.not-silent.ensures _ refl)
-    (c.not-safe.ensures _ refl))
+returns c parts =
+    rw c.channel_to-channel.ensures.is at (c.and.ensures parts _ _ (c.not-silent.ensures parts _ refl)
+    (c.not-safe.ensures parts _ refl))

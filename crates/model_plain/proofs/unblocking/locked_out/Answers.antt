@@ -3,6 +3,6 @@ use Rattle.model_plain.proofs.unblocking.locked_out.Goals as goal
 
 pub returns : goal.returns
 unfolding locked_out
-returns c =
-    rw c.channel_time-restore.ensures.is at (c.seal.ensures _ _ c.late-closed.ensures
-    (c.not.ensures _ (c.timer-restored.ensures _ c.guard_seen-guard.ensures)))
+returns c parts =
+    rw c.channel_time-restore.ensures.is at (c.seal.ensures parts _ _ (c.late-closed.ensures parts)
+    (c.not.ensures parts _ (c.timer-restored.ensures parts _ (c.guard_seen-guard.ensures parts))))

@@ -1,8 +1,8 @@
-use Rattle.std.proofs.Common.{◌≡◌, ◌<◌, List, Some, length, true, sym, ap, ◌∙◌, subst, arith}
+use Rattle.std.proofs.Common.{◌≡◌, List, Some, true, sym, ap, ◌∙◌, subst}
 use Rattle.std.specs.Prelude.{slice_get}
 use Rattle.net_gates.specs.{declared.gate.Gate.Gate, Gates.AreGates}
 use Rattle.net_compile.specs.Growing.{Grows, Adds}
-use Rattle.net_compile.proofs.Adding.{Inserts, gates_more, grows_more, names_more, adds}
+use Rattle.net_compile.proofs.Adding.{Inserts, gates_more, grows_more, names_more, few_more, adds}
 use Rattle.net_compile.proofs.{Equal.gate_eq, Equal.gate_eq-same, Standing.stands}
 use Rattle.net_compile.proofs.builder.NetBuilder.add.Goals as goal
 
@@ -12,15 +12,10 @@ inserts c =
     subst (λ l. Inserts l c.insert_full.new.self.keys c.args.gate) c.self.view_is
     c.in_ok-at.ensures.keys
 
-room : (c : goal.In_ok-at) → length c.args.self.now < 512
-room c =
-    subst (λ l. length l < 512) c.self.view_is
-    (omega (arith, c.len.ensures.len, c.if-len-ge-MOST.false))
-
 gates : (c : goal.In_ok-at) → AreGates c.insert_full.new.self.keys
 gates c =
     gates_more c.args.self.now c.insert_full.new.self.keys c.args.gate (inserts c)
-    (subst AreGates c.self.view_is c.self.invariant) (room c) c.requires.arguments
+    (subst AreGates c.self.view_is c.self.invariant) c.requires.room c.requires.arguments
 
 pub invariant_of-self-2 : goal.invariant_of-self-2
 invariant_of-self-2 c = gates c
@@ -35,7 +30,7 @@ returns c =
     s.1 ∙ ap Some (sym (gate_eq-same c.args.gate s.0 s.2)) in
     let there : Adds old new c.args.gate c.in_ok-at.at =
     adds old new c.args.gate (inserts c)
-    (subst AreGates c.self.view_is c.self.invariant) (room c) c.requires.arguments
+    (subst AreGates c.self.view_is c.self.invariant) c.requires.room c.requires.arguments
     c.in_ok-at.at at in
     let grows : Grows old new = grows_more old new c.args.gate (inserts c) in
     record {
@@ -43,5 +38,6 @@ returns c =
       made = stands old new c.args.gate c.in_ok-at.at (gates c) c.requires.arguments grows there;
       grows = grows;
       named = names_more old new c.args.gate (inserts c);
+      few = few_more old new c.args.gate (inserts c);
       err = tt;
     }
