@@ -1,0 +1,4 @@
+pub mod Known
+pub mod Positions
+pub mod Told
+pub mod ChooseLaws

@@ -1,0 +1,18 @@
+//! Which values of a setting hold: the range of its positions over which obligations are held, and
+//! what is lost one tick beyond each end of it.
+#![tactic(auto)]
+
+mod cover;
+mod known;
+mod laws;
+mod setting;
+mod spans;
+mod table;
+
+pub use cover::Cover;
+pub use laws::{
+    a_held_cover_is_met, every_interval_inside_a_cover_is_held,
+    the_declared_position_is_the_declared_box,
+};
+pub use setting::Setting;
+pub use table::told;
