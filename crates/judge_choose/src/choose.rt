@@ -1,6 +1,6 @@
 //! The ranges of settings.
 
-ghost use Rattle.std.specs.Prelude.{◌≡◌, ◌≤◌, ◌<◌, ◌+◌, IfOk, OnOk, length};
+ghost use Rattle.std.specs.Prelude.{◌≡◌, ◌≤◌, ◌<◌, ◌+◌, IfOk, OnOk, Some, length, slice_get};
 ghost use Rattle.std.specs.List.{All};
 ghost use Rattle.model_line.specs.Fits.{Fits};
 ghost use Rattle.judge_choose.specs.{Lanes.TellOf, Positions.IsCover, Positions.IsSetting};
@@ -61,13 +61,22 @@ fn show(
 {
     laws_below();
     let _settings = settings;
+    let first = ranges.len();
     let covers = asked(alloc, candidates)?;
     let bits = told(alloc, compiled, scripts, &covers)?;
     for i in 0..candidates.len() {
-        let lane = 4 * i as u32;
-        ranges.push(range_of(alloc, compiled, scripts, &candidates[i], &bits, lane)?)?;
+        let candidate = candidate_at(candidates, i);
+        let range = range_of(alloc, compiled, scripts, candidate, &bits, 4 * i as u32)?;
+        ranges.push(range)?;
     }
     Ok(())
+}
+
+fn candidate_at<'a, 'b>(candidates: &'b [Cover<'a>], i: usize) -> &'b Cover<'a>
+    requires { i < length candidates.now }
+    ensures { slice_get candidates.now i ≡ Some result.now }
+{
+    &candidates[i]
 }
 
 // The range of a candidate, or of the declared position where the candidate gives up what is held
@@ -111,7 +120,8 @@ fn declared_range(
     let candidates = [declared_cover(setting)];
     let covers = asked(alloc, &candidates)?;
     let bits = told(alloc, compiled, scripts, &covers)?;
-    shown(alloc, &candidates[0], &bits, 0)
+    let range = shown(alloc, &candidates[0], &bits, 0)?;
+    Ok(range)
 }
 
 /// The declared position of a setting.

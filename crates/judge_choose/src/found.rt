@@ -1,13 +1,13 @@
 //! What is searched for.
 
-ghost use Rattle.std.specs.Prelude.{◌≡◌, ◌<◌, ◌+◌, IfOk, Some, length, slice_get};
+ghost use Rattle.std.specs.Prelude.{◌<◌, IfOk, length};
 ghost use Rattle.std.specs.List.{All};
 ghost use Rattle.model_line.specs.Fits.{Fits};
 ghost use Rattle.judge_choose.specs.Found.{AreFound, AreSettings};
 
 use crate::choose::declared_cover;
 use crate::cover::Cover;
-use crate::setting::Setting;
+use crate::setting::{Setting, setting_at};
 use model_line::{Memory, Script};
 use net_gates::Compiled;
 use std::alloc::Global;
@@ -33,11 +33,4 @@ pub fn found<'a>(
         candidates.push(declared_cover(setting_at(settings, i)))?;
     }
     Ok(candidates)
-}
-
-fn setting_at(settings: &[Setting], i: usize) -> &Setting
-    requires { i < length settings.now }
-    ensures { slice_get settings.now i ≡ Some result.now }
-{
-    &settings[i]
 }

@@ -10,6 +10,7 @@ mod known;
 mod lanes;
 mod laws;
 mod range;
+mod reach;
 mod setting;
 mod spans;
 mod table;

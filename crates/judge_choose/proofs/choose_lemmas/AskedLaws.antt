@@ -1,5 +1,5 @@
 -- What is asked about candidates, and what is told of it.
-use Rattle.std.proofs.Common.{◌≡◌, ◌≤◌, ◌<◌, ◌+◌, ◌-◌, ◌*◌, ◌/◌, ◌%◌, ℕ, Bool, true, false, cond, List, Some}
+use Rattle.std.proofs.Common.{◌≡◌, ◌≤◌, ◌<◌, ◌+◌, ◌-◌, ◌*◌, ◌/◌, ◌%◌, ℕ, zero, suc, Bool, true, false, cond, List, [], ◌∷◌, Some}
 use Rattle.std.proofs.Common.{length, sym, ◌∙◌, ap, subst, refl, arith}
 use Rattle.std.proofs.Math.Nat.{min-eq_left, min-le_right}
 use Rattle.std.proofs.lemmas.Option.{slice_get_within}
@@ -56,6 +56,23 @@ asked_covers line candidates asked are of lane cover at =
     asked_cover line candidate cover (lane % 4) (are (lane / 4) candidate here)
     (of.each lane cover at candidate here)
 
+-- one cover is a list of covers
+pub alone : (line : Line) (cover : Cover) → IsCover line cover → AreCovers line (cover ∷ [])
+alone line cover is zero other at =
+    let same : cover ≡ other = cc in subst (IsCover line) same is
+alone line cover is (suc j) other at = absurd (cc)
+
+-- the declared position is one
+pub declared_is : (line : Line) (setting : Setting) (cover : Cover) → IsSetting line setting
+    → cover.setting.now ≡ setting → cover.first ≡ setting.declared → cover.last ≡ setting.declared
+    → IsCover line cover
+declared_is line setting cover is same first last = record {
+  setting = subst (IsSetting line) (sym same) is;
+  ordered = omega (arith, first, last);
+  within = subst (λ (s : Setting). cover.last ≤ s.last) (sym same)
+      (subst (λ (n : ℕ). n ≤ setting.last) (sym last) is.declared);
+}
+
 -- a lane tells of its cover
 lane_tells : (line : Line) (scripts : List Script) (covers : List Cover) (told : List ℕ)
     (lane : ℕ) (cover : Cover) → AreTold line scripts covers told → lane < 64
@@ -71,7 +88,7 @@ lane_tells line scripts covers told lane cover are inside at =
           (subst (λ (n : ℕ). slice_get covers n ≡ Some cover) (sym own) at);
     }
 
-same_box : (line : Line) (cover : Cover) (setting : Setting) (first last : ℕ)
+pub same_box : (line : Line) (cover : Cover) (setting : Setting) (first last : ℕ)
     → cover.setting.now ≡ setting → cover.first ≡ first → cover.last ≡ last
     → box_of_cover line cover ≡ cover_box line setting first last
 same_box line cover setting first last by_setting by_first by_last =
