@@ -175,14 +175,8 @@ fn reach_covers<'a>(
     Ok(covers)
 }
 
-/// The cover between two positions of a setting, in either order, none past the last one.
-pub fn cover_between<'a>(
-    line: &Line,
-    settings: &'a [Setting],
-    i: usize,
-    a: u32,
-    b: u32,
-) -> Cover<'a>
+// The cover between two positions of a setting, in either order, none past the last one.
+fn cover_between<'a>(line: &Line, settings: &'a [Setting], i: usize, a: u32, b: u32) -> Cover<'a>
     requires settings { AreSettings line.now settings.now }
     requires place { i < length settings.now }
     ensures { IsCover line.now result }
@@ -191,9 +185,11 @@ pub fn cover_between<'a>(
     between(line, setting_at(settings, i), a, b)
 }
 
-fn between<'a>(line: &Line, setting: &'a Setting, a: u32, b: u32) -> Cover<'a>
+/// The same of one setting.
+pub fn between<'a>(line: &Line, setting: &'a Setting, a: u32, b: u32) -> Cover<'a>
     requires { IsSetting line.now setting.now }
-    ensures { IsCover line.now result }
+    ensures cover { IsCover line.now result }
+    ensures setting { result.setting.now ≡ setting.now }
 {
     let _line = line;
     let (low, high) = if a <= b { (a, b) } else { (b, a) };

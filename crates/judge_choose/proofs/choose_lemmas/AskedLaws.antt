@@ -3,13 +3,12 @@ use Rattle.std.proofs.Common.{◌≡◌, ◌≤◌, ◌<◌, ◌+◌, ◌-◌, �
 use Rattle.std.proofs.Common.{length, sym, ◌∙◌, ap, subst, refl, arith}
 use Rattle.std.proofs.Math.Nat.{min-eq_left, min-le_right}
 use Rattle.std.proofs.lemmas.Option.{slice_get_within}
-use Rattle.std.specs.Prelude.{Decides, slice_get, min, ◌==◌}
-use Rattle.run_signal.specs.Bits.{bit_on}
+use Rattle.std.specs.Prelude.{slice_get, min, ◌==◌}
 use Rattle.model_history.specs.ListLaws.{exists_at}
 use Rattle.model_line.specs.{declared.line.Line.Line, declared.script.Script.Script}
 use Rattle.model_logic.specs.Choice.{Box}
 use Rattle.judge_choose.specs.{declared.cover.Cover.Cover, declared.setting.Setting.Setting}
-use Rattle.judge_choose.specs.{Told.AreCovers, Told.AreTold, Told.IsHeldAt, Told.cover_in}
+use Rattle.judge_choose.specs.{Told.AreCovers, Told.AreTold, Told.cover_in}
 use Rattle.judge_choose.specs.Asked.{AreAsked, IsAsked, asked_position}
 use Rattle.judge_choose.specs.Lanes.{TellOf, TellsOver}
 use Rattle.judge_choose.specs.Positions.{IsCover, IsSetting, box_of_cover, cover_box}

@@ -2,15 +2,15 @@
 use Rattle.std.proofs.Common.{◌≡◌, ◌≤◌, ◌<◌, ◌+◌, ◌-◌, ◌||◌, ℕ, zero, suc, Bool, true, false, cond, List, [], ◌∷◌}
 use Rattle.std.proofs.Common.{Some, subst, sym, ◌∙◌, ap, refl, arith, inl, inr}
 use Rattle.std.proofs.lemmas.Bool.{cases_eq, ne_eqb}
-use Rattle.std.specs.Prelude.{slice_get, ◌==◌, IsTrue}
+use Rattle.std.specs.Prelude.{slice_get, ◌==◌}
 use Rattle.std.specs.List.{list_any}
 use Rattle.model_history.specs.Rails.{Ends, IsPartOf}
 use Rattle.model_line.specs.{declared.line.Line.Line}
 use Rattle.model_line.specs.Parameters.{declared_ends, delay_param, is_delay, param_count}
 use Rattle.model_logic.specs.Choice.{IsBoxWithin, LeastFromOne, declared_box}
-use Rattle.model_logic.specs.Boxes.{IsSameBox, box_of}
+use Rattle.model_logic.specs.Boxes.{box_of}
 use Rattle.judge_choose.specs.{Known.Known, declared.setting.Setting.Setting}
-use Rattle.judge_choose.specs.Positions.{CanMove, IsSetting, cover_box, cover_ends, moves, position_box, stretched}
+use Rattle.judge_choose.specs.Positions.{CanMove, IsSetting, cover_box, cover_ends, moves, stretched}
 use Rattle.judge_choose.specs.ChooseLaws.{AHeldCoverIsMet, AreInside, EveryIntervalInsideACoverIsHeld}
 use Rattle.judge_choose.specs.ChooseLaws.{TheDeclaredPositionIsTheDeclaredBox}
 

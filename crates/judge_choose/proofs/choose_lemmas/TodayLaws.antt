@@ -1,16 +1,16 @@
 -- What is held as declared is kept.
-use Rattle.std.proofs.Common.{◌≡◌, ◌%◌, ◌+◌, ℕ, Bool, true, List, [], ◌∷◌, ◌++◌, Some, length, length-append}
+use Rattle.std.proofs.Common.{◌≡◌, ◌%◌, ◌+◌, ℕ, Bool, List, [], ◌∷◌, ◌++◌, Some, length, length-append}
 use Rattle.std.proofs.Common.{subst, sym, ap, ◌∙◌, arith}
 use Rattle.std.proofs.lemmas.Option.{slice_get_within}
 use Rattle.std.specs.Prelude.{slice_get}
 use Rattle.model_history.specs.ListLaws.{each_more, exists_at}
 use Rattle.model_line.specs.{declared.line.Line.Line, declared.script.Script.Script}
 use Rattle.model_line.specs.Parameters.{terminal_count}
-use Rattle.model_logic.specs.Choice.{Box, declared_box}
+use Rattle.model_logic.specs.Choice.{declared_box}
 use Rattle.judge_choose.specs.{Known.Known, declared.range.Range.Range, declared.setting.Setting.Setting}
 use Rattle.judge_choose.specs.{Told.IsHeldAt, Lanes.AreKeptBefore, Lanes.TellsOver, Positions.IsSetting}
 use Rattle.judge_choose.specs.{Positions.position_box, Ranges.AreKept, Ranges.AreRangesBelow}
-use Rattle.judge_choose.specs.Ranges.{IsRange, IsShown, KeepsToday}
+use Rattle.judge_choose.specs.Ranges.{IsRange, KeepsToday}
 use Rattle.judge_choose.proofs.choose_lemmas.CoverLaws.{declared_position}
 
 module _ (known : Known) (line : Line) (scripts : List Script) (setting : Setting)

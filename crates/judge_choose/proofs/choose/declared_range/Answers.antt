@@ -1,5 +1,4 @@
 use Rattle.std.proofs.Common.{ℕ, List, [], ◌∷◌, subst, sym, refl, arith}
-use Rattle.model_line.specs.Parameters.{terminal_count}
 use Rattle.judge_choose.specs.{declared.cover.Cover.Cover, declared.setting.Setting.Setting}
 use Rattle.judge_choose.specs.{Told.AreCovers, Told.AreTold, Lanes.TellOf, Positions.IsCover}
 use Rattle.judge_choose.specs.{Positions.box_of_cover, Ranges.AreKept, Ranges.IsShown}

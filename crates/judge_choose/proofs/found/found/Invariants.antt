@@ -1,4 +1,4 @@
-use Rattle.std.proofs.Common.{◌≡◌, ◌≤◌, ◌+◌, length}
+use Rattle.std.proofs.Common.{◌≡◌, ◌+◌, length}
 use Rattle.judge_choose.specs.{Found.AreOfSettings, Told.AreCovers}
 use Rattle.judge_choose.proofs.found.found.Given as goal
 

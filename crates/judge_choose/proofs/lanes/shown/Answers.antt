@@ -1,4 +1,4 @@
-use Rattle.std.proofs.Common.{◌+◌, ℕ, List, Bool, Option, subst, refl}
+use Rattle.std.proofs.Common.{◌+◌, ℕ, List, Bool, subst, refl}
 use Rattle.judge_choose.specs.Lanes.{TellsFirstOff}
 use Rattle.judge_choose.proofs.choose_lemmas.LaneLaws.{shown_is}
 use Rattle.judge_choose.proofs.lanes.shown.Goals as goal
