@@ -139,7 +139,7 @@ first_of_tree boxes line script k t nodes told shown None branches are of tells 
 first_of_tree boxes line script k t nodes told shown (Some n) branches are of tells wrong =
     let all : List Leaf = leaves (whole_part line) t in
     let there : slice_get (map (λ (l : Leaf). l.yes) all) n ≡ Some true =
-    ap (λ (l : List Bool). slice_get l n) (sym of.yes) ∙ wrong.yes in
+    ap (λ (l : List Bool). slice_get l n) (sym of.yes) ∙ wrong.here in
     let (leaf, at, on) = mapped (λ (l : Leaf). l.yes) all n true there in
     record {
       tree = t;
@@ -153,8 +153,8 @@ first_of_tree boxes line script k t nodes told shown (Some n) branches are of te
             let on : b ≡ true = d.1 shows in
             let off : slice_get shown n ≡ Some false = wrong.not_shown in
             cc;
-        before = λ i earlier lt at yes.
+        before = λ i earlier lt at marked.
             is_shown_there boxes line script k all told shown of tells n wrong.before i earlier lt at
-            yes;
+            marked;
       };
     }

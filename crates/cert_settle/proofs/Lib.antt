@@ -13,6 +13,7 @@ pub mod FirstLeafLaws
 pub mod WalkLaws
 pub mod ResultLaws
 pub mod FirstVerdicts
+pub mod OneLeaf
 pub mod OneTree
 pub mod OneFault
 pub mod OneSettleFault

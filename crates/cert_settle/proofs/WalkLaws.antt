@@ -6,14 +6,14 @@ use Rattle.std.proofs.Math.Seq.{drop-append_seam}
 use Rattle.std.proofs.lemmas.List.{drop-drop, get_or-drop, length-drop}
 use Rattle.std.proofs.lemmas.Option.{same_Some}
 use Rattle.std.proofs.lemmas.Option.{slice_get_within}
-use Rattle.std.proofs.lemmas.List.{map-append}
+use Rattle.std.proofs.lemmas.List.{map-append, length-map}
 use Rattle.std.proofs.lemmas.Bool.{false_from_ne_true}
 use Rattle.std.specs.Prelude.{slice_get, Decides}
-use Rattle.model_history.specs.ListLaws.{at_push}
+use Rattle.model_history.specs.ListLaws.{at_push, exists_at}
 use Rattle.model_line.specs.declared.line.Line.{Line}
 use Rattle.model_settle.specs.CaseTrees.{CaseTree, Yes, Undecided, Parted, Wanted}
 use Rattle.model_settle.specs.Assumed.{Throughout, Interrupted}
-use Rattle.judge_cases.specs.{declared.view.View.View, Views.view_box}
+use Rattle.judge_cases.specs.{declared.view.View.View, Views.AreViews, Views.view_box}
 use Rattle.judge_cases.specs.declared.node.CaseNode.{CaseNode}
 use Rattle.judge_cases.specs.declared.node.CaseNode.TheVariants as node
 use Rattle.judge_cases.specs.Trees.{Branches}
@@ -64,6 +64,9 @@ within tree after nodes at are =
       length-append (preorder tree) after,
       ap length (root_then tree),
     )
+
+pub few_nodes : (tree : CaseTree) → 0 < length (preorder tree)
+few_nodes tree = omega (arith, ap length (root_then tree))
 
 -- ---- two trees below a root
 
@@ -169,17 +172,38 @@ few_leaves (Wanted span first second) part =
 
 -- ---- leaves that are added
 
+pub no_leaves : (line : Line) (told : LeafViews) → told.views.items ≡ [] → told.yes.items ≡ []
+    → AreOfLeaves line [] told
+no_leaves line told views flags = record {
+  many = ap length views;
+  each = λ i leaf v at here. absurd (cc);
+  yes = flags;
+}
+
+pub are_views : (line : Line) (all : List Leaf) (told : LeafViews) → AreOfLeaves line all told
+    → AreViews line told.views.items
+are_views line all told of = record {
+  each = λ i view here.
+      let (leaf, at) = exists_at all i
+      (omega (arith, of.many, slice_get_within told.views.items i view here)) in
+      (of.each i leaf view at here).is;
+}
+
+pub flags_count : (line : Line) (all : List Leaf) (told : LeafViews) → AreOfLeaves line all told
+    → length told.yes.items ≡ length all
+flags_count line all told of = ap length of.yes ∙ length-map all (λ (l : Leaf). l.yes)
+
 abbrev leaf_of : CasePart → Bool → Leaf
-leaf_of part yes = record { part = part; yes = yes }
+leaf_of part flag = record { part = part; yes = flag }
 
 -- one leaf more
-one_leaf : (line : Line) (all : List Leaf) (part : CasePart) (view : View) (yes : Bool)
+one_leaf : (line : Line) (all : List Leaf) (part : CasePart) (view : View) (flag : Bool)
     (old new : LeafViews) → new.views.items ≡ old.views.items ++ view ∷ []
-    → new.yes.items ≡ old.yes.items ++ yes ∷ [] → IsViewOf line part view
-    → AreOfLeaves line all old → AreOfLeaves line (all ++ leaf_of part yes ∷ []) new
-one_leaf line all part view yes old new views told is so_far = record {
+    → new.yes.items ≡ old.yes.items ++ flag ∷ [] → IsViewOf line part view
+    → AreOfLeaves line all old → AreOfLeaves line (all ++ leaf_of part flag ∷ []) new
+one_leaf line all part view flag old new views told is so_far = record {
   many = ap length views ∙ length-append old.views.items (view ∷ [])
-      ∙ ap (λ (n : ℕ). n + 1) so_far.many ∙ sym (length-append all (leaf_of part yes ∷ []));
+      ∙ ap (λ (n : ℕ). n + 1) so_far.many ∙ sym (length-append all (leaf_of part flag ∷ []));
   each = λ i leaf v at here.
       let there : (slice_get old.views.items i ≡ Some v)
       ⊎ ((i ≡ length old.views.items) × (v ≡ view)) =
@@ -196,34 +220,34 @@ one_leaf line all part view yes old new views told is so_far = record {
       )))
       (λ last. subst (λ (l : Leaf). IsViewOf line l.part v) (sym late.1)
       (subst (IsViewOf line part) (sym last.1) is)) there)
-      (at_push all (leaf_of part yes) leaf i at);
-  yes = told ∙ ap (λ (l : List Bool). l ++ yes ∷ []) so_far.yes
-      ∙ sym (map-append (λ (l : Leaf). l.yes) all (leaf_of part yes ∷ []));
+      (at_push all (leaf_of part flag) leaf i at);
+  yes = told ∙ ap (λ (l : List Bool). l ++ flag ∷ []) so_far.yes
+      ∙ sym (map-append (λ (l : Leaf). l.yes) all (leaf_of part flag ∷ []));
 }
 
 -- a tree that is one leaf
 pub added_leaf : (line : Line) (tree : CaseTree) (part : CasePart) (root : CaseNode) (view : View)
-    (yes : Bool) (old new : LeafViews) (at end : ℕ) → root_of tree ≡ root
-    → parts_below part root ≡ None → Decides yes (root ≡ node.Yes)
+    (flag : Bool) (old new : LeafViews) (at end : ℕ) → root_of tree ≡ root
+    → parts_below part root ≡ None → Decides flag (root ≡ node.Yes)
     → new.views.items ≡ old.views.items ++ view ∷ []
-    → new.yes.items ≡ old.yes.items ++ yes ∷ [] → IsViewOf line part view → end ≡ at + 1
+    → new.yes.items ≡ old.yes.items ++ flag ∷ [] → IsViewOf line part view → end ≡ at + 1
     → AreAdded line part tree at end old new
-added_leaf line Yes part root view yes old new at end is below told views flags of_part past = record {
+added_leaf line Yes part root view flag old new at end is below told views flags of_part past = record {
   nodes = past;
   more = λ all so_far. subst (λ (b : Bool). AreOfLeaves line (all ++ leaf_of part b ∷ []) new)
-      (told.1 (sym is)) (one_leaf line all part view yes old new views flags of_part so_far);
+      (told.1 (sym is)) (one_leaf line all part view flag old new views flags of_part so_far);
 }
-added_leaf line Undecided part root view yes old new at end is below told views flags of_part past = record {
+added_leaf line Undecided part root view flag old new at end is below told views flags of_part past = record {
   nodes = past;
   more = λ all so_far. subst (λ (b : Bool). AreOfLeaves line (all ++ leaf_of part b ∷ []) new)
-      (false_from_ne_true yes (λ on. let same : root ≡ node.Yes = told.0 on in cc))
-      (one_leaf line all part view yes old new views flags of_part so_far);
+      (false_from_ne_true flag (λ on. let same : root ≡ node.Yes = told.0 on in cc))
+      (one_leaf line all part view flag old new views flags of_part so_far);
 }
-added_leaf line (Parted p m first second) part root view yes old new at end is below told views flags
+added_leaf line (Parted p m first second) part root view flag old new at end is below told views flags
     of_part past =
     absurd (let some : Some (lower_of part p m, upper_of part p m) ≡ None =
     subst (λ (r : CaseNode). parts_below part r ≡ None) (sym is) below in cc)
-added_leaf line (Wanted span first second) part root view yes old new at end is below told views flags
+added_leaf line (Wanted span first second) part root view flag old new at end is below told views flags
     of_part past =
     absurd (let some : Some (under part (Throughout span), under part (Interrupted span)) ≡ None =
     subst (λ (r : CaseNode). parts_below part r ≡ None) (sym is) below in cc)

@@ -54,17 +54,18 @@ pub record AreAdded (line : Line) (part : CasePart) (tree : CaseTree) (at end : 
   pub more : (all : List Leaf) → AreOfLeaves line all old
       → AreOfLeaves line (all ++ leaves part tree) new
 
--- at each of the first n places that is yes it is shown
+-- at each of the first n places that is marked it is shown
 abbrev pub NoneIsWrong : List Bool → List Bool → ℕ → Type 0
-NoneIsWrong yes shown n = (i : ℕ) (b : Bool) → i < n → slice_get yes i ≡ Some true
+NoneIsWrong marked shown n = (i : ℕ) (b : Bool) → i < n → slice_get marked i ≡ Some true
     → slice_get shown i ≡ Some b → IsTrue b
 
--- at this place it is yes and not shown, and it is at no place before; or it is at none
-pub record IsWrongAt (yes shown : List Bool) (n : ℕ) : Type 0 where
-  pub yes : slice_get yes n ≡ Some true
+-- this place is marked and not shown, and no place before is
+pub record IsWrongAt (marked shown : List Bool) (n : ℕ) : Type 0 where
+  pub here : slice_get marked n ≡ Some true
   pub not_shown : slice_get shown n ≡ Some false
-  pub before : NoneIsWrong yes shown n
+  pub before : NoneIsWrong marked shown n
 
+-- it is the first such place, or there is none
 abbrev pub IsFirstWrong : List Bool → List Bool → Option ℕ → Type 0
-IsFirstWrong yes shown None = NoneIsWrong yes shown (length yes)
-IsFirstWrong yes shown (Some n) = IsWrongAt yes shown n
+IsFirstWrong marked shown None = NoneIsWrong marked shown (length marked)
+IsFirstWrong marked shown (Some n) = IsWrongAt marked shown n

@@ -5,7 +5,7 @@ ghost use Rattle.std.specs.Prelude.{IfOk, OnOk, MatchOption, None};
 ghost use Rattle.std.specs.Bool.{Decides};
 ghost use Rattle.model_line.specs.{Fits.Fits, Parameters.terminal_count};
 ghost use Rattle.model_logic.specs.Choice.{declared_box};
-ghost use Rattle.model_settle.specs.CaseTrees.{CaseTree};
+ghost use Rattle.model_settle.specs.CaseTrees.{CaseTree, IsShownUnder};
 ghost use Rattle.run_step.specs.Runs.{IsTheHistory};
 ghost use Rattle.judge_verdict.specs.verdict.PairWavesOf.{pair_history};
 ghost use Rattle.judge_cases.specs.Views.{IsView};
@@ -24,8 +24,8 @@ use judge_cases::{
 use judge_verdict::verdict::{PairWaves, Rule, judge};
 use model_line::laws::deadlines_are_below_the_horizon;
 use model_line::{Line, Memory, Script};
-use model_logic::laws::the_rule_is_exact;
-use model_settle::case_laws::each_box_has_one_history_under;
+use model_logic::laws::line_laws;
+use model_settle::case_laws::{each_box_has_one_history_under, what_is_shown_of_one_is_shown};
 use net_gates::Compiled;
 use std::alloc::Global;
 
@@ -84,12 +84,35 @@ fn root_not_shown(of: &Obligation<'_>, waves: &PairWaves, root: CaseNode) -> Opt
         (λ leaf. IsTreeNotShown of.now.compiled.line.now of.now.script.now of.now.terminal
         (root ∷ []) leaf) }
 {
-    each_box_has_one_history_under();
-    deadlines_are_below_the_horizon();
-    if is_yes(root) && judge(waves, of.script, of.terminal) != Rule::Held {
-        return Some(0);
+    if !is_yes(root) {
+        return None;
     }
-    None
+    if is_shown_at_once(of, waves) {
+        return None;
+    }
+    Some(0)
+}
+
+// Whether the obligation is shown over the declared box, where nothing is assumed.
+fn is_shown_at_once(of: &Obligation<'_>, waves: &PairWaves) -> bool
+    requires fits { Fits of.now.compiled.line.now of.now.script.now }
+    requires terminal { of.now.terminal < terminal_count of.now.compiled.line.now }
+    requires terminals { waves.now.terminals ≡ terminal_count of.now.compiled.line.now }
+    requires horizon { waves.now.horizon ≡ of.now.compiled.line.now.horizon }
+    requires history { IsTheHistory of.now.compiled.line.now of.now.script.now
+        (declared_box of.now.compiled.line.now) (pair_history waves.now) }
+    ensures { Decides result (IsShownUnder of.now.compiled.line.now of.now.script.now of.now.terminal
+        (declared_box of.now.compiled.line.now) []) }
+{
+    line_laws();
+    each_box_has_one_history_under();
+    what_is_shown_of_one_is_shown();
+    deadlines_are_below_the_horizon();
+    match judge(waves, of.script, of.terminal) {
+        Rule::Held => true,
+        Rule::Broken => false,
+        Rule::Unknown => false,
+    }
 }
 
 fn is_yes(node: CaseNode) -> bool
@@ -119,7 +142,7 @@ fn leaf_not_shown(
         views: Vec::new(alloc),
         yes: Vec::new(alloc),
     };
-    let _end = add_leaves(alloc, of.compiled.line, view, nodes, 0, &mut leaves)?;
+    add_leaves(alloc, of.compiled.line, view, nodes, 0, &mut leaves)?;
     let shown = are_shown(alloc, &of.compiled, of.script, of.terminal, &leaves.views)?;
     Ok(first_wrong(&leaves.yes, &shown))
 }

@@ -36,7 +36,7 @@ loop-i-preserved c =
 
 pub returns-in_err-check_result : goal.returns-in_err-check_result
 returns-in_err-check_result c =
-    let p = err_from_is_err_and c.from_residual.result c.from_residual.ensures.1 in
+    let p = err_from_is_err_and c.from_residual-in_err-check_result.result c.from_residual-in_err-check_result.ensures.1 in
     let line = c.args.compiled.now.line.now in
     let script = c.args.script.now in
     let results : List TreeClaim = c.args.results.now in

@@ -2,7 +2,7 @@ use Rattle.std.proofs.Common.{refl}
 use Rattle.cert_settle.proofs.result.check_tree.Goals as goal
 
 pub returns-in-Some : goal.returns-in-Some
-returns-in-Some c = (refl, rw c.in-Some.is at c.in_ok-first_not_shown.ensures)
+returns-in-Some c = (refl, rw c.in-Some.is at c.in_ok-leaf.ensures)
 
 pub returns-in-None : goal.returns-in-None
-returns-in-None c = rw c.in-None.is at c.in_ok-first_not_shown.ensures
+returns-in-None c = rw c.in-None.is at c.in_ok-leaf.ensures
