@@ -1,13 +1,12 @@
 -- The operands of conjunctions that stand there by their gates.
-use Rattle.std.proofs.Common.{◌≡◌, ◌<◌, ℕ, suc, false, List, [], ◌∷◌, refl, ap, ◌∙◌, length, map, arith}
-use Rattle.std.specs.Prelude.{get_or, slice_get, Some, Vec}
+use Rattle.std.proofs.Common.{◌≡◌, suc, List, [], ◌∷◌, refl, ap, ◌∙◌, map, arith}
+use Rattle.std.specs.Prelude.{Vec}
 use Rattle.std.specs.declared.alloc.Global.{Global}
-use Rattle.std.specs.List.{All}
 use Rattle.std.proofs.lemmas.List.Elements.{All-cons, All-nil}
-use Rattle.model_logic.specs.Tree.{Tree, Const}
+use Rattle.model_logic.specs.Tree.{Tree}
 use Rattle.net_gates.specs.declared.{gate.Gate.Gate, gate.GateId.GateId}
 use Rattle.judge_races.specs.Operands.{operands}
-use Rattle.judge_races.specs.Gates.{AreConjunctions, AreIn, trees_of}
+use Rattle.judge_races.specs.Gates.{AreConjunctions, AreIn}
 use Rattle.call_races.specs.Fault.{AreAllIn, operands_of}
 
 -- those behind the first

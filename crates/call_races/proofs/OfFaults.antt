@@ -1,5 +1,5 @@
 -- What is told of faults whose scripts stand one after another.
-use Rattle.std.proofs.Common.{◌≡◌, ◌≤◌, ◌<◌, ◌-◌, ℕ, Bool, false, List, [], ◌∷◌, length, take, drop, subst, sym, ap, ◌∙◌, arith}
+use Rattle.std.proofs.Common.{◌≡◌, ◌≤◌, ◌<◌, ◌-◌, ℕ, Bool, false, List, [], ◌∷◌, length, take, drop, subst, ap, ◌∙◌, arith}
 use Rattle.std.specs.Prelude.{◌||◌, get_or, min}
 use Rattle.std.proofs.lemmas.List.{drop_min, take_min, take_rest}
 use Rattle.model_line.specs.{declared.line.Line.Line, declared.script.Script.Script}

@@ -1,5 +1,5 @@
 -- What is told of a trip that may be set: where it may be for the longest, and what comes on then.
-use Rattle.std.specs.Prelude.{◌++◌, ◌&&◌, ℕ, zero, suc, Bool, true, false, not, List, [], ◌∷◌, codes}
+use Rattle.std.specs.Prelude.{◌++◌, ◌&&◌, ℕ, zero, suc, Bool, not, List, [], ◌∷◌, codes}
 use Rattle.std.specs.Prelude.{Option, None, Some, get_or, nat_le, if◌then◌else◌}
 use Rattle.std.specs.List.{list_all, position_or_len}
 use Rattle.model_line.specs.{declared.line.Line.Line, declared.script.Script.Script}

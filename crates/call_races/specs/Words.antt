@@ -4,7 +4,7 @@ use Rattle.std.specs.Prelude.{if◌then◌else◌}
 use Rattle.model_line.specs.declared.line.Line.{Line}
 use Rattle.model_line.specs.Channels.{from_of}
 use Rattle.model_line.specs.NamesByNumber.{element_text, parameter_name, terminal_name}
-use Rattle.model_logic.specs.Tree.{Tree, Const, Seen, Loss, Raw, Not, And, Or, Timer, Seal}
+use Rattle.model_logic.specs.Tree.{Tree, Const, Seen, Raw, Not, And, Or, Timer, Seal}
 use Rattle.model_logic.specs.declared.time.Time.{Time}
 use Rattle.model_logic.specs.declared.time.Time.TheVariants.{Zero, Param}
 use Rattle.judge_races.specs.Operands.{is_raw}

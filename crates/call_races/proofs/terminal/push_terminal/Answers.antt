@@ -1,7 +1,6 @@
 use Rattle.std.proofs.Common.{◌≡◌, ℕ, List, ap, ◌∙◌, ◌++◌, length, arith}
 use Rattle.std.specs.Prelude.{Option, Vec, is_some}
 use Rattle.std.specs.declared.alloc.Global.{Global}
-use Rattle.model_logic.specs.Tree.{Tree}
 use Rattle.judge_races.specs.declared.races.Race.{Race}
 use Rattle.judge_races.specs.declared.stretch.Stretch.{Stretch}
 use Rattle.net_gates.specs.declared.gate.GateId.{GateId}
