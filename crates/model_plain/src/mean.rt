@@ -18,7 +18,7 @@ use model_logic::Time;
 use model_logic::laws::values_rest_on_earlier_keys;
 
 /// The value of a formula at tick `t`, where each parameter has its number of `values`, in ticks,
-/// and terminal `k` keyed `keys[k][r]` at tick `r`.
+/// and terminal `k` keyed `keys[k][r]` at tick `r`. A part that it names counts as never on.
 pub fn mean(
     formula: &Formula,
     line: &Line,
