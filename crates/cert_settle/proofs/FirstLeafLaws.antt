@@ -1,6 +1,6 @@
 -- Trees whose yes leaves are shown, and the first place of a list where one is not.
 use Rattle.std.proofs.Common.{◌≡◌, ◌<◌, ◌+◌, ◌↔◌, ⊎_elim, ℕ, zero, suc, Bool, true, false, List, ◌++◌, Option, None, Some}
-use Rattle.std.proofs.Common.{length, ◌∙◌, sym, ap, subst, arith, refl, IsTrue}
+use Rattle.std.proofs.Common.{length, ◌∙◌, sym, ap, arith, refl, IsTrue}
 use Rattle.std.proofs.lemmas.List.{length-map}
 use Rattle.std.proofs.lemmas.Option.{slice_get_within, slice_get-map}
 use Rattle.std.specs.Prelude.{slice_get, option_map, Decides, MatchOption, map}

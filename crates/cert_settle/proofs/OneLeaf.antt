@@ -1,5 +1,5 @@
 -- A tree that is one leaf.
-use Rattle.std.proofs.Common.{◌≡◌, ◌<◌, ◌+◌, ◌∷◌, ◌++◌, [], ℕ, List, length, true, refl, sym, ap, subst}
+use Rattle.std.proofs.Common.{◌≡◌, ◌∷◌, [], ℕ, List, length, true, refl, ap}
 use Rattle.std.proofs.Common.{arith, length-append}
 use Rattle.std.specs.Prelude.{get_or}
 use Rattle.model_line.specs.{declared.line.Line.Line, declared.script.Script.Script}

@@ -13,12 +13,12 @@ bounds-settled-k c =
     let count = (c.requires.settled script at).count in
     omega (arith, count, c.loop-k-test.true)
 
-pub find-requires-clause-answer : goal.find-requires-clause-answer
-find-requires-clause-answer c = λ script at.
+pub find-one-requires-clause-answer : goal.find-one-requires-clause-answer
+find-one-requires-clause-answer c = λ script at.
     let are = c.requires.settled script at in
-    are.each c.loop-k.k c.index-settled-k.result.now
-    (slice_get_read c.args.settled.now _ c.loop-k.k c.index-settled-k.result.now refl
-    (let count = are.count in omega (arith, count, c.loop-k-test.true)) c.index-settled-k.ensures)
+    are.each c.loop-k.k c.index-settled-k.result
+    (slice_get_read c.args.settled.now _ c.loop-k.k c.index-settled-k.result refl
+    (let count = are.count in omega (arith, count, c.loop-k-test.true)) c.index-settled-k.is)
 
 pub loop-k-init : goal.loop-k-init
 loop-k-init c =
