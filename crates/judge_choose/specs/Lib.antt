@@ -6,3 +6,4 @@ pub mod Asked
 pub mod Lanes
 pub mod Ranges
 pub mod Found
+pub mod Values

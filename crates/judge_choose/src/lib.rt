@@ -14,6 +14,7 @@ mod reach;
 mod setting;
 mod spans;
 mod table;
+mod values;
 
 pub use choose::ranges;
 pub use cover::Cover;
@@ -23,3 +24,4 @@ pub use laws::{
 };
 pub use range::{Bound, Range};
 pub use setting::Setting;
+pub use values::{Answer, answer_at, roomy_value, value};
