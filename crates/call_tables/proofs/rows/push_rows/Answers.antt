@@ -17,17 +17,13 @@ next_at taken one rest all is =
     subst (λ (l : List Settled). slice_get l (length taken) ≡ Some one) is
     (ap (slice_get (taken ++ one ∷ rest)) (sym here) ∙ after_append taken (one ∷ rest) 0)
 
-nothing_left : (l : List Settled) → length l ≡ 0 → l ≡ []
-nothing_left [] none = refl
-nothing_left (x ∷ xs) none = absurd (omega (arith, none))
-
 pub loop-one-preserved : goal.loop-one-preserved
 loop-one-preserved c =
     let at = c.loop-one in
     let one : Settled = c.in-Some.one in
     let rest : List Settled = into_iter_items c.next.new.self in
     let steps : into_iter_items at.one-iterator ≡ one ∷ rest = c.in-Some.ensures.steps.0 in
-    let all : List Settled = into_iter_items at.initial.one-iterator in
+    let all : List Settled = c.args.settled.items in
     let items : (at.yielded ++ one ∷ rest) ≡ all = rw (← steps) at.invariant.items in
     let place : slice_get all (length at.yielded) ≡ Some one =
     next_at at.yielded one rest all items in
@@ -56,3 +52,20 @@ loop-one-preserved c =
           })
           (at.invariant.rows line scripts s here are before);
     }
+
+pub returns : goal.returns
+returns c = λ line scripts s here are before.
+    let at = c.loop-one in
+    let left : List Settled = into_iter_items at.one-iterator in
+    let empty : length left ≡ 0 = sym at.invariant.count ∙ c.in-None.ensures.steps.0 in
+    all_there (IsRow line scripts) (c.args.script * terminal_count line + at.terminal)
+    (c.args.script * terminal_count line + terminal_count line) at.rows.items
+    (omega (
+      arith,
+      at.invariant.terminal,
+      empty,
+      ap length at.invariant.items,
+      length-append at.yielded left,
+      are.count,
+    ))
+    (at.invariant.rows line scripts s here are before)

@@ -10,12 +10,12 @@ use Rattle.call_tables.proofs.rows.push_rows.Given as goal
 
 abbrev pub invariant-loop-one : goal.invariant-loop-one
 invariant-loop-one l = record {
-  items : l.yielded ++ into_iter_items l.one-iterator ≡ into_iter_items l.initial.one-iterator;
+  items : l.yielded ++ into_iter_items l.one-iterator ≡ l.fn.settled.items;
   count : into_iter_len l.one-iterator ≡ length (into_iter_items l.one-iterator);
   terminal : l.terminal ≡ length l.yielded;
   rows : (line : Line) (scripts : List Script) (s : Script)
       → slice_get scripts l.script ≡ Some s
-      → AreAnswers line s (into_iter_items l.initial.one-iterator)
+      → AreAnswers line s l.fn.settled.items
       → OneEach (IsRow line scripts) (l.script * terminal_count line) l.initial.rows.items
       → OneEach (IsRow line scripts) (l.script * terminal_count line + l.terminal) l.rows.items;
 }
