@@ -4,7 +4,7 @@ use Rattle.std.proofs.Common.{inl, inr, length, map}
 use Rattle.std.proofs.lemmas.List.{drop_all, drop_more}
 use Rattle.call_records.specs.Parts.{RecordParts, RecorderFiles, SectionRefusal, parts_from, parts_in}
 use Rattle.call_records.specs.Read.{IsMemory, Stops, files_values}
-use Rattle.call_records.specs.SectionFaults.{section_refusal}
+use Rattle.call_records.specs.SectionFaults.{refused_section}
 use Rattle.call_records.specs.declared.fetch.RecorderFiles as code
 use Rattle.call_records.specs.declared.halt.Halt.{Halt}
 
@@ -35,8 +35,8 @@ module _ (fs : List code.RecorderFiles) (i : ℕ) (d : code.RecorderFiles) (done
 
   -- one that is refused
   pub parts_stop : (said : Said) (why : Halt) → said ≡ parts_from (map files_values (drop i fs)) done
-      → Stops section_refusal (parts_in (files_values (get_or fs i d))) why ⊎ IsMemory why
-      → Stops section_refusal said why ⊎ IsMemory why
+      → Stops refused_section (parts_in (files_values (get_or fs i d))) why ⊎ IsMemory why
+      → Stops refused_section said why ⊎ IsMemory why
   parts_stop said why so_far stops = elim stops [
     | inl by ↦ inl (record {
       fault = by.fault;

@@ -8,10 +8,9 @@ use Rattle.file_records.specs.map.Maps.{MapValues}
 use Rattle.file_records.specs.tracks.Tracks.{AreTracks, BytesValues, FailsAt, PlacedValues, TrackValues, placed_from}
 use Rattle.call_records.specs.Answers.{Answers, over_records, over_work, placed_of, refuses}
 use Rattle.call_records.specs.Parts.{RecordParts, SectionRefusal, bytes_in}
-use Rattle.call_records.specs.{RecordFaults.record_refusal, SectionFaults.section_refusal}
-use Rattle.call_records.specs.Halts.{End, Tells}
+use Rattle.call_records.specs.{RecordFaults.record_refusal, SectionFaults.refused_section}
+use Rattle.call_records.specs.{Halts.End, Halts.Refuses, Lines.Refusal, Request.Asked}
 use Rattle.call_records.specs.Read.{Gives, IsMemory, Stops, TellsAt, TellsOf, record_values}
-use Rattle.call_ask.specs.declared.records.RecordsWork.{RecordsWork as Work}
 use Rattle.call_records.specs.declared.parts as code
 use Rattle.call_records.specs.declared.halt.Halt.{Halt}
 use Rattle.call_records.specs.declared.halt.Halt.TheVariants as halt
@@ -39,11 +38,11 @@ wider allowed more (Err halt.Sink) f given = absurd given
 wider allowed more (Err halt.Memory) f given = tt
 
 -- a file that is refused
-told_so : (line : List ℕ) (stop : Halt) → Tells line stop → Gives (refuses line) (Err stop)
-told_so line (halt.Refused told) tells = (tells, refl)
-told_so line (halt.Store file) tells = absurd tells
-told_so line halt.Sink tells = absurd tells
-told_so line halt.Memory tells = tt
+told_so : (refusal : Refusal) (stop : Halt) → Refuses refusal stop → Gives (refuses refusal) (Err stop)
+told_so refusal (halt.Refused told) tells = (tells, refl)
+told_so refusal (halt.Store file) tells = absurd tells
+told_so refusal halt.Sink tells = absurd tells
+told_so refusal halt.Memory tells = tt
 
 without_memory : (allowed : Answers) (stop : Halt) → IsMemory stop → Gives allowed (Err stop)
 without_memory allowed (halt.Refused told) is = absurd is
@@ -52,18 +51,18 @@ without_memory allowed halt.Sink is = absurd is
 without_memory allowed halt.Memory is = tt
 
 -- a record that has not its sections
-pub over_refused : (asked : Work) (line : Line) (m : MapValues)
+pub over_refused : (asked : Asked) (line : Line) (m : MapValues)
     (said : Result (List RecordParts) SectionRefusal) (stop : Halt)
-    → Stops section_refusal said stop ⊎ IsMemory stop
+    → Stops refused_section said stop ⊎ IsMemory stop
     → Gives (over_records asked line m said) (Err stop)
 over_refused asked line m said stop stops = elim stops [
   | inl by ↦ subst (λ (s : Result (List RecordParts) SectionRefusal).
       Gives (over_records asked line m s) (Err stop)) (sym by.fails)
-      (told_so (section_refusal by.fault) stop by.tells)
+      (told_so (refused_section by.fault) stop by.tells)
   | inr is ↦ without_memory (over_records asked line m said) stop is
 ]
 
-module _ (asked : Work) (line : Line) (m : MapValues) (records : List RecordParts) where
+module _ (asked : Asked) (line : Line) (m : MapValues) (records : List RecordParts) where
   -- each source tells a track
   pub over_all : (placed : List PlacedValues) (tracks : List TrackValues)
       (r : Result (Vec ℕ Global) Halt) → placed ≡ placed_of line m records → AreTracks placed tracks
@@ -91,17 +90,17 @@ module _ (asked : Work) (line : Line) (m : MapValues) (records : List RecordPart
 
     module _ (source : PlacedValues) (there : slice_get (placed_of line m records) place ≡ Some source)
         (own : RecordParts) (its : slice_get records source.recorder ≡ Some own) where
-      abbrev line_of_it : List ℕ
-      line_of_it = record_refusal own source.source.channel why
+      abbrev refusal_of_it : Refusal
+      refusal_of_it = record_refusal asked own source.source.channel why
 
-      by_line : (stop : Halt) → Tells line_of_it stop → Refused stop
+      by_line : (stop : Halt) → Refuses refusal_of_it stop → Refused stop
       by_line (halt.Refused told) tells = inr (
         place,
         why,
-        told.items,
+        refusal_of_it,
         fails,
-        record { source = source; there = there; own = own; its = its; is = tells },
-        (refl, refl),
+        record { source = source; there = there; own = own; its = its; is = refl },
+        (tells, refl),
       )
       by_line (halt.Store file) tells = absurd tells
       by_line halt.Sink tells = absurd tells
@@ -109,22 +108,22 @@ module _ (asked : Work) (line : Line) (m : MapValues) (records : List RecordPart
 
     by_own : (source : PlacedValues) → slice_get (placed_of line m records) place ≡ Some source
         → (o : Option RecordParts) → slice_get records source.recorder ≡ o → (stop : Halt)
-        → TellsOf o source why stop → Refused stop
+        → TellsOf asked o source why stop → Refused stop
     by_own source there None its stop tells = by_memory stop tells
     by_own source there (Some own) its stop tells =
         by_line source there own its stop tells
 
     by_source : (o : Option PlacedValues) → slice_get (placed_of line m records) place ≡ o
-        → (stop : Halt) → TellsAt o records why stop → Refused stop
+        → (stop : Halt) → TellsAt asked o records why stop → Refused stop
     by_source None there stop tells = by_memory stop tells
     by_source (Some source) there stop tells =
         by_own source there (slice_get records source.recorder) refl stop tells
 
   pub over_none : (placed : List PlacedValues) (place : ℕ) (why : RecordFault) (stop : Halt)
       → placed ≡ placed_of line m records → FailsAt placed place why
-      → TellsAt (slice_get placed place) records why stop
+      → TellsAt asked (slice_get placed place) records why stop
       → Gives (over_records asked line m (Ok records)) (Err stop)
   over_none placed place why stop is fails tells =
       by_source place why (subst (λ (ps : List PlacedValues). FailsAt ps place why) is fails)
       (slice_get (placed_of line m records) place) refl stop
-      (subst (λ (ps : List PlacedValues). TellsAt (slice_get ps place) records why stop) is tells)
+      (subst (λ (ps : List PlacedValues). TellsAt asked (slice_get ps place) records why stop) is tells)

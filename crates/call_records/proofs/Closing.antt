@@ -1,5 +1,6 @@
 -- The clauses of the call, from how it ends.
 use Rattle.std.proofs.Common.{◌≡◌, ◌⊎◌, ◌<◌, ℕ, List, [], Ok, Err, refl, inl, inr}
+use Rattle.base_files.specs.declared.reason.Reason.{Reason}
 use Rattle.base_text.specs.{store.Counts.Rose, store.CountLaws.not_more, store.Sink.GrewByPart}
 use Rattle.call_answer.specs.{Sinks.GrewByAll, Sinks.SinkView}
 use Rattle.call_answer.specs.SinkLaws.{same_faults, same_out}
@@ -24,7 +25,7 @@ module _ {K : Type 0} (view : K → SinkView) (old new : K) (files : Held) (c1 c
   unwritten (Err halt.Sink) e early = absurd early
   unwritten (Err halt.Memory) e early = e.1
 
-  module _ (e1 e2 : SinkView) where
+  module _ (why : Reason) (e1 e2 : SinkView) where
     -- what the clauses see of the call
     abbrev pub seen : Call
     seen = record {
@@ -32,6 +33,7 @@ module _ {K : Type 0} (view : K → SinkView) (old new : K) (files : Held) (c1 c
       files = files;
       faults_old = c1;
       faults_new = c2;
+      reason = why;
       out_old = view old;
       out_new = view new;
       err_old = e1;
@@ -89,8 +91,8 @@ module _ {K : Type 0} (view : K → SinkView) (old new : K) (files : Held) (c1 c
 
     -- the clauses, once the line to err is put
     pub closed : (end : End) → EndsSo end
-        → GrewByAll e1 e2 (line_of end)
-        ⊎ (Rose e1.faults e2.faults × GrewByPart e1.written e2.written (line_of end))
+        → GrewByAll e1 e2 (line_of request why end)
+        ⊎ (Rose e1.faults e2.faults × GrewByPart e1.written e2.written (line_of request why end))
         → Clauses seen end
     closed end e told = record {
       answered = answered end e;

@@ -5,3 +5,4 @@ pub mod AllParts
 pub mod Answering
 pub mod Closing
 pub mod Maps
+pub mod Wording

@@ -5,12 +5,11 @@ use Rattle.std.proofs.lemmas.Bool.{le-ltb, lt-ltb}
 use Rattle.base_text.specs.{store.CountLaws.same_both, store.Store.SameCounts}
 use Rattle.model_line.specs.declared.line.Line.{Line}
 use Rattle.file_line.specs.Lines.{LineValues, line_values}
-use Rattle.call_records.specs.{Answers.answer_of, Halts.End, Halts.Tells, Halts.told_of}
+use Rattle.call_records.specs.{Answers.answer_of, Halts.End, Halts.Refuses, Halts.told_of}
 use Rattle.call_records.specs.Course.{Course, NamedFile, makes, over, reads, refused}
-use Rattle.call_records.specs.Parts.{RecorderFiles}
+use Rattle.call_records.specs.{Lines.Refusal, Parts.RecorderFiles, Request.Asked}
 use Rattle.call_records.specs.Files.{AllTold, Cause, Fetches, Held, NoneRose, Runs, answers}
 use Rattle.call_records.specs.Read.{Gives, IsMemory, Stops, text_seen}
-use Rattle.call_ask.specs.declared.records.RecordsWork.{RecordsWork as Work}
 use Rattle.call_records.specs.declared.halt.Halt.{Halt}
 use Rattle.call_records.specs.declared.halt.Halt.TheVariants as halt
 use Rattle.file_records.specs.map.Maps.{MapValues}
@@ -20,7 +19,7 @@ use Rattle.std.specs.Prelude.{Vec}
 -- a cause from an earlier count
 cause_from : (files : Held) (c1 c2 c3 : List ℕ → ℕ) (course : Course) (told : List ℕ)
     → SameCounts c1 c2 → Cause files c2 c3 course told → Cause files c1 c3 course told
-cause_from files c1 c2 c3 (refused line) told same cause = cause
+cause_from files c1 c2 c3 (refused refusal) told same cause = cause
 cause_from files c1 c2 c3 (over asked line m all) told same cause = cause
 cause_from files c1 c2 c3 (reads f next) told same cause = elim cause [
   | inl here ↦ inl (here.0, rw (same f.name) at here.1)
@@ -37,7 +36,7 @@ cause_from files c1 c2 c3 (makes values next) told same cause =
 -- no file's count rose, so there is no cause
 pub no_cause : (files : Held) (c1 c2 : List ℕ → ℕ) (course : Course) (told : List ℕ)
     → NoneRose files c1 c2 course → Cause files c1 c2 course told → ⊥
-no_cause files c1 c2 (refused line) told none cause = cause
+no_cause files c1 c2 (refused refusal) told none cause = cause
 no_cause files c1 c2 (over asked line m all) told none cause = cause
 no_cause files c1 c2 (reads f next) told none cause = elim cause [
   | inl here ↦ none.0 here.1
@@ -57,15 +56,15 @@ module _ (files : Held) where
   -- ---- ends
 
   -- a file is refused
-  pub runs_refused : (line : List ℕ) (why : Halt) (c : List ℕ → ℕ) → Tells line why
-      → Runs files c c (refused line) (Err why)
-  runs_refused line (halt.Refused v) c tells = ((λ name. refl), (λ told. (tells, refl)))
-  runs_refused line (halt.Store file) c tells = absurd tells
-  runs_refused line halt.Sink c tells = absurd tells
-  runs_refused line halt.Memory c tells = (λ name. refl)
+  pub runs_refused : (refusal : Refusal) (why : Halt) (c : List ℕ → ℕ) → Refuses refusal why
+      → Runs files c c (refused refusal) (Err why)
+  runs_refused refusal (halt.Refused v) c tells = ((λ name. refl), (λ told. (tells, refl)))
+  runs_refused refusal (halt.Store file) c tells = absurd tells
+  runs_refused refusal halt.Sink c tells = absurd tells
+  runs_refused refusal halt.Memory c tells = (λ name. refl)
 
   -- the work over all that was read
-  pub runs_over : (asked : Work) (line : Line) (m : MapValues) (all : List RecorderFiles)
+  pub runs_over : (asked : Asked) (line : Line) (m : MapValues) (all : List RecorderFiles)
       (r : Result (Vec ℕ Global) Halt) (c : List ℕ → ℕ) → Gives (answer_of asked line m all) r
       → Runs files c c (over asked line m all) (text_seen r)
   runs_over asked line m all (Ok v) c given = ((λ name. refl), (λ told. given))
@@ -83,7 +82,7 @@ module _ (files : Held) where
   runs_out course halt.Memory c is = (λ name. refl)
 
   -- a reader's fault
-  pub reader_stops : {Y F : Type 0} (told : F → List ℕ) (said : Result Y F)
+  pub reader_stops : {Y F : Type 0} (told : F → Refusal) (said : Result Y F)
       (course : Result Y F → Course) → ((e : F) → course (Err e) ≡ refused (told e))
       → (why : Halt) (c : List ℕ → ℕ) → Stops told said why ⊎ IsMemory why
       → Runs files c c (course said) (Err why)

@@ -1,6 +1,7 @@
 -- The clauses of the call.
 use Rattle.std.specs.Prelude.{◌≡◌, ◌⊎◌, ◌<◌, ℕ, List, Option, Ok, Err}
 use Rattle.std.specs.Io.KnownBytes.{Appends}
+use Rattle.base_files.specs.declared.reason.Reason.{Reason}
 use Rattle.base_text.specs.{store.Counts.Rose, store.Sink.GrewByPart, store.Sink.GrewByProper}
 use Rattle.call_answer.specs.Sinks.{GrewByAll, SinkView}
 use Rattle.call_records.specs.{Course.course_of, Files.AllTold, Files.Cause, Files.NoneRose}
@@ -10,12 +11,14 @@ use Rattle.call_records.specs.declared.halt.File.{File}
 use Rattle.call_records.specs.declared.halt.Halt.TheVariants as halt
 
 -- what a clause sees of a call: what is asked for, the bytes that the store tells under each name,
--- and before and after the call the store's count of faults of each name, and the two sinks
+-- and before and after the call the store's count of faults of each name, and the two sinks; after it
+-- the reason of the store's latest fault
 pub record Call : Type 0 where
   pub request : Request
   pub files : List ℕ → Option (List ℕ)
   pub faults_old : List ℕ → ℕ
   pub faults_new : List ℕ → ℕ
+  pub reason : Reason
   pub out_old : SinkView
   pub out_new : SinkView
   pub err_old : SinkView
@@ -68,6 +71,6 @@ pub record Clauses (call : Call) (end : End) : Type 0 where
       → (Rose call.out_old.faults call.out_new.faults → ⊥)
       → (end ≡ Err halt.Memory) ⊎ OutIsAnswer call end
   -- err grew by exactly the line of the end, or its count rose and it grew by a front of the line.
-  pub reported : GrewByAll call.err_old call.err_new (line_of end)
+  pub reported : GrewByAll call.err_old call.err_new (line_of call.request call.reason end)
       ⊎ (Rose call.err_old.faults call.err_new.faults
-      × GrewByPart call.err_old.written call.err_new.written (line_of end))
+      × GrewByPart call.err_old.written call.err_new.written (line_of call.request call.reason end))

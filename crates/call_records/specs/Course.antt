@@ -7,23 +7,24 @@ use Rattle.file_records.specs.{map.DataNames.data_name, map.DataNames.is_one_fil
 use Rattle.file_document.specs.declared.fault.DocumentFault.{DocumentFault}
 use Rattle.file_records.specs.declared.map.source.Signal.{Signal}
 use Rattle.file_records.specs.{tracks.Told.first_untold}
-use Rattle.call_records.specs.{Beside.beside, Request.Request}
+use Rattle.call_records.specs.{Beside.beside, Lines.Refusal}
+use Rattle.call_records.specs.Request.{Asked, Request, asked_with}
 use Rattle.call_records.specs.Parts.{RecorderFiles, files_with, named}
 use Rattle.call_ask.specs.declared.records.RecordsWork.{RecordsWork as Work}
 use Rattle.call_ask.specs.declared.records.RecordsWork.TheVariants as work
 use Rattle.call_records.specs.Faults.{line_refusal, map_refusal, untold_refusal}
 
--- A file: how messages tell it, its name in the store, and the most bytes that it may have.
+-- A file: which of the call it is, its name in the store, and the most bytes that it may have.
 pub record NamedFile : Type 0 where
   pub told : List ℕ
   pub name : List ℕ
   pub limit : ℕ
 
--- what comes next: a file is refused with this line; the work is done over all that was read; a file
--- is read, and what comes then depends on its bytes; or a line with these values is made
+-- what comes next: a file is refused so; the work is done over all that was read; a file is read, and
+-- what comes then depends on its bytes; or a line with these values is made
 pub data Course : Type 0 where
-  refused : List ℕ → Course
-  over : Work → Line → MapValues → List RecorderFiles → Course
+  refused : Refusal → Course
+  over : Asked → Line → MapValues → List RecorderFiles → Course
   reads : NamedFile → (List ℕ → Course) → Course
   makes : LineValues → (Line → Course) → Course
 
@@ -70,32 +71,33 @@ untold_by work.Scripts line map = None
 untold_by work.Show line map = None
 untold_by work.Record line map = first_untold line map.recorders
 
-abbrev pub unless_untold : Option Signal → Line → Course → Course
-unless_untold None line next = next
-unless_untold (Some signal) line next = refused (untold_refusal line signal)
+abbrev pub unless_untold : Asked → Option Signal → Line → Course → Course
+unless_untold asked None line next = next
+unless_untold asked (Some signal) line next =
+    refused (untold_refusal asked.name asked.bytes line signal)
 
-abbrev pub with_map : Work → List ℕ → Line → MapValues → Course
-with_map asked map_name line map =
-    unless_untold (untold_by asked line map) line
-    (recorders_course map_name map.recorders [] (over asked line map))
+abbrev pub with_map : Asked → Line → MapValues → Course
+with_map asked line map =
+    unless_untold asked (untold_by asked.work line map) line
+    (recorders_course asked.name map.recorders [] (over asked line map))
 
-abbrev pub after_map : Work → List ℕ → Line → Result MapValues DocumentFault → Course
-after_map asked map_name line (Ok map) = with_map asked map_name line map
-after_map asked map_name line (Err why) = refused (map_refusal why)
+abbrev pub after_map : Asked → Line → Result MapValues DocumentFault → Course
+after_map asked line (Ok map) = with_map asked line map
+after_map asked line (Err why) = refused (map_refusal asked.name asked.bytes why)
 
 abbrev pub map_file : List ℕ → NamedFile
 map_file name = record { told = codes "map"; name = name; limit = 1048576 }
 
 abbrev pub with_line : Work → List ℕ → Line → Course
-with_line asked map_name line =
-    reads (map_file map_name) (λ bytes. after_map asked map_name line (map_of line bytes))
+with_line work map_name line =
+    reads (map_file map_name) (λ bytes. after_map (asked_with work map_name bytes) line (map_of line bytes))
 
-abbrev pub after_line : Work → List ℕ → Result LineValues LineFault → Course
-after_line asked map_name (Ok values) = makes values (with_line asked map_name)
-after_line asked map_name (Err why) = refused (line_refusal why)
+abbrev pub after_line : Request → List ℕ → Result LineValues LineFault → Course
+after_line r bytes (Ok values) = makes values (with_line r.work r.map)
+after_line r bytes (Err why) = refused (line_refusal r.line bytes why)
 
 abbrev pub line_file : List ℕ → NamedFile
 line_file name = record { told = codes "line"; name = name; limit = 1048576 }
 
 abbrev pub course_of : Request → Course
-course_of r = reads (line_file r.line) (λ bytes. after_line r.work r.map (line_of bytes))
+course_of r = reads (line_file r.line) (λ bytes. after_line r bytes (line_of bytes))

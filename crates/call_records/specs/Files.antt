@@ -6,7 +6,7 @@ use Rattle.model_line.specs.declared.line.Line.{Line}
 use Rattle.file_line.specs.Lines.{line_values}
 use Rattle.call_records.specs.{Answers.Answers, Answers.answer_of, Answers.refuses, Halts.told_of}
 use Rattle.call_records.specs.Course.{Course, NamedFile, makes, over, reads, refused}
-use Rattle.call_records.specs.Faults.{too_long_line}
+use Rattle.call_records.specs.{Faults.too_long, Lines.IsLine}
 use Rattle.call_records.specs.declared.halt.Halt.{Halt}
 use Rattle.call_records.specs.declared.halt.Halt.TheVariants as halt
 
@@ -16,7 +16,7 @@ Held = List ℕ → Option (List ℕ)
 
 -- the store tells each file that is read
 abbrev pub AllTold : Held → Course → Type 0
-AllTold files (refused line) = ⊤
+AllTold files (refused refusal) = ⊤
 AllTold files (over asked line map all) = ⊤
 AllTold files (reads f next) =
     (bytes : List ℕ) × (files f.name ≡ Some bytes)
@@ -25,11 +25,11 @@ AllTold files (makes values next) = (line : Line) → line_values line ≡ value
 
 -- what is answered by the bytes that the store tells; a file that is too long is refused
 abbrev pub answers : Held → Course → Answers
-answers files (refused line) end text = refuses line end text
+answers files (refused refusal) end text = refuses refusal end text
 answers files (over asked line map all) end text = answer_of asked line map all end text
 answers files (reads f next) end text =
     (bytes : List ℕ) × (files f.name ≡ Some bytes)
-    × cond (nat_lt f.limit (length bytes)) (refuses (too_long_line f.told f.limit) end text)
+    × cond (nat_lt f.limit (length bytes)) (refuses (too_long f.name) end text)
     (answers files (next bytes) end text)
 answers files (makes values next) end text =
     (line : Line) × (line_values line ≡ values) × answers files (next line) end text
@@ -37,7 +37,7 @@ answers files (makes values next) end text =
 -- this file, told so, is the cause of a store fault: the count of its name rose, and no file before it
 -- is longer than its limit
 abbrev pub Cause : Held → (List ℕ → ℕ) → (List ℕ → ℕ) → Course → List ℕ → Type 0
-Cause files old new (refused line) told = ⊥
+Cause files old new (refused refusal) told = ⊥
 Cause files old new (over asked line map all) told = ⊥
 Cause files old new (reads f next) told =
     ((f.told ≡ told) × Rose (old f.name) (new f.name))
@@ -48,7 +48,7 @@ Cause files old new (makes values next) told =
 
 -- the count of none of the files that are read rose
 abbrev pub NoneRose : Held → (List ℕ → ℕ) → (List ℕ → ℕ) → Course → Type 0
-NoneRose files old new (refused line) = ⊤
+NoneRose files old new (refused refusal) = ⊤
 NoneRose files old new (over asked line map all) = ⊤
 NoneRose files old new (reads f next) =
     (Rose (old f.name) (new f.name) → ⊥)
@@ -63,7 +63,7 @@ abbrev pub Fetches : Held → (List ℕ → ℕ) → (List ℕ → ℕ) → Name
 Fetches files old new f (Ok bytes) =
     SameCounts old new × (length bytes ≤ f.limit) × IfSome (files f.name) (λ b. b ≡ bytes)
 Fetches files old new f (Err (halt.Refused line)) =
-    SameCounts old new × (line.items ≡ too_long_line f.told f.limit)
+    SameCounts old new × IsLine (too_long f.name) line.items
     × IfSome (files f.name) (λ b. f.limit < length b)
 Fetches files old new f (Err (halt.Store file)) =
     (told_of file ≡ f.told) × Rose (old f.name) (new f.name)

@@ -1,6 +1,7 @@
 pub mod Beside
 pub mod Halts
 pub mod Request
+pub mod Lines
 pub mod Faults
 pub mod Parts
 pub mod RecordFaults

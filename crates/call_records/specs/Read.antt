@@ -7,7 +7,7 @@ use Rattle.file_records.specs.tracks.Tracks.{PlacedValues}
 use Rattle.call_records.specs.RecordFaults.{record_refusal}
 use Rattle.call_records.specs.{Answers.Answers}
 use Rattle.call_records.specs.Parts.{NamedText, Part, RecordParts, RecorderFiles, files_with, named}
-use Rattle.call_records.specs.Halts.{Tells}
+use Rattle.call_records.specs.{Halts.Refuses, Lines.Refusal, Request.Asked}
 use Rattle.call_records.specs.declared.fetch as code
 use Rattle.call_records.specs.declared.parts as part_code
 use Rattle.call_records.specs.declared.halt.Halt.{Halt}
@@ -20,27 +20,27 @@ IsMemory halt.Sink = ⊥
 IsMemory halt.Memory = ⊤
 
 -- a fault of a reader, as it is told
-pub record Stops {Y F : Type 0} (told : F → List ℕ) (said : Result Y F) (why : Halt) : Type 0 where
+pub record Stops {Y F : Type 0} (told : F → Refusal) (said : Result Y F) (why : Halt) : Type 0 where
   pub fault : F
   pub fails : said ≡ Err fault
-  pub tells : Tells (told fault) why
+  pub tells : Refuses (told fault) why
 
 -- a value that is what reading gives, or such a fault; want of memory says nothing
-abbrev pub Reads : {X Y F : Type 0} → (X → Y) → (F → List ℕ) → Result Y F → Result X Halt → Type 0
+abbrev pub Reads : {X Y F : Type 0} → (X → Y) → (F → Refusal) → Result Y F → Result X Halt → Type 0
 Reads view told said (Ok x) = said ≡ Ok (view x)
 Reads view told said (Err why) = Stops told said why ⊎ IsMemory why
 
 -- a source is refused by the parts of its recorder's record, or memory ran out
-abbrev pub TellsOf : Option RecordParts → PlacedValues → RecordFault → Halt → Type 0
-TellsOf None source why stop = IsMemory stop
-TellsOf (Some own) source why stop =
-    Tells (record_refusal own source.source.channel why) stop
+abbrev pub TellsOf : Asked → Option RecordParts → PlacedValues → RecordFault → Halt → Type 0
+TellsOf asked None source why stop = IsMemory stop
+TellsOf asked (Some own) source why stop =
+    Refuses (record_refusal asked own source.source.channel why) stop
 
 -- so is the source at a place, where there is one
-abbrev pub TellsAt : Option PlacedValues → List RecordParts → RecordFault → Halt → Type 0
-TellsAt None records why stop = IsMemory stop
-TellsAt (Some source) records why stop =
-    TellsOf (slice_get records source.recorder) source why stop
+abbrev pub TellsAt : Asked → Option PlacedValues → List RecordParts → RecordFault → Halt → Type 0
+TellsAt asked None records why stop = IsMemory stop
+TellsAt asked (Some source) records why stop =
+    TellsOf asked (slice_get records source.recorder) source why stop
 
 -- a text with its answer, or why there is none
 abbrev pub Gives : Answers → Result (Vec ℕ Global) Halt → Type 0

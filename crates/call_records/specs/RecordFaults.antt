@@ -1,6 +1,6 @@
 -- Why a record is refused, as the line on standard error says it: the file, in a text the line and the
 -- column, and what is wrong there.
-use Rattle.std.specs.Prelude.{◌∷◌, ◌++◌, ◌+◌, ◌-◌, ℕ, List, [], Option, None, Some, codes, decimal}
+use Rattle.std.specs.Prelude.{◌∷◌, ◌++◌, ◌+◌, ◌-◌, ℕ, List, [], Option, None, Some, codes, decimal, map}
 use Rattle.std.specs.Prelude.{if◌then◌else◌}
 use Rattle.std.specs.List.{concat}
 use Rattle.file_comtrade.specs.{Data.is_ascii, Places.column_in}
@@ -17,31 +17,34 @@ use Rattle.file_comtrade.specs.declared.sections.SectionFault.TheVariants as sec
 use Rattle.file_comtrade.specs.declared.ticks.TickFault.{TickFault}
 use Rattle.file_records.specs.map.Sources.{ChannelSaid, id, number}
 use Rattle.call_records.specs.declared.told.Spot.{Spot}
-use Rattle.call_records.specs.{Faults.line_feed, Parts.Part, Parts.RecordParts}
+use Rattle.call_refused.specs.told.Told.{within_line}
+use Rattle.call_records.specs.{Parts.Part, Parts.RecordParts, Request.Asked}
+use Rattle.call_records.specs.Lines.{Refusal, exactly, worded}
 
 -- ---- lines
 
+unfoldable pub line_feed : List ℕ
+line_feed = codes "\n"
+
 unfoldable pub place_said : List ℕ → ℕ → ℕ → List ℕ
 place_said file line column =
-    concat (file ∷ codes ":" ∷ decimal line ∷ codes ":" ∷ decimal column ∷ codes ": " ∷ [])
+    map within_line file
+    ++ concat (codes ":" ∷ decimal line ∷ codes ":" ∷ decimal column ∷ codes ": " ∷ [])
+
+-- words, and the end of the line
+abbrev pub said_words : List (List ℕ) → List ℕ
+said_words words = map within_line (concat words) ++ line_feed
 
 -- `FILE:LINE:COLUMN: WORDS`
 abbrev pub place_line : List ℕ → ℕ → ℕ → List (List ℕ) → List ℕ
-place_line file line column words = place_said file line column ++ concat words ++ line_feed
-
-unfoldable pub file_said : List ℕ → List ℕ
-file_said file = concat (file ∷ codes ": " ∷ [])
-
--- of a file that is no text, or as a whole: `FILE: WORDS`
-abbrev pub file_line : List ℕ → List (List ℕ) → List ℕ
-file_line file words = file_said file ++ concat words ++ line_feed
+place_line file line column words = place_said file line column ++ said_words words
 
 unfoldable pub sample_said : List ℕ → ℕ → List ℕ
-sample_said file n = concat (file ∷ codes ": sample " ∷ decimal n ∷ codes ": " ∷ [])
+sample_said file n = map within_line file ++ concat (codes ": sample " ∷ decimal n ∷ codes ": " ∷ [])
 
 -- of a sample of binary data: `FILE: sample N: WORDS`
 abbrev pub sample_words : List ℕ → ℕ → List (List ℕ) → List ℕ
-sample_words file n words = sample_said file n ++ concat words ++ line_feed
+sample_words file n words = sample_said file n ++ said_words words
 
 -- a line, the first having number 1, and the index of a field in it
 abbrev pub at : ℕ → ℕ → Spot
@@ -137,28 +140,41 @@ sample_line part form spot words =
 
 -- ---- ticks and channels
 
--- the first tick with a sample, and the last, where there is one
-abbrev pub gap_words : ℕ → Option ℕ → List (List ℕ)
-gap_words from None = codes "all samples are before tick 0; write an earlier start in the map" ∷ []
-gap_words from (Some to) =
-    codes "samples from tick " ∷ decimal from ∷ codes " to tick " ∷ decimal to
-    ∷ codes " alone; write another start in the map, or a shorter horizon in the line" ∷ []
+-- of a file of data: the first tick with a sample, and the last, where there is one
+abbrev pub gap_words : List ℕ → ℕ → Option ℕ → List (List ℕ)
+gap_words file from None =
+    file ∷ codes " has all samples before tick 0; write an earlier start" ∷ []
+gap_words file from (Some to) =
+    file ∷ codes " has samples from tick " ∷ decimal from ∷ codes " to tick " ∷ decimal to
+    ∷ codes " alone; write another start, or a shorter horizon in the line" ∷ []
 
-abbrev pub tick_words : TickFault → List (List ℕ)
-tick_words why = gap_words why.from why.to
+abbrev pub tick_words : List ℕ → TickFault → List (List ℕ)
+tick_words file why = gap_words file why.from why.to
 
-abbrev pub channel_words : ChannelSaid → List (List ℕ)
-channel_words (id bytes) = codes "with the id " ∷ bytes ∷ []
-channel_words (number n) = codes "of number " ∷ decimal n ∷ []
+-- of a configuration that has not one such channel: what it has of it, and what to write
+abbrev pub channel_words : List ℕ → List ℕ → ChannelSaid → List ℕ → List (List ℕ)
+channel_words file what (id bytes) write =
+    file ∷ what ∷ codes " digital channel with the id " ∷ bytes ∷ write ∷ []
+channel_words file what (number n) write =
+    file ∷ what ∷ codes " digital channel of number " ∷ decimal n ∷ write ∷ []
 
--- why a channel has no levels, by the two parts of its record
-abbrev pub record_refusal : RecordParts → ChannelSaid → RecordFault → List ℕ
-record_refusal own channel (record_fault.Config why) =
-    spot_line own.config (config_spot why) (config_words why ∷ [])
-record_refusal own channel record_fault.NoChannel =
-    file_line own.config.name (codes "there is no digital channel " ∷ channel_words channel)
-record_refusal own channel record_fault.ManyChannels =
-    file_line own.config.name (codes "there is more than one digital channel " ∷ channel_words channel)
-record_refusal own channel (record_fault.Data form why) =
-    sample_line own.samples form (data_spot why) (data_words why)
-record_refusal own channel (record_fault.Ticks why) = file_line own.samples.name (tick_words why)
+abbrev pub no_channel : List ℕ → ChannelSaid → List (List ℕ)
+no_channel file channel =
+    channel_words file (codes " has no") channel (codes "; write the id of one that it has, or # and its number")
+
+abbrev pub many_channels : List ℕ → ChannelSaid → List (List ℕ)
+many_channels file channel =
+    channel_words file (codes " has more than one") channel (codes "; write # and the number of one")
+
+-- why a channel has no levels: in the two parts of its record, or in the map
+abbrev pub record_refusal : Asked → RecordParts → ChannelSaid → RecordFault → Refusal
+record_refusal asked own channel (record_fault.Config why) =
+    exactly (spot_line own.config (config_spot why) (config_words why ∷ []))
+record_refusal asked own channel record_fault.NoChannel =
+    worded asked.name asked.bytes (no_channel own.config.name channel)
+record_refusal asked own channel record_fault.ManyChannels =
+    worded asked.name asked.bytes (many_channels own.config.name channel)
+record_refusal asked own channel (record_fault.Data form why) =
+    exactly (sample_line own.samples form (data_spot why) (data_words why))
+record_refusal asked own channel (record_fault.Ticks why) =
+    worded asked.name asked.bytes (tick_words own.samples.name why)

@@ -2,7 +2,7 @@
 use Rattle.std.specs.Prelude.{◌∷◌, ℕ, List, [], codes, decimal}
 use Rattle.file_comtrade.specs.declared.sections.SectionFault.{SectionFault}
 use Rattle.file_comtrade.specs.declared.sections.SectionFault.TheVariants as fault
-use Rattle.call_records.specs.{Parts.SectionRefusal, RecordFaults.place_line}
+use Rattle.call_records.specs.{Lines.Refusal, Lines.exactly, Parts.SectionRefusal, RecordFaults.place_line}
 
 abbrev pub section_line : SectionFault → ℕ
 section_line fault.NoConfig = 1
@@ -26,3 +26,6 @@ section_words (fault.Count n found) =
 abbrev pub section_refusal : SectionRefusal → List ℕ
 section_refusal refused =
     place_line refused.name (section_line refused.why) 1 (section_words refused.why)
+
+abbrev pub refused_section : SectionRefusal → Refusal
+refused_section refused = exactly (section_refusal refused)

@@ -5,9 +5,11 @@ ghost use Rattle.model_line.specs.{Fits.deadline_fits, PlainNames.is_plain_name}
 ghost use Rattle.file_records.specs.map.Maps.{map_values};
 ghost use Rattle.file_records.specs.tracks.Tracks.{bytes_values, placed_values, track_values};
 ghost use Rattle.call_records.specs.Answers.{answer_of, over_records as all_said, over_work};
+ghost use Rattle.call_records.specs.Request.{asked_values};
 ghost use Rattle.call_records.specs.{Parts.bytes_in, Read.Gives, Read.TellsAt, Read.TellsOf};
 ghost use Rattle.call_records.specs.Read.{files_values, record_values};
 
+use crate::asked::Asked;
 use crate::fetch::RecorderFiles;
 use crate::halt::Halt;
 use crate::parts::{RecordParts, all_parts};
@@ -42,15 +44,16 @@ fn bytes_of<'a>(alloc: Global, records: &[RecordParts<'a>]) -> Result<Vec<Record
 // Why a source that tells nothing is refused.
 fn source_halt(
     alloc: Global,
+    asked: Asked<'_>,
     source: &Placed,
     records: &[RecordParts<'_>],
     why: RecordFault,
 ) -> Halt
-    ensures { TellsOf (slice_get (image record_values records.now)
+    ensures { TellsOf (asked_values asked.entry) (slice_get (image record_values records.now)
         (placed_values source.now).recorder) (placed_values source.now) why result }
 {
     match records.get(source.recorder as usize) {
-        Some(own) => record_halt(alloc, own, &source.source.channel, why),
+        Some(own) => record_halt(alloc, asked, own, source, why),
         None => Halt::Memory,
     }
 }
@@ -58,15 +61,16 @@ fn source_halt(
 // Why the source at the fault's place is refused.
 fn fault_halt(
     alloc: Global,
+    asked: Asked<'_>,
     placed: &[Placed],
     records: &[RecordParts<'_>],
     fault: TrackFault,
 ) -> Halt
-    ensures { TellsAt (slice_get (image placed_values placed.now) fault.place)
+    ensures { TellsAt (asked_values asked.entry) (slice_get (image placed_values placed.now) fault.place)
         (image record_values records.now) fault.why result }
 {
     match placed.get(fault.place) {
-        Some(source) => source_halt(alloc, source, records, fault.why),
+        Some(source) => source_halt(alloc, asked, source, records, fault.why),
         None => Halt::Memory,
     }
 }
@@ -74,7 +78,7 @@ fn fault_halt(
 // The text over what the tracks tell.
 fn text_over(
     alloc: Global,
-    work: RecordsWork,
+    asked: Asked<'_>,
     line: &Line,
     map: &Map,
     placed: &[Placed],
@@ -82,13 +86,13 @@ fn text_over(
 ) -> Result<Vec<u8>, Halt>
     requires plain { IsTrue (is_plain_name map.now.script) }
     requires deadline { IsTrue (deadline_fits line.now.horizon map.now.kind map.now.deadline) }
-    ensures { Gives (over_work work line.now (map_values map.now) (image placed_values placed.now)
+    ensures { Gives (over_work (asked_values asked.entry) line.now (map_values map.now) (image placed_values placed.now)
         (image track_values tracks.now)) result }
 {
-    match work {
+    match asked.work {
         RecordsWork::Scripts => match scripts_text(alloc, line, map, tracks) {
             Ok(text) => Ok(text),
-            Err(Stopped::Fault(why)) => Err(no_script_halt(alloc, why)),
+            Err(Stopped::Fault(why)) => Err(no_script_halt(alloc, asked, why)),
             Err(Stopped::Memory) => Err(Halt::Memory),
         },
         RecordsWork::Record => {
@@ -111,7 +115,7 @@ fn text_over(
 // The text over the map's recorders and their records.
 fn over_records(
     alloc: Global,
-    work: RecordsWork,
+    asked: Asked<'_>,
     line: &Line,
     map: &Map,
     records: &[RecordParts<'_>],
@@ -120,14 +124,27 @@ fn over_records(
     requires few { length map.now.recorders.items ≤ 8 }
     requires plain { IsTrue (is_plain_name map.now.script) }
     requires deadline { IsTrue (deadline_fits line.now.horizon map.now.kind map.now.deadline) }
-    ensures { Gives (all_said work line.now (map_values map.now)
+    ensures { Gives (all_said (asked_values asked.entry) line.now (map_values map.now)
         (Ok (image record_values records.now))) result }
 {
     let bytes = bytes_of(alloc, records)?;
     let placed = place(alloc, line, map.recorders.as_slice(), bytes.as_slice())?;
     match read_tracks(alloc, placed.as_slice()) {
-        Ok(tracks) => text_over(alloc, work, line, map, placed.as_slice(), tracks.as_slice()),
-        Err(Stopped::Fault(fault)) => Err(fault_halt(alloc, placed.as_slice(), records, fault)),
+        Ok(tracks) => text_over(
+            alloc,
+            asked,
+            line,
+            map,
+            placed.as_slice(),
+            tracks.as_slice(),
+        ),
+        Err(Stopped::Fault(fault)) => Err(fault_halt(
+            alloc,
+            asked,
+            placed.as_slice(),
+            records,
+            fault,
+        )),
         Err(Stopped::Memory) => Err(Halt::Memory),
     }
 }
@@ -135,7 +152,7 @@ fn over_records(
 /// The text over the map's recorders and the bytes of their files.
 pub fn answer(
     alloc: Global,
-    work: RecordsWork,
+    asked: Asked<'_>,
     line: &Line,
     map: &Map,
     files: &[RecorderFiles],
@@ -144,9 +161,9 @@ pub fn answer(
     requires few { length map.now.recorders.items ≤ 8 }
     requires plain { IsTrue (is_plain_name map.now.script) }
     requires deadline { IsTrue (deadline_fits line.now.horizon map.now.kind map.now.deadline) }
-    ensures { Gives (answer_of work line.now (map_values map.now) (image files_values files.now))
+    ensures { Gives (answer_of (asked_values asked.entry) line.now (map_values map.now) (image files_values files.now))
         result }
 {
     let records = all_parts(alloc, files)?;
-    over_records(alloc, work, line, map, records.as_slice())
+    over_records(alloc, asked, line, map, records.as_slice())
 }

@@ -53,7 +53,7 @@ pub fn fetch_file<S: Store>(
     match fetch(alloc, store, name, limit) {
         Ok(bytes) => Ok(bytes),
         Err(Stopped::Fault(FetchFault::Failed)) => Err(Halt::Store(file)),
-        Err(Stopped::Fault(FetchFault::TooLong)) => Err(too_long(alloc, file.told(), limit)),
+        Err(Stopped::Fault(FetchFault::TooLong)) => Err(too_long(alloc, name, limit)),
         Err(Stopped::Memory) => Err(Halt::Memory),
     }
 }
@@ -84,7 +84,7 @@ fn fetch_beside<S: Store>(
     match fetch(alloc, store, text, limit) {
         Ok(bytes) => Ok(NamedBytes { name, bytes }),
         Err(Stopped::Fault(FetchFault::Failed)) => Err(Halt::Store(File::Recorder(name))),
-        Err(Stopped::Fault(FetchFault::TooLong)) => Err(too_long(alloc, name.as_slice(), limit)),
+        Err(Stopped::Fault(FetchFault::TooLong)) => Err(too_long(alloc, text, limit)),
         Err(Stopped::Memory) => Err(Halt::Memory),
     }
 }

@@ -2,11 +2,14 @@
 
 ghost use Rattle.std.specs.Prelude.{◌≡◌};
 ghost use Rattle.call_answer.specs.Sinks.{Puts, sink_view};
-ghost use Rattle.call_records.specs.Halts.{halt_line, status_of as end_status};
+ghost use Rattle.call_refused.specs.told.Unread.{unread_line};
+ghost use Rattle.call_records.specs.{Halts.halt_line, Halts.status_of as end_status, Request.request_of};
 ghost use Rattle.call_records.specs.declared.halt.Halt.TheVariants as halt_of;
 
+use base_files::Reason;
 use base_text::store::{PutFailed, Sink};
 use call_answer::put_pieces;
+use call_ask::RecordsAsk;
 use model_line::Memory;
 use std::alloc::{AllocError, AllocFailed};
 
@@ -23,7 +26,7 @@ pub enum File {
 #[derive(Drop)]
 pub enum Halt {
     /// A file is too long, or says something that is refused: the line that tells it,
-    /// `refused record: FILE: WHAT`.
+    /// `FILE:LINE:COLUMN: WHAT`.
     Refused(Vec<u8>),
     /// The file could not be read.
     Store(File),
@@ -34,15 +37,15 @@ pub enum Halt {
 }
 
 impl File {
-    ghost use Rattle.call_records.specs.Halts.{told_of};
+    ghost use Rattle.call_records.specs.{Halts.name_of, Request.request_of};
 
-    /// How messages tell it: `line`, `map`, or its name.
-    pub fn told(&self) -> &[u8]
-        ensures { result.now ≡ told_of self.now }
+    /// Its name in the store.
+    pub fn name<'a>(&'a self, ask: &RecordsAsk<'a>) -> &'a [u8]
+        ensures { result.now ≡ name_of (request_of ask.now) self.now }
     {
         match self {
-            File::Line => b"line",
-            File::Map => b"map",
+            File::Line => ask.line.as_bytes(),
+            File::Map => ask.map.as_bytes(),
             File::Recorder(name) => name.as_slice(),
         }
     }
@@ -74,17 +77,32 @@ pub fn status_of(end: &Result<(), Halt>) -> u8
     }
 }
 
-/// Pushes the line that says it.
-pub fn put_halt<K: Sink>(sink: &mut K, halt: &Halt) -> Result<(), PutFailed>
+/// Pushes the line that says it, with the reason of the store's latest fault. Of the output, which has
+/// no name here, nothing is said.
+pub fn put_halt<K: Sink>(
+    sink: &mut K,
+    ask: &RecordsAsk<'_>,
+    reason: Reason,
+    halt: &Halt,
+) -> Result<(), PutFailed>
     ensures { Puts (sink_view K.written K.faults sink.old) (sink_view K.written K.faults sink.new)
-        (halt_line halt.now) result }
+        (halt_line (request_of ask.now) reason halt.now) result }
 {
     match halt {
         Halt::Refused(line) => put_pieces(sink, &[line.as_slice()]),
-        Halt::Store(file) => put_pieces(sink, &[b"store fault ", file.told(), b"\n"]),
-        Halt::Sink => put_pieces(sink, &[b"sink fault\n"]),
-        Halt::Memory => put_pieces(sink, &[b"no memory\n"]),
+        Halt::Store(file) => put_unread(sink, file.name(ask), reason),
+        Halt::Sink => Ok(()),
+        Halt::Memory => put_pieces(sink, &[b"out of memory\n"]),
     }
+}
+
+// Pushes that a file of this name is not read, and why.
+fn put_unread<'a, K: Sink>(sink: &mut K, name: &'a [u8], reason: Reason) -> Result<(), PutFailed>
+    ensures { Puts (sink_view K.written K.faults sink.old) (sink_view K.written K.faults sink.new)
+        (unread_line name.now reason) result }
+{
+    let why: &'a [u8] = reason.words().as_bytes();
+    put_pieces(sink, &[name, b": cannot be read: ", why, b"\n"])
 }
 
 impl From<Memory> for Halt {

@@ -6,6 +6,7 @@
 #![tactic(auto)]
 
 mod answer;
+mod asked;
 mod beside;
 mod fetch;
 mod halt;

@@ -5,7 +5,7 @@ ghost use Rattle.file_comtrade.specs.{SectionViews.parts_values, Sections.parts_
 ghost use Rattle.call_records.specs.{Parts.in_sections, Parts.parts_from, Parts.parts_in as both_parts};
 ghost use Rattle.call_records.specs.{Parts.sections_said, Parts.whole as whole_file};
 ghost use Rattle.call_records.specs.Read.{Reads, files_values, named_text, part_values, record_values};
-ghost use Rattle.call_records.specs.SectionFaults.{section_refusal};
+ghost use Rattle.call_records.specs.SectionFaults.{refused_section};
 
 use crate::fetch::{NamedBytes, RecorderFiles};
 use crate::halt::Halt;
@@ -62,7 +62,7 @@ fn sections<'a>(name: &'a [u8], parts: Parts<'a>) -> RecordParts<'a>
 
 // The parts of a record in one file.
 fn one_file(alloc: Global, file: &NamedBytes) -> Result<RecordParts<'_>, Halt>
-    ensures { Reads record_values section_refusal
+    ensures { Reads record_values refused_section
         (sections_said file.now.name.items (parts_said file.now.bytes.items)) result }
 {
     let name = file.name.as_slice();
@@ -74,7 +74,7 @@ fn one_file(alloc: Global, file: &NamedBytes) -> Result<RecordParts<'_>, Halt>
 }
 
 fn parts_in(alloc: Global, files: &RecorderFiles) -> Result<RecordParts<'_>, Halt>
-    ensures { Reads record_values section_refusal (both_parts (files_values files.now)) result }
+    ensures { Reads record_values refused_section (both_parts (files_values files.now)) result }
 {
     match &files.samples {
         Some(samples) => Ok(RecordParts {
@@ -87,7 +87,7 @@ fn parts_in(alloc: Global, files: &RecorderFiles) -> Result<RecordParts<'_>, Hal
 
 /// The parts of the records of all recorders, or a refusal of the first that has not its sections.
 pub fn all_parts(alloc: Global, files: &[RecorderFiles]) -> Result<Vec<RecordParts<'_>>, Halt>
-    ensures reads { Reads (λ v. map record_values v.items) section_refusal
+    ensures reads { Reads (λ v. map record_values v.items) refused_section
         (parts_from (map files_values files.now) []) result }
     ensures many { IfOk result (λ v. length v.items ≡ length files.now) }
 {

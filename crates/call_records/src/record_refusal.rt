@@ -1,19 +1,27 @@
 //! Why a record is refused, as the line on standard error says it.
 
-ghost use Rattle.std.specs.Prelude.{[], ◌∷◌, ◌≡◌, Some, codes, map};
+ghost use Rattle.std.specs.Prelude.{[], ◌∷◌, ◌≡◌, Some, map};
 ghost use Rattle.file_records.specs.map.Sources.{channel_said};
-ghost use Rattle.call_records.specs.{Halts.Tells, Read.part_values, Read.record_values};
+ghost use Rattle.file_records.specs.tracks.Tracks.{placed_values};
+ghost use Rattle.call_records.specs.{Halts.Refuses, Halts.Tells, Lines.worded, Request.asked_values};
+ghost use Rattle.call_records.specs.{Read.part_values, Read.record_values};
 ghost use Rattle.call_records.specs.RecordFaults.{at as spot_at, channel_words, config_spot, config_words};
-ghost use Rattle.call_records.specs.RecordFaults.{data_spot, data_words, file_line, gap_words, level_words};
+ghost use Rattle.call_records.specs.RecordFaults.{data_spot, data_words, gap_words, level_words};
 ghost use Rattle.call_records.specs.RecordFaults.{order_words, plain_words, record_refusal, sample_line};
 ghost use Rattle.call_records.specs.RecordFaults.{tick_words};
 
+use crate::asked::Asked;
 use crate::halt::Halt;
 use crate::parts::{Part, RecordParts};
-use crate::told::{Spot, at_spot, of_file, of_sample};
+use crate::refusal::worded_halt;
+use crate::told::{Spot, at_spot, of_sample};
+use base_memory::Memory;
+use base_text::pieces::text_of;
 use file_comtrade::{ConfigFault, DataFault, DateOrder, Form, RecordFault, TickFault};
-use file_records::map::ChannelName;
+use file_records::map::{ChannelName, Signal};
+use file_records::tracks::Placed;
 use itoa::Buffer;
+use model_line::{What, element_word};
 use std::alloc::Global;
 
 fn at(line: usize, field: usize) -> Spot
@@ -157,63 +165,120 @@ fn data_halt(alloc: Global, part: &Part<'_>, form: Form, why: DataFault) -> Halt
     }
 }
 
-fn gap_halt(alloc: Global, file: &[u8], from: u128, to: u128) -> Halt
-    ensures { Tells (file_line file.now (gap_words from (Some to))) result }
+fn gap_halt(alloc: Global, asked: Asked<'_>, file: &[u8], from: u128, to: u128) -> Halt
+    ensures { Refuses (worded asked.entry.name.now asked.entry.bytes.now (gap_words file.now from (Some to)))
+        result }
 {
     let mut digits = Buffer::new();
     let from = digits.format(from).as_bytes();
     let mut more = Buffer::new();
     let to = more.format(to).as_bytes();
-    of_file(
+    worded_halt(
         alloc,
-        file,
+        asked,
+        b"start",
         &[
-            b"samples from tick ",
+            file,
+            b" has samples from tick ",
             from,
             b" to tick ",
             to,
-            b" alone; write another start in the map, or a shorter horizon in the line",
+            b" alone; write another start, or a shorter horizon in the line",
         ],
     )
 }
 
-fn tick_halt(alloc: Global, file: &[u8], why: TickFault) -> Halt
-    ensures { Tells (file_line file.now (tick_words why)) result }
+fn tick_halt(alloc: Global, asked: Asked<'_>, file: &[u8], why: TickFault) -> Halt
+    ensures { Refuses (worded asked.entry.name.now asked.entry.bytes.now (tick_words file.now why)) result }
 {
     match why.to {
-        None => of_file(
+        None => worded_halt(
             alloc,
-            file,
-            &[b"all samples are before tick 0; write an earlier start in the map"],
+            asked,
+            b"start",
+            &[
+                file,
+                b" has all samples before tick 0; write an earlier start",
+            ],
         ),
-        Some(to) => gap_halt(alloc, file, why.from, to),
+        Some(to) => gap_halt(alloc, asked, file, why.from, to),
     }
 }
 
 // The configuration does not name one channel so.
-fn channel_halt(alloc: Global, config: &[u8], what: &[u8], channel: &ChannelName) -> Halt
-    ensures { Tells (file_line config.now (what.now ∷ channel_words (channel_said channel.now)))
-        result }
+fn channel_halt<'a>(
+    alloc: Global,
+    asked: Asked<'_>,
+    path: &[u8],
+    file: &'a [u8],
+    what: &'a [u8],
+    channel: &'a ChannelName,
+    write: &'a [u8],
+) -> Halt
+    ensures { Refuses (worded asked.entry.name.now asked.entry.bytes.now
+        (channel_words file.now what.now (channel_said channel.now) write.now)) result }
 {
     match channel {
-        ChannelName::Id(id) => of_file(alloc, config, &[what, b"with the id ", id.as_slice()]),
+        ChannelName::Id(id) => worded_halt(
+            alloc,
+            asked,
+            path,
+            &[
+                file,
+                what,
+                b" digital channel with the id ",
+                id.as_slice(),
+                write,
+            ],
+        ),
         ChannelName::Number(n) => {
             let mut digits = Buffer::new();
             let n = digits.format(*n).as_bytes();
-            of_file(alloc, config, &[what, b"of number ", n])
+            worded_halt(
+                alloc,
+                asked,
+                path,
+                &[file, what, b" digital channel of number ", n, write],
+            )
         }
     }
 }
 
-/// A recorder's record has no levels for the channel.
+// The key in the map of what tells a signal.
+fn key_of(signal: Signal) -> &'static [u8] {
+    match signal {
+        Signal::Key(_) => b"key",
+        Signal::Trip(_) => b"trip",
+        Signal::Shown(What::Loss(_)) => b"loss",
+        Signal::Shown(What::Element(place)) => element_word(place.element),
+    }
+}
+
+// Where in the map a source stands.
+fn path_of(alloc: Global, source: &Placed<'_>) -> Result<Vec<u8>, Memory> {
+    let mut digits = Buffer::new();
+    let recorder = digits.format(source.recorder).as_bytes();
+    text_of(
+        alloc,
+        &[b"recorder[", recorder, b"].", key_of(source.source.signal)],
+    )
+}
+
+/// A recorder's record has no levels for the channel of this source.
 pub fn record_halt(
     alloc: Global,
+    asked: Asked<'_>,
     own: &RecordParts<'_>,
-    channel: &ChannelName,
+    source: &Placed<'_>,
     why: RecordFault,
 ) -> Halt
-    ensures { Tells (record_refusal (record_values own.now) (channel_said channel.now) why) result }
+    ensures { Refuses (record_refusal (asked_values asked.entry) (record_values own.now)
+        (placed_values source.now).source.channel why) result }
 {
+    let Ok(path) = path_of(alloc, source) else {
+        return Halt::Memory;
+    };
+    let channel = &source.source.channel;
     match why {
         RecordFault::Config(why) => {
             let words = config_words(why).as_bytes();
@@ -221,17 +286,23 @@ pub fn record_halt(
         }
         RecordFault::NoChannel => channel_halt(
             alloc,
+            asked,
+            path.as_slice(),
             own.config.name,
-            b"there is no digital channel ",
+            b" has no",
             channel,
+            b"; write the id of one that it has, or # and its number",
         ),
         RecordFault::ManyChannels => channel_halt(
             alloc,
+            asked,
+            path.as_slice(),
             own.config.name,
-            b"there is more than one digital channel ",
+            b" has more than one",
             channel,
+            b"; write # and the number of one",
         ),
         RecordFault::Data { form, why } => data_halt(alloc, &own.samples, form, why),
-        RecordFault::Ticks(why) => tick_halt(alloc, own.samples.name, why),
+        RecordFault::Ticks(why) => tick_halt(alloc, asked, own.samples.name, why),
     }
 }

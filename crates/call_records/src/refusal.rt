@@ -1,139 +1,130 @@
-//! Why a file is refused, as the line on standard error says it.
+//! Why the line file or the map is refused, or a file is too long.
 
-ghost use Rattle.std.specs.Prelude.{[], ◌∷◌, ◌≡◌, ◌++◌, IfOk, OnOk, codes, map};
-ghost use Rattle.call_records.specs.Halts.{Tells};
-ghost use Rattle.call_records.specs.Faults.{line_feed, refusal_line, refused_file, too_long_line, line_refusal};
-ghost use Rattle.call_records.specs.Faults.{map_refusal, untold_refusal};
-ghost use Rattle.call_records.specs.{Answers.refusal_of};
+ghost use Rattle.std.specs.Prelude.{◌≡◌, IfOk, map};
+ghost use Rattle.call_records.specs.Faults.{line_refusal, map_refusal, script_refusal, script_words};
+ghost use Rattle.call_records.specs.Faults.{too_long as too_long_of, untold_refusal, untold_words};
+ghost use Rattle.call_records.specs.{Halts.Refuses, Lines.IsWorded, Lines.worded};
 
+use crate::asked::Asked;
 use crate::halt::Halt;
-use base_text::pieces::push_pieces;
+use base_memory::Memory;
+use base_text::pieces::text_of;
+use call_refused::places::place_of_key;
+use call_refused::told::{push_place, push_within};
+use call_refused::{refused_line, refused_map};
 use file_document::DocumentFault;
 use file_line::LineFault;
 use file_records::map::Signal;
 use file_records::recorded::NoScript;
-use itoa::Buffer;
-use model_line::{Line, Memory, name_of_terminal};
+use model_line::{Line, name_of_terminal};
 use std::alloc::Global;
 
-// The line that refuses a file, in these words.
-fn line_with(alloc: Global, file: &[u8], words: &[&[u8]]) -> Result<Vec<u8>, Memory>
-    ensures { IfOk result (λ v. v.items
-        ≡ refusal_line file.now (map (λ piece. piece.now) words.now)) }
+/// A file of that name has more bytes than the limit.
+pub fn too_long(alloc: Global, name: &str, limit: u32) -> Halt
+    ensures { Refuses (too_long_of name.now) result }
 {
-    let mut text = Vec::new(alloc);
-    push_file(&mut text, file)?;
-    push_pieces(&mut text, words)?;
-    push_end(&mut text)?;
-    Ok(text)
-}
-
-#[tactic(auto, unfolding(crate::specs::Faults::refused_file))]
-fn push_file(text: &mut Vec<u8>, file: &[u8]) -> Result<(), Memory>
-    ensures { OnOk result (text.new.items ≡ text.old.items ++ refused_file file.now) }
-{
-    push_pieces(text, &[b"refused record: ", file, b": "])
-}
-
-#[tactic(auto, unfolding(crate::specs::Faults::line_feed))]
-fn push_end(text: &mut Vec<u8>) -> Result<(), Memory>
-    ensures { OnOk result (text.new.items ≡ text.old.items ++ line_feed) }
-{
-    push_pieces(text, &[b"\n"])
-}
-
-/// A file is refused in these words.
-fn refused(alloc: Global, file: &[u8], words: &[&[u8]]) -> Halt
-    ensures { Tells (refusal_line file.now (map (λ piece. piece.now) words.now)) result }
-{
-    match line_with(alloc, file, words) {
+    match call_refused::too_long(alloc, name, &[], &(limit as usize)) {
         Ok(line) => Halt::Refused(line),
         Err(_) => Halt::Memory,
     }
 }
 
-/// A file of that name has more bytes than the limit.
-pub fn too_long(alloc: Global, file: &[u8], limit: u32) -> Halt
-    ensures { Tells (too_long_line file.now limit) result }
-{
-    let mut digits = Buffer::new();
-    let limit = digits.format(limit).as_bytes();
-    refused(alloc, file, &[b"more than ", limit, b" bytes"])
-}
-
-// A fault's name and a place.
-fn refused_at(alloc: Global, file: &[u8], name: &[u8], path: &[u8]) -> Halt
-    ensures { Tells (refusal_line file.now (name.now ∷ codes " " ∷ path.now ∷ [])) result }
-{
-    refused(alloc, file, &[name, b" ", path])
-}
-
 /// The line file is refused.
-pub fn line_halt(alloc: Global, fault: &LineFault) -> Halt
-    ensures { Tells (line_refusal fault.now) result }
+pub fn line_halt(alloc: Global, name: &str, bytes: &[u8], fault: &LineFault) -> Halt
+    ensures { Refuses (line_refusal name.now bytes.now fault.now) result }
 {
-    match fault {
-        LineFault::NotToml => refused(alloc, b"line", &[b"NotToml"]),
-        LineFault::Unknown(path) => refused_at(alloc, b"line", b"Unknown", path.bytes()),
-        LineFault::Missing(path) => refused_at(alloc, b"line", b"Missing", path.bytes()),
-        LineFault::WrongKind(path) => refused_at(alloc, b"line", b"Kind", path.bytes()),
-        LineFault::Range(path) => refused_at(alloc, b"line", b"Range", path.bytes()),
-        LineFault::BadName(path) => refused_at(alloc, b"line", b"BadName", path.bytes()),
-        LineFault::Twice(path) => refused_at(alloc, b"line", b"Twice", path.bytes()),
-        LineFault::Channels(from, to) => refused(
-            alloc,
-            b"line",
-            &[b"Channels", b" ", from.bytes(), b">", to.bytes()],
-        ),
+    match refused_line(alloc, name, bytes, fault) {
+        Ok(line) => Halt::Refused(line),
+        Err(_) => Halt::Memory,
     }
 }
 
-// What is wrong at a place of the map.
-fn map_refused(alloc: Global, path: &[u8], words: &[u8]) -> Halt
-    ensures { Tells (refusal_line (codes "map") (path.now ∷ words.now ∷ [])) result }
+/// The map is refused.
+pub fn map_halt(alloc: Global, asked: Asked<'_>, fault: &DocumentFault) -> Halt
+    ensures { Refuses (map_refusal asked.entry.name.now asked.entry.bytes.now fault.now) result }
 {
-    refused(alloc, b"map", &[path, words])
+    match refused_map(alloc, asked.name, asked.bytes, fault) {
+        Ok(line) => Halt::Refused(line),
+        Err(_) => Halt::Memory,
+    }
 }
 
-/// The map is refused.
-pub fn map_halt(alloc: Global, fault: &DocumentFault) -> Halt
-    ensures { Tells (map_refusal fault.now) result }
+// The line of these words, at the key of this path of the map.
+fn worded_line(
+    alloc: Global,
+    asked: Asked<'_>,
+    path: &[u8],
+    words: &[&[u8]],
+) -> Result<Vec<u8>, Memory>
+    ensures { IfOk result (λ line. IsWorded asked.entry.name.now asked.entry.bytes.now
+        (map (λ piece. piece.now) words.now) line.items) }
 {
-    let words = fault.words().as_bytes();
-    match fault.place() {
-        Some(place) => refused(alloc, b"map", &[place.bytes(), b": ", words]),
-        None => refused(alloc, b"map", &[words]),
+    let at = place_of_key(alloc, asked.bytes, path)?;
+    let mut line = Vec::new(alloc);
+    push_place(&mut line, asked.name, asked.bytes, at)?;
+    push_within(&mut line, text_of(alloc, words)?.as_slice())?;
+    line.push(b'\n')?;
+    Ok(line)
+}
+
+/// The map is refused in these words, at the key of this path.
+pub fn worded_halt(alloc: Global, asked: Asked<'_>, path: &[u8], words: &[&[u8]]) -> Halt
+    ensures { Refuses (worded asked.entry.name.now asked.entry.bytes.now (map (λ piece. piece.now) words.now))
+        result }
+{
+    match worded_line(alloc, asked, path, words) {
+        Ok(line) => Halt::Refused(line),
+        Err(_) => Halt::Memory,
     }
 }
 
 /// No recorder tells a key or a trip.
-pub fn untold_halt(alloc: Global, line: &Line, signal: Signal) -> Halt
-    ensures { Tells (untold_refusal line.now signal) result }
+pub fn untold_halt(alloc: Global, asked: Asked<'_>, line: &Line, signal: Signal) -> Halt
+    ensures { Refuses (untold_refusal asked.entry.name.now asked.entry.bytes.now line.now signal) result }
 {
     match signal {
-        Signal::Key(k) => map_refused(
+        Signal::Key(k) => worded_halt(
             alloc,
-            b"no recorder tells the key of ",
-            name_of_terminal(line, k),
+            asked,
+            b"recorder[0]",
+            &[
+                b"no recorder tells the key of ",
+                name_of_terminal(line, k),
+                b"; write key = \"ID\" in a [[recorder]] of it",
+            ],
         ),
-        Signal::Trip(k) => map_refused(
+        Signal::Trip(k) => worded_halt(
             alloc,
-            b"no recorder tells the trip of ",
-            name_of_terminal(line, k),
+            asked,
+            b"recorder[0]",
+            &[
+                b"no recorder tells the trip of ",
+                name_of_terminal(line, k),
+                b"; write trip = \"ID\" in a [[recorder]] of it",
+            ],
         ),
-        Signal::Shown(_) => refused(alloc, b"map", &[]),
+        Signal::Shown(_) => worded_halt(alloc, asked, b"recorder[0]", &[]),
     }
 }
 
 /// There is no script.
-pub fn no_script_halt(alloc: Global, why: NoScript) -> Halt
-    ensures { Tells (refusal_of why) result }
+pub fn no_script_halt(alloc: Global, asked: Asked<'_>, why: NoScript) -> Halt
+    ensures { Refuses (script_refusal asked.entry.name.now asked.entry.bytes.now why) result }
 {
     match why {
-        NoScript::TooMany => refused(alloc, b"map", &[b"the script has more than 200 rows"]),
-        NoScript::Nothing => refused(
+        NoScript::TooMany => worded_halt(
             alloc,
-            b"map",
+            asked,
+            b"recorder[0]",
+            &[
+                b"the script has more than 200 rows; ",
+                b"write fewer sources, or the line with longer ticks",
+            ],
+        ),
+        NoScript::Nothing => worded_halt(
+            alloc,
+            asked,
+            b"start",
             &[
                 b"nothing is seen at any tick, and no channel is lost; ",
                 b"write another start or shift_us, or mend the rates or the factor of the stamps: ",

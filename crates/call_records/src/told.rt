@@ -1,14 +1,14 @@
 //! Lines that tell where in a record something is wrong.
 
 ghost use Rattle.std.specs.Prelude.{◌≡◌, ◌++◌, ◌-◌, IfOk, OnOk, map};
-ghost use Rattle.std.specs.List.{concat};
-ghost use Rattle.call_records.specs.{Faults.line_feed, Halts.Tells, Read.part_values};
-ghost use Rattle.call_records.specs.RecordFaults.{file_line, file_said, place_line, place_said};
+ghost use Rattle.call_records.specs.{Halts.Tells, Read.part_values};
+ghost use Rattle.call_records.specs.RecordFaults.{line_feed, place_line, place_said, said_words};
 ghost use Rattle.call_records.specs.RecordFaults.{sample_said, sample_words, spot_line};
 
 use crate::halt::Halt;
 use crate::parts::Part;
-use base_text::pieces::push_pieces;
+use base_text::pieces::{push_pieces, text_of};
+use call_refused::told::push_within;
 use file_comtrade::column_in;
 use itoa::Buffer;
 use model_line::Memory;
@@ -29,17 +29,11 @@ fn push_place(text: &mut Vec<u8>, file: &[u8], line: u128, column: usize) -> Res
     let line = digits.format(line).as_bytes();
     let mut more = Buffer::new();
     let column = more.format(column).as_bytes();
-    push_pieces(text, &[file, b":", line, b":", column, b": "])
+    push_within(text, file)?;
+    push_pieces(text, &[b":", line, b":", column, b": "])
 }
 
-#[tactic(auto, unfolding(crate::specs::RecordFaults::file_said))]
-fn push_file(text: &mut Vec<u8>, file: &[u8]) -> Result<(), Memory>
-    ensures { OnOk result (text.new.items ≡ text.old.items ++ file_said file.now) }
-{
-    push_pieces(text, &[file, b": "])
-}
-
-#[tactic(auto, unfolding(crate::specs::Faults::line_feed))]
+#[tactic(auto, unfolding(crate::specs::RecordFaults::line_feed))]
 fn push_end(text: &mut Vec<u8>) -> Result<(), Memory>
     ensures { OnOk result (text.new.items ≡ text.old.items ++ line_feed) }
 {
@@ -52,15 +46,16 @@ fn push_sample(text: &mut Vec<u8>, file: &[u8], n: usize) -> Result<(), Memory>
 {
     let mut digits = Buffer::new();
     let n = digits.format(n).as_bytes();
-    push_pieces(text, &[file, b": sample ", n, b": "])
+    push_within(text, file)?;
+    push_pieces(text, &[b": sample ", n, b": "])
 }
 
 // Words, and the end of the line.
-fn push_words(text: &mut Vec<u8>, words: &[&[u8]]) -> Result<(), Memory>
+fn push_words(alloc: Global, text: &mut Vec<u8>, words: &[&[u8]]) -> Result<(), Memory>
     ensures { OnOk result (text.new.items ≡ text.old.items
-        ++ (concat (map (λ piece. piece.now) words.now) ++ line_feed)) }
+        ++ said_words (map (λ piece. piece.now) words.now)) }
 {
-    push_pieces(text, words)?;
+    push_within(text, text_of(alloc, words)?.as_slice())?;
     push_end(text)
 }
 
@@ -76,16 +71,7 @@ fn place_text(
 {
     let mut text = Vec::new(alloc);
     push_place(&mut text, file, line, column)?;
-    push_words(&mut text, words)?;
-    Ok(text)
-}
-
-fn file_text(alloc: Global, file: &[u8], words: &[&[u8]]) -> Result<Vec<u8>, Memory>
-    ensures { IfOk result (λ v. v.items ≡ file_line file.now (map (λ piece. piece.now) words.now)) }
-{
-    let mut text = Vec::new(alloc);
-    push_file(&mut text, file)?;
-    push_words(&mut text, words)?;
+    push_words(alloc, &mut text, words)?;
     Ok(text)
 }
 
@@ -95,7 +81,7 @@ fn sample_text(alloc: Global, file: &[u8], n: usize, words: &[&[u8]]) -> Result<
 {
     let mut text = Vec::new(alloc);
     push_sample(&mut text, file, n)?;
-    push_words(&mut text, words)?;
+    push_words(alloc, &mut text, words)?;
     Ok(text)
 }
 
@@ -104,16 +90,6 @@ pub fn at_place(alloc: Global, file: &[u8], line: u128, column: usize, words: &[
     ensures { Tells (place_line file.now line column (map (λ piece. piece.now) words.now)) result }
 {
     match place_text(alloc, file, line, column, words) {
-        Ok(line) => Halt::Refused(line),
-        Err(_) => Halt::Memory,
-    }
-}
-
-/// These words of a file.
-pub fn of_file(alloc: Global, file: &[u8], words: &[&[u8]]) -> Halt
-    ensures { Tells (file_line file.now (map (λ piece. piece.now) words.now)) result }
-{
-    match file_text(alloc, file, words) {
         Ok(line) => Halt::Refused(line),
         Err(_) => Halt::Memory,
     }

@@ -2,18 +2,20 @@
 
 ghost use Rattle.std.specs.Prelude.{[], ◌≡◌, ◌≤◌, IsTrue, length};
 ghost use Rattle.model_line.specs.{Fits.deadline_fits, PlainNames.is_plain_name};
-ghost use Rattle.file_records.specs.map.Maps.{map_values};
+ghost use Rattle.file_records.specs.map.Maps.{map_of, map_values};
 ghost use Rattle.call_answer.specs.Sinks.{sink_view};
-ghost use Rattle.call_records.specs.{Clauses.Clauses, Ends.EndsOf, Request.request_of};
-ghost use Rattle.call_records.specs.Course.{course_of, over, recorders_course, untold_by, with_line};
+ghost use Rattle.call_records.specs.{Clauses.Clauses, Ends.EndsOf, Request.asked_values, Request.request_of};
+ghost use Rattle.call_records.specs.Course.{after_map, course_of, over, recorders_course, untold_by, with_line};
 ghost use Rattle.call_records.specs.{Files.Runs, Read.text_seen};
 ghost use Rattle.call_records.specs.Halts.{IsDone, IsEarly};
 
 use crate::answer::answer;
+use crate::asked::Asked;
 use crate::fetch::{SMALL, fetch_file, fetch_recorders};
 use crate::halt::{File, Halt, put_halt};
 use crate::read::{read_line, read_map};
 use crate::refusal::untold_halt;
+use base_files::Reasoned;
 use base_text::store::{Sink, Store, put_all};
 use call_ask::{RecordsAsk, RecordsWork};
 use file_records::map::{Map, Signal};
@@ -22,11 +24,13 @@ use model_line::Line;
 use std::alloc::Global;
 
 /// Makes of records what is asked for, over the store, with its text on `out` and, where there is
-/// none, one line on `err`.
+/// none, one line on `err`: of a file that is refused its name, the line and the column; of one that
+/// is not read its name and the store's reason. Of `out`, which has no name here, nothing is said on
+/// `err`.
 ///
 /// The line file is read first, then the map, and then each recorder's configuration and data, in
 /// the order of the map; their names are taken from the folder of the map.
-pub fn records<S: Store, O: Sink, E: Sink>(
+pub fn records<S: Reasoned, O: Sink, E: Sink>(
     alloc: Global,
     ask: &RecordsAsk<'_>,
     store: &mut S,
@@ -38,6 +42,7 @@ pub fn records<S: Store, O: Sink, E: Sink>(
       files = S.held store.old;
       faults_old = S.faults store.old;
       faults_new = S.faults store.new;
+      reason = S.why store.new;
       out_old = sink_view O.written O.faults out.old;
       out_new = sink_view O.written O.faults out.new;
       err_old = sink_view E.written E.faults err.old;
@@ -52,7 +57,7 @@ pub fn records<S: Store, O: Sink, E: Sink>(
     match written(alloc, ask, store, out) {
         Ok(()) => Ok(()),
         Err(halt) => {
-            let _ = put_halt(err, &halt);
+            let _ = put_halt(err, ask, store.reason(), &halt);
             Err(halt)
         }
     }
@@ -79,7 +84,7 @@ fn text_of<S: Store>(alloc: Global, ask: &RecordsAsk<'_>, store: &mut S) -> Resu
         (course_of (request_of ask.now)) (text_seen result) }
 {
     let bytes = fetch_file(alloc, store, File::Line, ask.line, SMALL)?;
-    let line = read_line(alloc, bytes.as_slice())?;
+    let line = read_line(alloc, ask.line, bytes.as_slice())?;
     text_for_line(alloc, ask, &line, store)
 }
 
@@ -94,10 +99,29 @@ fn text_for_line<S: Store>(
         (with_line ask.now.work ask.now.map.now line.now) (text_seen result) }
 {
     let bytes = fetch_file(alloc, store, File::Map, ask.map, SMALL)?;
-    let map = read_map(alloc, line, bytes.as_slice())?;
-    match untold(ask.work, line, &map) {
-        Some(signal) => Err(untold_halt(alloc, line, signal)),
-        None => text_for_map(alloc, ask, line, &map, store),
+    let asked = Asked {
+        work: ask.work,
+        name: ask.map,
+        bytes: bytes.as_slice(),
+    };
+    text_by_map(alloc, asked, line, store)
+}
+
+// The text, once the map is fetched.
+fn text_by_map<S: Store>(
+    alloc: Global,
+    asked: Asked<'_>,
+    line: &Line,
+    store: &mut S,
+) -> Result<Vec<u8>, Halt>
+    ensures { Runs (S.held store.old) (S.faults store.old) (S.faults store.new)
+        (after_map (asked_values asked.entry) line.now (map_of line.now asked.entry.bytes.now))
+        (text_seen result) }
+{
+    let map = read_map(alloc, line, asked)?;
+    match untold(asked.work, line, &map) {
+        Some(signal) => Err(untold_halt(alloc, asked, line, signal)),
+        None => text_for_map(alloc, asked, line, &map, store),
     }
 }
 
@@ -114,7 +138,7 @@ fn untold(work: RecordsWork, line: &Line, map: &Map) -> Option<Signal>
 // The text, once the map is read.
 fn text_for_map<S: Store>(
     alloc: Global,
-    ask: &RecordsAsk<'_>,
+    asked: Asked<'_>,
     line: &Line,
     map: &Map,
     store: &mut S,
@@ -123,9 +147,9 @@ fn text_for_map<S: Store>(
     requires plain { IsTrue (is_plain_name map.now.script) }
     requires deadline { IsTrue (deadline_fits line.now.horizon map.now.kind map.now.deadline) }
     ensures { Runs (S.held store.old) (S.faults store.old) (S.faults store.new)
-        (recorders_course ask.now.map.now (map_values map.now).recorders []
-        (over ask.now.work line.now (map_values map.now))) (text_seen result) }
+        (recorders_course asked.entry.name.now (map_values map.now).recorders []
+        (over (asked_values asked.entry) line.now (map_values map.now))) (text_seen result) }
 {
-    let files = fetch_recorders(alloc, store, ask.map, map.recorders.as_slice())?;
-    answer(alloc, ask.work, line, map, files.as_slice())
+    let files = fetch_recorders(alloc, store, asked.name, map.recorders.as_slice())?;
+    answer(alloc, asked, line, map, files.as_slice())
 }

@@ -2,12 +2,13 @@
 //!
 //! - `rules`: what each key of a line file and of a study may be; `near`: the key that was meant;
 //!   `value`: what is written at a key, and what is often written for a time.
-//! - `lines`, `studies`, `sweeps`: what is said of a fault of either (`said`), and of its scripts; `records`, `record`:
-//!   of files of records.
+//! - `lines`, `studies`, `sweeps`: what is said of a fault of either (`said`), and of its scripts; `maps`: of a
+//!   map of records; `records`, `record`: of files of records.
 //! - `mistake`: what the bytes show of the whole file, as another encoding or another separator;
 //!   `slip`: what they show of one place; `wrong`: the words of these.
 
 pub mod lines;
+pub mod maps;
 pub mod mistake;
 pub mod near;
 pub mod record;

@@ -6,8 +6,8 @@ ghost use Rattle.call_refused.specs.told.Told.{IsToldAt};
 use crate::places::place_of_key;
 use crate::told::document::{at_key, refused_toml, unknown_key};
 use crate::told::line_path::study_path;
+use crate::words::maps::{map_keys, map_others, map_said};
 use crate::words::near::study_keys;
-use crate::words::said::words;
 use crate::words::studies::study_said;
 use crate::words::value::value_at;
 use base_memory::Memory;
@@ -77,7 +77,20 @@ pub fn refused_map(
         Some(path) => {
             let path = path.bytes();
             let at = place_of_key(alloc, bytes, path)?;
-            at_key(alloc, name, bytes, at, path, words(fault.words(), ""))
+            match fault {
+                DocumentFault::Unknown(_) => {
+                    unknown_key(
+                        alloc,
+                        name,
+                        bytes,
+                        at,
+                        path,
+                        map_keys(path),
+                        map_others(path),
+                    )
+                }
+                _ => at_key(alloc, name, bytes, at, path, map_said(fault, path)),
+            }
         }
         None => refused_toml(alloc, name, bytes),
     }

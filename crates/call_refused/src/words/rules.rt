@@ -227,7 +227,8 @@ fn common_rule(path: &[u8], group: Rule, time: Rule) -> Rule {
     }
 }
 
-fn rule_in(rules: &[Rule], key: &[u8]) -> Option<Rule> {
+/// The rule of this key, if it is among them.
+pub fn rule_in(rules: &[Rule], key: &[u8]) -> Option<Rule> {
     for rule in rules {
         if rule.key.as_bytes() == key {
             return Some(*rule);

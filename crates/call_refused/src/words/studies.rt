@@ -4,6 +4,7 @@ use crate::words::near::{ELEMENTS, nearest};
 use crate::words::rules::{Rule, study_rule};
 use crate::words::said::{Said, missing, quoted, words};
 use crate::words::value::{Habit, habit_of, is_digit};
+use base_text::lines::find_byte;
 use file_document::{DocumentFault, TimeFault};
 
 /// What is wrong at this path, where this value stands, and what to write.
@@ -58,7 +59,7 @@ fn range_said<'a>(path: &[u8], value: &'a [u8]) -> Said<'a> {
     if !is_of_elements(path, rule) {
         return words(rule.what, rule.write);
     }
-    let shift = from_plus(value);
+    let shift = &value[find_byte(value, b'+')..];
     if shift.is_empty() {
         return words(NEVER_SEEN, "a longer stage");
     }
@@ -67,16 +68,6 @@ fn range_said<'a>(path: &[u8], value: &'a [u8]) -> Said<'a> {
         what: NEVER_SEEN,
         write: [b"less than ", shift, b", or a longer stage"],
     }
-}
-
-// What stands from the plus on.
-fn from_plus(text: &[u8]) -> &[u8] {
-    for i in 0..text.len() {
-        if text[i] == b'+' {
-            return &text[i..];
-        }
-    }
-    b""
 }
 
 fn name_said(path: &[u8], rule: Rule, value: &[u8]) -> Said<'static> {

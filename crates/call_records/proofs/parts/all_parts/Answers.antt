@@ -3,7 +3,7 @@ use Rattle.std.proofs.lemmas.List.{map-append}
 use Rattle.std.proofs.lemmas.Result.{err_from_is_err_and}
 use Rattle.call_records.specs.Parts.{RecordParts, parts_from, parts_in}
 use Rattle.call_records.specs.Read.{IsMemory, Stops, files_values, record_values}
-use Rattle.call_records.specs.SectionFaults.{section_refusal}
+use Rattle.call_records.specs.SectionFaults.{refused_section}
 use Rattle.call_records.specs.declared.fetch.RecorderFiles as code
 use Rattle.call_records.proofs.AllParts.{parts_end, parts_next, parts_stop}
 use Rattle.call_records.proofs.parts.all_parts.Goals as goal
@@ -18,7 +18,7 @@ returns-in_err-parts-clause-reads c =
     rw (p.1, p.2) (parts_stop fs i d (map record_values c.loop-own.all.items) inside
     (parts_from (map files_values fs) []) c.in_err-parts.field-0.0 c.loop-own.invariant.so_far
     (subst (λ (x : code.RecorderFiles).
-    Stops section_refusal (parts_in (files_values x)) c.in_err-parts.field-0.0
+    Stops refused_section (parts_in (files_values x)) c.in_err-parts.field-0.0
     ⊎ IsMemory c.in_err-parts.field-0.0) c.own-item.is c.in_err-parts.ensures))
 
 pub loop-own-preserved : goal.loop-own-preserved

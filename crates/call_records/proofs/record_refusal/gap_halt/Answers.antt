@@ -7,4 +7,4 @@ returns c =
       c.format.ensures.text,
       c.as_bytes-to.ensures.value,
       c.format-2.ensures.text,
-    ) at c.of_file.ensures
+    ) at c.worded_halt.ensures

@@ -9,18 +9,20 @@ returns-in-Ok-clause-clauses g c =
     let err = sink_view g.E.Sink.written g.E.Sink.faults c.args.err.now in
     closed (sink_view g.O.Sink.written g.O.Sink.faults) c.args.out.now c.written.new.out
     (g.S.Store.held c.args.store.now) (g.S.Store.faults c.args.store.now)
-    (g.S.Store.faults c.written.new.store) (request_of c.args.ask.now) err err (Ok tt)
-    c.in-Ok.ensures (inl (grew_none err))
+    (g.S.Store.faults c.written.new.store) (request_of c.args.ask.now)
+    (g.S.Reasoned.why c.written.new.store) err err (Ok tt) c.in-Ok.ensures (inl (grew_none err))
 
 pub returns-in-Err-clause-clauses : goal.returns-in-Err-clause-clauses
 returns-in-Err-clause-clauses g c =
     let old = sink_view g.E.Sink.written g.E.Sink.faults c.args.err.now in
     let new = sink_view g.E.Sink.written g.E.Sink.faults c.put_halt.new.sink in
+    let request = request_of c.args.ask.now in
+    let why = g.S.Reasoned.why c.written.new.store in
     closed (sink_view g.O.Sink.written g.O.Sink.faults) c.args.out.now c.written.new.out
     (g.S.Store.held c.args.store.now) (g.S.Store.faults c.args.store.now)
-    (g.S.Store.faults c.written.new.store) (request_of c.args.ask.now) old new
-    (Err c.in-Err.halt) c.in-Err.ensures
-    (put_or_part old new (halt_line c.in-Err.halt) c.put_halt.result c.put_halt.ensures)
+    (g.S.Store.faults c.written.new.store) request why old new (Err c.in-Err.halt) c.in-Err.ensures
+    (put_or_part old new (halt_line request why c.in-Err.halt) c.put_halt.result
+    (rw c.reason.ensures at c.put_halt.ensures))
 
 pub returns-in-Err-clause-unwritten : goal.returns-in-Err-clause-unwritten
 returns-in-Err-clause-unwritten g c =

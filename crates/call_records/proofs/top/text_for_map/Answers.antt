@@ -3,7 +3,7 @@ use Rattle.std.proofs.lemmas.Result.{err_from_is_err_and}
 use Rattle.file_records.specs.{map.Maps.map_values, map.Recorders.recorder_values}
 use Rattle.file_records.specs.declared.map.recorder.Recorder.{Recorder}
 use Rattle.call_records.specs.Course.{over, recorders_course}
-use Rattle.call_records.specs.Files.{Runs}
+use Rattle.call_records.specs.{Files.Runs, Request.asked_values}
 use Rattle.call_records.specs.Read.{files_values, text_seen}
 use Rattle.call_records.proofs.Running.{runs_over}
 use Rattle.call_records.proofs.top.text_for_map.Goals as goal
@@ -12,7 +12,7 @@ pub returns : goal.returns
 returns g c =
     let held = g.S.Store.held c.args.store.now in
     let counts = g.S.Store.faults c.fetch_recorders.new.store in
-    let asked = c.args.ask.now.work in
+    let asked = asked_values c.args.asked in
     let line = c.args.line.now in
     let m = map_values c.args.map.now in
     (rw c.as_slice.ensures.value at (c.in_ok-files.ensures.course (over asked line m))) counts
@@ -26,7 +26,7 @@ returns-in_err-files g c =
     let held = g.S.Store.held c.args.store.now in
     let c1 = g.S.Store.faults c.args.store.now in
     let c2 = g.S.Store.faults c.fetch_recorders.new.store in
-    let next = over c.args.ask.now.work c.args.line.now (map_values c.args.map.now) in
+    let next = over (asked_values c.args.asked) c.args.line.now (map_values c.args.map.now) in
     rw (p.1, p.2) (subst (λ (rs : List Recorder).
-    Runs held c1 c2 (recorders_course c.args.ask.now.map.now (map recorder_values rs) [] next)
+    Runs held c1 c2 (recorders_course c.args.asked.name.now (map recorder_values rs) [] next)
     (Err c.in_err-files.field-0.0)) c.as_slice.ensures.value (c.in_err-files.ensures.course next))

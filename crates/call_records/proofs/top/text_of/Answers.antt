@@ -4,7 +4,7 @@ use Rattle.file_line.specs.{LineFiles.line_of, Lines.LineValues, Lines.line_valu
 use Rattle.file_line.specs.declared.fault.LineFault.{LineFault}
 use Rattle.call_records.specs.Course.{after_line, line_file, with_line}
 use Rattle.call_records.specs.Faults.{line_refusal}
-use Rattle.call_records.specs.{Files.Runs, Read.text_seen}
+use Rattle.call_records.specs.{Files.Runs, Read.text_seen, Request.request_of}
 use Rattle.call_records.proofs.Running.{reader_stops, runs_made, runs_next, runs_stops}
 use Rattle.call_records.proofs.top.text_of.Goals as goal
 
@@ -15,7 +15,7 @@ returns-in_err-bytes g c =
     let faults = g.S.Store.faults in
     let ask = c.args.ask.now in
     rw (p.1, p.2) (runs_stops held (line_file ask.line.now)
-    (λ b. after_line ask.work ask.map.now (line_of b)) c.in_err-bytes.field-0.0
+    (λ b. after_line (request_of ask) b (line_of b)) c.in_err-bytes.field-0.0
     (faults c.args.store.now) (faults c.fetch_file.new.store) c.in_err-bytes.ensures.file)
 
 pub returns-in_err-line : goal.returns-in_err-line
@@ -32,9 +32,9 @@ returns-in_err-line g c =
     let why = c.in_err-line.field-0.0 in
     let stops = rw c.as_slice.ensures.value at c.in_err-line.ensures in
     rw (p.1, p.2) (runs_next held (line_file ask.line.now)
-    (λ b. after_line ask.work ask.map.now (line_of b)) bytes f.1 f.2 (Err why) c1 c2 c2 f.0
-    (reader_stops held line_refusal (line_of bytes) (after_line ask.work ask.map.now)
-    (λ e. refl) why c2 stops))
+    (λ b. after_line (request_of ask) b (line_of b)) bytes f.1 f.2 (Err why) c1 c2 c2 f.0
+    (reader_stops held (line_refusal ask.line.now bytes) (line_of bytes)
+    (after_line (request_of ask) bytes) (λ e. refl) why c2 stops))
 
 pub returns : goal.returns
 returns g c =
@@ -50,8 +50,8 @@ returns g c =
     let r = text_seen c.text_for_line.result in
     let said = rw c.as_slice.ensures.value at c.in_ok-line.ensures in
     let run = rw c.in_ok-bytes.ensures.held at c.text_for_line.ensures in
-    runs_next held (line_file ask.line.now) (λ b. after_line ask.work ask.map.now (line_of b)) bytes
+    runs_next held (line_file ask.line.now) (λ b. after_line (request_of ask) b (line_of b)) bytes
     f.1 f.2 r c1 c2 c3 f.0
     (subst (λ (s : Result LineValues LineFault).
-    Runs held c2 c3 (after_line ask.work ask.map.now s) r) (sym said)
+    Runs held c2 c3 (after_line (request_of ask) bytes s) r) (sym said)
     (runs_made held (line_values line) (with_line ask.work ask.map.now) line refl r c2 c3 run))
