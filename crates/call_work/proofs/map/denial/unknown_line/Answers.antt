@@ -7,9 +7,9 @@ returns c =
     let words = c.args.words.now in
     let number = c.args.number in
     let name : c.name_in_list-name.result.now ≡ name_of (names_of words) (number - 1) =
-        c.name_in_list-name.ensures
-        ∙ ap (λ (k : ℕ). name_of c.names_of.result.now k) c.saturating_sub.ensures
-        ∙ ap (λ (names : List ℕ). name_of names (number - 1)) c.names_of.ensures in
+    c.name_in_list-name.ensures
+    ∙ ap (λ (k : ℕ). name_of c.names_of.result.now k) c.saturating_sub.ensures
+    ∙ ap (λ (names : List ℕ). name_of names (number - 1)) c.names_of.ensures in
     rw (
       c.as_slice.ensures.value,
       c.in_ok-asked.ensures,
