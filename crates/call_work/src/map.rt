@@ -3,6 +3,7 @@
 
 mod axes;
 mod denial;
+mod list;
 mod said;
 
 pub use denial::{MapDenial, Side, map_denial_line};

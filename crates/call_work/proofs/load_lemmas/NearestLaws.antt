@@ -1,6 +1,6 @@
 -- The nearest of the names so far.
 use Rattle.std.proofs.Common.{◌≡◌, ◌+◌, ◌≤◌, ◌<◌, ℕ, Bool, true, false, List, [], ◌∷◌, ◌++◌}
-use Rattle.std.proofs.Common.{Option, None, Some, refl, map, take, length, get_or, nat_le, arith}
+use Rattle.std.proofs.Common.{Option, None, Some, refl, sym, ap, ◌∙◌, fold, map, take, length, get_or, nat_le, arith}
 use Rattle.std.proofs.lemmas.Bool.{leb-false}
 use Rattle.std.proofs.lemmas.List.{map_more}
 use Rattle.std.proofs.lemmas.List.Elements.{All-nil, All-push, All-weaker, Contains-append_left}
@@ -80,3 +80,20 @@ pub near_on : {A : Type 0} (name_of : A → List ℕ) (asked : List ℕ) (xs : L
 near_on name_of asked xs i d near inside so_far =
     rw (map_more name_of xs i d inside)
     (near_more asked (map name_of (take i xs)) (name_of (get_or xs i d)) near so_far)
+
+fold_more : {A B : Type 0} (f : B → A → B) (b : B) (xs : List A) (x : A)
+    → fold f b (xs ++ x ∷ []) ≡ f (fold f b xs) x
+fold_more f b [] x = refl
+fold_more f b (y ∷ ys) x = fold_more f (f b y) ys x
+
+-- the nearest so far, with one element of a list more
+pub fold_on : {A : Type 0} (name_of : A → List ℕ) (asked : List ℕ) (xs : List A) (i : ℕ) (d : A)
+    (near : Option Near) → i < length xs
+    → near ≡ fold (λ near name. Some (nearer asked near name)) None (map name_of (take i xs))
+    → Some (nearer asked near (name_of (get_or xs i d)))
+    ≡ fold (λ near name. Some (nearer asked near name)) None (map name_of (take (i + 1) xs))
+fold_on name_of asked xs i d near inside so_far =
+    let step : Option Near → List ℕ → Option Near = λ near name. Some (nearer asked near name) in
+    let x = name_of (get_or xs i d) in
+    ap (λ so. step so x) so_far ∙ sym (fold_more step None (map name_of (take i xs)) x)
+    ∙ ap (fold step None) (sym (map_more name_of xs i d inside))

@@ -2,7 +2,7 @@
 use Rattle.std.specs.Prelude.{ℕ, List, [], ◌∷◌, Option, Some, None}
 use Rattle.std.specs.List.{position_from}
 use Rattle.std.specs.Str.{bytes_eq}
-use Rattle.model_line.specs.declared.script.Script.{Script}
+use Rattle.model_line.specs.{declared.line.Param.Param, declared.script.Script.Script}
 use Rattle.model_timing.specs.declared.named_timing.NamedTiming.{NamedTiming}
 use Rattle.model_timing.specs.NamedValues.{NamedValues}
 
@@ -24,6 +24,9 @@ chosen_script scripts name = place_chosen (λ script. script.name) scripts name
 
 abbrev pub chosen_timing : List NamedValues → Option (List ℕ) → Option ℕ
 chosen_timing timings name = place_chosen (λ timing. timing.name) timings name
+
+abbrev pub name_of_param : Param → List ℕ
+name_of_param param = param.name
 
 -- the name of a timing in memory
 abbrev pub name_of_timing : NamedTiming → List ℕ

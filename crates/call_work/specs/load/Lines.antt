@@ -4,11 +4,11 @@
 use Rattle.std.specs.Prelude.{◌≡◌, ◌⊎◌, ◌∷◌, ◌++◌, ℕ, List, [], Option, None, Some, IfSome, codes}
 use Rattle.std.specs.Prelude.{decimal, map, unwrap_or}
 use Rattle.std.specs.List.{concat}
-use Rattle.base_files.specs.Reasons.{words_of}
 use Rattle.base_files.specs.declared.reason.Reason.{Reason}
 use Rattle.base_text.specs.{store.Counts.Rose, store.Sink.GrewByPart}
 use Rattle.call_answer.specs.Sinks.{GrewByAll, SinkView}
 use Rattle.call_refused.specs.told.Told.{IsToldAt, within_line}
+use Rattle.call_refused.specs.told.Unread.{out_of_memory, unread_line}
 use Rattle.call_files.specs.declared.refusal.Refusal.{Refusal}
 use Rattle.call_files.specs.declared.refusal.Refusal.TheVariants as refusal
 use Rattle.call_files.specs.declared.stop.File.{File}
@@ -18,6 +18,7 @@ use Rattle.call_work.specs.map.Denials.{map_denial_pieces}
 use Rattle.call_work.specs.declared.explain.unpicked.Unpicked.{Unpicked}
 use Rattle.call_work.specs.declared.explain.unpicked.Unpicked.TheVariants as unpicked
 use Rattle.call_work.specs.load.Fetched.{name_at}
+use Rattle.call_work.specs.load.Nearest.{near_words, quoted}
 use Rattle.call_work.specs.load.Request as request
 use Rattle.call_work.specs.load.Request.{Asked, Request, Source}
 use Rattle.call_ask.specs.declared.ask.Table.{Table}
@@ -67,16 +68,6 @@ part_asked (request.table which) = part_in which
 part_asked asked = 0
 
 -- ---- names that are not there
-
--- the name that is asked for, in quotes
-abbrev pub quoted : Option (List ℕ) → List ℕ
-quoted None = []
-quoted (Some name) = concat (codes " \"" ∷ name ∷ codes "\"" ∷ [])
-
--- the nearest that is there
-abbrev pub near_words : Option (List ℕ) → List ℕ
-near_words None = codes ": there is none at all"
-near_words (Some near) = concat (codes ": did you mean \"" ∷ near ∷ codes "\"?" ∷ [])
 
 -- `FILE: there is no script "reversl-3": did you mean "reversal-3"?`
 abbrev pub unknown_line : List ℕ → List ℕ → Option (List ℕ) → Option (List ℕ) → List ℕ
@@ -147,14 +138,6 @@ IsDenialLine r Has (denial.Record why) line =
     line ≡ unpicked_line (further_name r.asked) r.script why
 IsDenialLine r Has (denial.Map why) line =
     line ≡ one_line (map_denial_pieces (x_asked r.asked) (y_asked r.asked) why)
-
-abbrev pub out_of_memory : List ℕ
-out_of_memory = codes "out of memory\n"
-
--- a file that is not read, for this reason
-abbrev pub unread_line : List ℕ → Reason → List ℕ
-unread_line name reason =
-    concat (name ∷ codes ": cannot be read: " ∷ words_of reason ∷ codes "\n" ∷ [])
 
 -- the line of a halt; of out, which has no name here, who owns it tells why it takes no more
 abbrev pub IsHaltLine : Request → HasBytes → Reason → Halt → List ℕ → Type 0

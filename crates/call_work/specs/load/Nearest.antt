@@ -1,7 +1,7 @@
 -- Which of the names that there are is nearest to one that there is not.
-use Rattle.std.specs.Prelude.{◌≡◌, ◌≤◌, ℕ, List, [], Option, None, Some, length, map, nat_eq, nat_le}
+use Rattle.std.specs.Prelude.{◌≡◌, ◌≤◌, ◌∷◌, ℕ, List, [], Option, None, Some, codes, fold, length, map, nat_eq, nat_le}
 use Rattle.std.specs.Prelude.{if◌then◌else◌}
-use Rattle.std.specs.List.{All, Contains}
+use Rattle.std.specs.List.{All, Contains, concat}
 use Rattle.model_line.specs.declared.script.Script.{Script}
 use Rattle.model_timing.specs.NamedValues.{NamedValues}
 use Rattle.strsim.specs.Edits.{levenshtein_row}
@@ -25,11 +25,29 @@ abbrev pub near_name : Option Near → Option (List ℕ)
 near_name None = None
 near_name (Some near) = Some near.name
 
+-- the nearest of all; of several as near the first
+abbrev pub nearest : List (List ℕ) → List ℕ → Option (List ℕ)
+nearest names asked = near_name (fold (λ near name. Some (nearer asked near name)) None names)
+
 -- it is one of the names, and none is in fewer edits the one that is asked for; or there are none
 abbrev pub IsNearest : List (List ℕ) → List ℕ → Option (List ℕ) → Type 0
 IsNearest names asked None = names ≡ []
 IsNearest names asked (Some near) =
     Contains names near × All (λ name. edits near asked ≤ edits name asked) names
+
+-- ---- what is said
+
+-- the name that is asked for, in quotes
+abbrev pub quoted : Option (List ℕ) → List ℕ
+quoted None = []
+quoted (Some name) = concat (codes " \"" ∷ name ∷ codes "\"" ∷ [])
+
+-- the nearest that is there
+abbrev pub near_words : Option (List ℕ) → List ℕ
+near_words None = codes ": there is none at all"
+near_words (Some near) = concat (codes ": did you mean \"" ∷ near ∷ codes "\"?" ∷ [])
+
+-- ---- scripts and timings
 
 -- the nearest to a name; none where no name is asked for
 abbrev pub IsNearestTo : List (List ℕ) → Option (List ℕ) → Option (List ℕ) → Type 0

@@ -1,6 +1,6 @@
 -- The axes that the words of a map ask for, or why there is no such map.
 use Rattle.std.specs.Prelude.{◌≡◌, ◌+◌, ◌-◌, ◌*◌, ◌/◌, ◌==◌, ℕ, List, [], ◌∷◌, Option, None, Some}
-use Rattle.std.specs.Prelude.{Result, Ok, Err, nat_lt, if◌then◌else◌}
+use Rattle.std.specs.Prelude.{Result, Ok, Err, map, nat_lt, if◌then◌else◌}
 use Rattle.std.specs.{List.list_any, Option.option_or}
 use Rattle.base_memory.specs.Gives.{◌>>=◌}
 use Rattle.model_line.specs.declared.line.Line.{Line}
@@ -10,7 +10,9 @@ use Rattle.judge_margins.specs.declared.map.fault.MapFault.{MapFault}
 use Rattle.judge_margins.specs.declared.map.fault.MapFault.TheVariants.{TooMany}
 use Rattle.judge_margins.specs.map.Faults.{first_fault}
 use Rattle.file_study.specs.declared.times.{axis_fault.AxisFault.AxisFault, steps.Steps.Steps}
-use Rattle.file_study.specs.{times.Names.params_of, times.Parts.names_of, times.Steps.steps_of}
+use Rattle.file_study.specs.declared.times.axis_fault.AxisFault.TheVariants as axis
+use Rattle.file_study.specs.{times.Names.name_of, times.Names.params_of, times.Parts.names_of, times.Steps.steps_of}
+use Rattle.call_work.specs.{load.Chosen.name_of_param, load.Nearest.nearest}
 use Rattle.call_work.specs.declared.map.{denial.MapDenial.MapDenial, denial.Side.Side}
 use Rattle.call_work.specs.declared.map.denial.MapDenial.TheVariants as denial
 use Rattle.call_work.specs.declared.map.denial.Side.TheVariants as side
@@ -22,13 +24,20 @@ pub record Moved : Type 0 where
   pub params : List ℕ
   pub steps : Steps
 
-abbrev pub moved_with : Side → List ℕ → Result Steps AxisFault → Result Moved MapDenial
-moved_with side params (Err why) = Err (denial.Words side why)
-moved_with side params (Ok steps) = Ok (record { params = params; steps = steps })
+-- why the words ask for none: of a name that stands for no parameter the nearest that does
+abbrev pub denial_by : Line → Side → List ℕ → AxisFault → MapDenial
+denial_by line side words (axis.Unknown number) =
+    denial.Unknown side number
+    (nearest (map name_of_param line.params.items) (name_of (names_of words) (number - 1)))
+denial_by line side words why = denial.Words side why
+
+abbrev pub moved_with : Line → Side → List ℕ → Result Steps AxisFault → Result Moved MapDenial
+moved_with line side words (Err why) = Err (denial_by line side words why)
+moved_with line side words (Ok steps) =
+    Ok (record { params = params_of line (names_of words); steps = steps })
 
 abbrev pub moved_by : Line → Side → List ℕ → Result Moved MapDenial
-moved_by line side words =
-    moved_with side (params_of line (names_of words)) (steps_of line words)
+moved_by line side words = moved_with line side words (steps_of line words)
 
 -- ---- both axes
 

@@ -1,10 +1,12 @@
 -- Why there is no such map: the exit status, and the line that says it.
-use Rattle.std.specs.Prelude.{ℕ, List, [], ◌∷◌, Option, None, Some, codes, decimal}
+use Rattle.std.specs.Prelude.{◌-◌, ℕ, List, [], ◌∷◌, Option, None, Some, codes, decimal}
 use Rattle.judge_margins.specs.declared.map.fault.MapFault.{MapFault}
 use Rattle.judge_margins.specs.declared.map.fault.MapFault.TheVariants as map
 use Rattle.file_study.specs.declared.times.axis_fault.AxisFault.{AxisFault}
 use Rattle.file_study.specs.declared.times.axis_fault.AxisFault.TheVariants as axis
+use Rattle.file_study.specs.{times.Names.name_of, times.Parts.names_of}
 use Rattle.file_study.specs.times.AxisWords.{part_words, what_words}
+use Rattle.call_work.specs.load.Nearest.{near_words, quoted}
 use Rattle.call_work.specs.declared.map.{denial.MapDenial.MapDenial, denial.Side.Side}
 use Rattle.call_work.specs.declared.map.denial.MapDenial.TheVariants as denial
 use Rattle.call_work.specs.declared.map.denial.Side.TheVariants as side
@@ -24,6 +26,7 @@ words_status axis.Order = 4
 words_status axis.StepOfZero = 4
 
 abbrev pub map_denial_status : MapDenial → ℕ
+map_denial_status (denial.Unknown side number near) = 9
 map_denial_status (denial.Words side why) = words_status why
 map_denial_status (denial.Twice name) = 4
 map_denial_status (denial.Fault why) = 4
@@ -65,24 +68,16 @@ abbrev pub number_words : Option ℕ → List ℕ
 number_words None = []
 number_words (Some number) = decimal number
 
--- where the names stand that there are
-abbrev pub remedy : AxisFault → List ℕ
-remedy axis.NoEquals = []
-remedy (axis.Unknown number) = codes "; study margins lists their names"
-remedy axis.NoLast = []
-remedy axis.NoStep = []
-remedy (axis.NoTicks part) = []
-remedy (axis.BadTime part why) = []
-remedy (axis.NoInstant part) = []
-remedy (axis.Beyond part) = []
-remedy (axis.OffGrid part) = []
-remedy axis.Order = []
-remedy axis.StepOfZero = []
-
 -- the line: the words or the parameter, where in the words, what is wrong, and what to write
 abbrev pub pieces_of : List ℕ → List ℕ → List ℕ → List ℕ → List ℕ → List (List ℕ)
 pieces_of words place number what write =
     codes "study: " ∷ (words ∷ (codes ": " ∷ (place ∷ (number ∷ (what ∷ (write ∷ []))))))
+
+-- the line of a name, counted from 1, that stands for no parameter, with the nearest that does
+abbrev pub unknown_pieces : List ℕ → ℕ → Option (List ℕ) → List (List ℕ)
+unknown_pieces words number near =
+    codes "study: " ∷ words ∷ codes ": there is no parameter"
+    ∷ quoted (Some (name_of (names_of words) (number - 1))) ∷ near_words near ∷ []
 
 abbrev pub fault_pieces : MapFault → List (List ℕ)
 fault_pieces (map.Late name) =
@@ -96,7 +91,9 @@ fault_pieces map.TooMany =
 abbrev pub map_denial_pieces : List ℕ → List ℕ → MapDenial → List (List ℕ)
 map_denial_pieces x y (denial.Words side why) =
     pieces_of (side_words x y side) (where_words why) (number_words (number_in why))
-    (what_words why) (remedy why)
+    (what_words why) []
+map_denial_pieces x y (denial.Unknown side number near) =
+    unknown_pieces (side_words x y side) number near
 map_denial_pieces x y (denial.Twice name) =
     pieces_of name [] [] (codes "moves along both axes") (codes ": name it in one of them")
 map_denial_pieces x y (denial.Fault why) = fault_pieces why

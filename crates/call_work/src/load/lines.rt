@@ -5,12 +5,13 @@ ghost use Rattle.std.specs.Option.{option_copied};
 ghost use Rattle.call_files.specs.Files.{limit_of as limit};
 ghost use Rattle.call_work.specs.load.Fetched.{bytes_at as bytes_in};
 ghost use Rattle.call_work.specs.load.Lines.{IsDenialLine, IsRefusalLine, IsToldIn, many_line as many};
-ghost use Rattle.call_work.specs.load.Lines.{missing_line as missing, near_words as words_of_near, one_line as line_of};
-ghost use Rattle.call_work.specs.load.Lines.{part_asked as part_of, part_line as part, quoted};
+ghost use Rattle.call_work.specs.load.Lines.{missing_line as missing, one_line as line_of};
+ghost use Rattle.call_work.specs.load.Lines.{part_asked as part_of, part_line as part};
 ghost use Rattle.call_work.specs.load.Lines.{further_name as further_of, scripts_name as scripts_of};
 ghost use Rattle.call_work.specs.load.Lines.{several_line as several, several_scripts_line as several_scripts};
 ghost use Rattle.call_work.specs.load.Lines.{timing_asked as timing_of, x_asked as x_of, y_asked as y_of};
 ghost use Rattle.call_work.specs.load.Lines.{unknown_line as unknown, unpicked_line as unpicked};
+ghost use Rattle.call_work.specs.load.Nearest.{near_words as words_of_near, quoted};
 ghost use Rattle.call_work.specs.load.Request.{asked_of, request_of, source_of};
 ghost use Rattle.call_refused.specs.told.Told.{IsToldAt};
 
@@ -203,7 +204,7 @@ fn unknown_line(
     ensures { IfOk result (λ line.
         line.items ≡ unknown name.now what.now (option_copied asked.entry) near) }
 {
-    let asked = quoted_name(alloc, asked)?;
+    let asked = quoted_name(alloc, name_bytes(asked))?;
     let near = near_words(alloc, near)?;
     one_line(
         alloc,
@@ -217,18 +218,27 @@ fn unknown_line(
     )
 }
 
-// The name that is asked for, in quotes.
-fn quoted_name(alloc: Global, asked: Option<&str>) -> Result<Vec<u8>, Memory>
+fn name_bytes(asked: Option<&str>) -> Option<&[u8]>
+    ensures { option_copied result ≡ option_copied asked.entry }
+{
+    match asked {
+        None => None,
+        Some(name) => Some(name.as_bytes()),
+    }
+}
+
+/// The name that is asked for, in quotes.
+pub fn quoted_name(alloc: Global, asked: Option<&[u8]>) -> Result<Vec<u8>, Memory>
     ensures { IfOk result (λ text. text.items ≡ quoted (option_copied asked.entry)) }
 {
     match asked {
         None => Ok(Vec::new(alloc)),
-        Some(name) => text_of(alloc, &[b" \"", name.as_bytes(), b"\""]),
+        Some(name) => text_of(alloc, &[b" \"", name, b"\""]),
     }
 }
 
-// The nearest name that is there.
-fn near_words(alloc: Global, near: Option<Name>) -> Result<Vec<u8>, Memory>
+/// The nearest name that is there.
+pub fn near_words(alloc: Global, near: Option<Name>) -> Result<Vec<u8>, Memory>
     ensures { IfOk result (λ text. text.items ≡ words_of_near near) }
 {
     match near {
@@ -318,7 +328,7 @@ fn several_line(alloc: Global, name: &str, records: usize) -> Result<Vec<u8>, Me
 fn missing_line(alloc: Global, name: &str, asked: Option<&str>) -> Result<Vec<u8>, Memory>
     ensures { IfOk result (λ line. line.items ≡ missing name.now (option_copied asked.entry)) }
 {
-    let asked = quoted_name(alloc, asked)?;
+    let asked = quoted_name(alloc, name_bytes(asked))?;
     one_line(
         alloc,
         &[

@@ -2,12 +2,12 @@
 
 ghost use Rattle.std.specs.Prelude.{◌≡◌, IfOk, map};
 ghost use Rattle.std.specs.Option.{option_copied};
-ghost use Rattle.call_work.specs.load.Chosen.{name_of_script, name_of_timing};
-ghost use Rattle.call_work.specs.load.Nearest.{IsNearest, IsUnknown, IsUnknownScript, near_name, nearer as nearer_of};
+ghost use Rattle.call_work.specs.load.Chosen.{name_of_param, name_of_script, name_of_timing};
+ghost use Rattle.call_work.specs.load.Nearest.{IsNearest, IsUnknown, IsUnknownScript, near_name, nearer as nearer_of, nearest};
 ghost use Rattle.call_work.specs.declared.load.denial.Denial.TheVariants.{UnknownTiming};
 
 use crate::load::denial::Denial;
-use model_line::{Memory, Name, Script};
+use model_line::{Line, Memory, Name, Script};
 use model_timing::NamedTiming;
 use std::alloc::Global;
 use strsim::generic_levenshtein;
@@ -74,6 +74,20 @@ fn nearest_timing(
     let mut near: Option<Near> = None;
     for i in 0..timings.len() {
         near = Some(nearer(alloc, near, timings[i].name, asked)?);
+    }
+    Ok(name_in(near))
+}
+
+/// The parameter that is nearest to a name.
+pub fn nearest_parameter(alloc: Global, line: &Line, asked: &[u8]) -> Result<Option<Name>, Memory>
+    ensures is { IfOk result (λ near.
+        near ≡ nearest (map name_of_param line.now.params.items) asked.now) }
+    ensures nearest { IfOk result (IsNearest (map name_of_param line.now.params.items) asked.now) }
+{
+    let params = line.params.as_slice();
+    let mut near: Option<Near> = None;
+    for i in 0..params.len() {
+        near = Some(nearer(alloc, near, params[i].name, asked)?);
     }
     Ok(name_in(near))
 }

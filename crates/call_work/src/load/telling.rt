@@ -4,7 +4,8 @@ ghost use Rattle.std.specs.Prelude.{◌≡◌, MatchResult};
 ghost use Rattle.call_answer.specs.Sinks.{sink_view};
 ghost use Rattle.call_files.specs.declared.stop.Stop.TheVariants.{Memory as MemoryStop};
 ghost use Rattle.call_work.specs.load.Fetched.{bytes_at as bytes_in};
-ghost use Rattle.call_work.specs.load.Lines.{EndsBy, IsHaltLine, Tells, Took, out_of_memory, unread_line};
+ghost use Rattle.call_refused.specs.told.Unread.{out_of_memory, unread_line};
+ghost use Rattle.call_work.specs.load.Lines.{EndsBy, IsHaltLine, Tells, Took};
 ghost use Rattle.call_work.specs.load.Request.{request_of};
 ghost use Rattle.call_work.specs.declared.load.halt.Halt.TheVariants.{Stopped};
 

@@ -9,14 +9,16 @@ ghost use Rattle.judge_margins.specs.map.Axes.{AreAxes, CanMoveBoth, IsAxis, IsS
 ghost use Rattle.judge_margins.specs.map.Placed.{AreOfLine};
 ghost use Rattle.draw_map.specs.Maps.{IsSmallSecond};
 ghost use Rattle.call_work.specs.map.Asked.{AreAxesOf, Both as BothOf, IsAxisOf, IsSecondOf, Moved as MovedOf};
-ghost use Rattle.call_work.specs.map.Asked.{Tells, asked_of, first_among as first_among_of, moved_by};
+ghost use Rattle.call_work.specs.map.Asked.{Tells, asked_of, denial_by as denial_of, first_among as first_among_of, moved_by};
 ghost use Rattle.call_work.specs.map.Asked.{second_by, twice_by};
 ghost use Rattle.call_work.specs.declared.map.denial.MapDenial.{MapDenial as DenialOf};
 ghost use Rattle.base_memory.specs.declared.stopped.Stopped.TheVariants.{Fault};
 
+use crate::load::nearest_parameter;
 use crate::map::denial::{MapDenial, Side};
-use base_memory::Stopped;
-use file_study::times::{names_of, params_of, read_steps};
+use crate::map::list::name_in_list;
+use base_memory::{Memory, Stopped};
+use file_study::times::{AxisFault, names_of, params_of, read_steps};
 use judge_margins::map::{Axes, Axis, map_fault};
 use model_line::Line;
 use std::alloc::Global;
@@ -65,7 +67,36 @@ fn axis_of(alloc: Global, line: &Line, side: Side, words: &[u8]) -> Result<Axis,
                 step: steps.step,
             })
         }
-        Err(why) => Err(Stopped::Fault(MapDenial::Words(side, why))),
+        Err(why) => Err(Stopped::Fault(denial_by(alloc, line, side, words, why)?)),
+    }
+}
+
+// Why the words ask for no axis.
+fn denial_by(
+    alloc: Global,
+    line: &Line,
+    side: Side,
+    words: &[u8],
+    why: AxisFault,
+) -> Result<MapDenial, Memory>
+    ensures { IfOk result (λ denial. denial ≡ denial_of line.now side words.now why) }
+{
+    match why {
+        AxisFault::Unknown(number) => {
+            let name = name_in_list(names_of(words), number.saturating_sub(1));
+            let near = nearest_parameter(alloc, line, name)?;
+            Ok(MapDenial::Unknown { side, number, near })
+        }
+        AxisFault::NoEquals
+        | AxisFault::NoLast
+        | AxisFault::NoStep
+        | AxisFault::NoTicks(_)
+        | AxisFault::BadTime(_, _)
+        | AxisFault::NoInstant(_)
+        | AxisFault::Beyond(_)
+        | AxisFault::OffGrid(_)
+        | AxisFault::Order
+        | AxisFault::StepOfZero => Ok(MapDenial::Words(side, why)),
     }
 }
 

@@ -3,15 +3,16 @@
 ghost use Rattle.std.specs.Prelude.{◌≡◌, [], IfOk};
 ghost use Rattle.call_work.specs.load.Lines.{one_line as line_by};
 ghost use Rattle.call_work.specs.map.Denials.{fault_pieces, map_denial_pieces, number_in as number_of};
-ghost use Rattle.call_work.specs.map.Denials.{number_words, pieces_of, remedy as remedy_of};
+ghost use Rattle.call_work.specs.map.Denials.{number_words, pieces_of, unknown_pieces};
 ghost use Rattle.call_work.specs.map.Denials.{map_denial_status, side_words as words_of_side};
 ghost use Rattle.call_work.specs.map.Denials.{where_words as words_of_place, words_status as status_of_words};
 ghost use Rattle.base_memory.specs.declared.stopped.Stopped.TheVariants as stopped;
 ghost use Rattle.file_study.specs.times.AxisWords.{what_words};
 
-use crate::load::one_line;
+use crate::load::{near_words, one_line, quoted_name};
+use crate::map::list::name_in_list;
 use base_memory::{Memory, Stopped};
-use file_study::times::AxisFault;
+use file_study::times::{AxisFault, names_of};
 use itoa::Buffer;
 use judge_margins::map::MapFault;
 use model_line::Name;
@@ -29,6 +30,13 @@ pub enum Side {
 pub enum MapDenial {
     /// The words of an axis are refused.
     Words(Side, AxisFault),
+    /// This name of the list of an axis, counted from 1, stands for no parameter; this one is the
+    /// nearest.
+    Unknown {
+        side: Side,
+        number: usize,
+        near: Option<Name>,
+    },
     /// This parameter would move along both axes.
     Twice(Name),
     /// An interval would leave its limits, or there would be too many cells.
@@ -50,6 +58,7 @@ impl MapDenial {
     {
         match self {
             MapDenial::Words(_, why) => words_status(*why),
+            MapDenial::Unknown { .. } => 9,
             MapDenial::Twice(_) | MapDenial::Fault(_) => 4,
         }
     }
@@ -85,6 +94,9 @@ pub fn map_denial_line(
 {
     match why {
         MapDenial::Words(side, fault) => words_line(alloc, side_words(x, y, *side), *fault),
+        MapDenial::Unknown { side, number, near } => {
+            unknown_line(alloc, side_words(x, y, *side), *number, *near)
+        }
         MapDenial::Twice(name) => name_line(
             alloc,
             name.bytes(),
@@ -98,38 +110,42 @@ pub fn map_denial_line(
 // The line of what is wrong with the words of an axis.
 fn words_line(alloc: Global, words: &[u8], fault: AxisFault) -> Result<Vec<u8>, Memory>
     ensures { IfOk result (λ text. text.items ≡ line_by (pieces_of words.now (words_of_place fault)
-        (number_words (number_of fault)) (what_words fault) (remedy_of fault))) }
+        (number_words (number_of fault)) (what_words fault) [])) }
 {
     let place = place_words(fault);
     let what = fault.words().as_bytes();
-    let write = remedy(fault);
     match number_in(fault) {
         Some(number) => {
             let mut digits = Buffer::new();
             let number = digits.format(number).as_bytes();
-            line_of(alloc, words, place, number, what, write)
+            line_of(alloc, words, place, number, what, b"")
         }
-        None => line_of(alloc, words, place, b"", what, write),
+        None => line_of(alloc, words, place, b"", what, b""),
     }
 }
 
-// Where the names stand that there are.
-fn remedy(fault: AxisFault) -> &'static [u8]
-    ensures { result.now ≡ remedy_of fault }
+// The line of a name that stands for no parameter, with the nearest that does.
+fn unknown_line(
+    alloc: Global,
+    words: &[u8],
+    number: usize,
+    near: Option<Name>,
+) -> Result<Vec<u8>, Memory>
+    ensures { IfOk result (λ text. text.items ≡ line_by (unknown_pieces words.now number near)) }
 {
-    match fault {
-        AxisFault::Unknown(_) => b"; study margins lists their names",
-        AxisFault::NoEquals
-        | AxisFault::NoLast
-        | AxisFault::NoStep
-        | AxisFault::NoTicks(_)
-        | AxisFault::BadTime(_, _)
-        | AxisFault::NoInstant(_)
-        | AxisFault::Beyond(_)
-        | AxisFault::OffGrid(_)
-        | AxisFault::Order
-        | AxisFault::StepOfZero => b"",
-    }
+    let name = name_in_list(names_of(words), number.saturating_sub(1));
+    let asked = quoted_name(alloc, Some(name))?;
+    let near = near_words(alloc, near)?;
+    one_line(
+        alloc,
+        &[
+            b"study: ",
+            words,
+            b": there is no parameter",
+            asked.as_slice(),
+            near.as_slice(),
+        ],
+    )
 }
 
 // The number of a name, if it is one that is wrong.

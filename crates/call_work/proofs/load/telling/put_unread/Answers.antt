@@ -1,5 +1,5 @@
 use Rattle.call_answer.specs.{SinkLaws.put_or_part, Sinks.sink_view}
-use Rattle.call_work.specs.load.Lines.{unread_line}
+use Rattle.call_refused.specs.told.Unread.{unread_line}
 use Rattle.call_work.proofs.load.telling.put_unread.Goals as goal
 
 pub returns : goal.returns

@@ -10,7 +10,6 @@ returns-in-Some c =
       c.format.ensures.text,
       c.as_bytes-what.ensures.value,
       c.words.ensures,
-      c.remedy-write.ensures,
     )
     at c.line_of.ensures)
 
@@ -21,6 +20,5 @@ returns-in-None c =
       c.place_words-place.ensures,
       c.as_bytes-what.ensures.value,
       c.words.ensures,
-      c.remedy-write.ensures,
     )
     at c.line_of-in-None.ensures)
