@@ -16,3 +16,4 @@ pub mod SpanLevels
 pub mod SpanCovers
 pub mod SpanTreesMeet
 pub mod FinerTicks
+pub mod LooseCovers

@@ -5,3 +5,5 @@ pub mod Laws
 pub mod Limits
 pub mod Spans
 pub mod SpanLaws
+pub mod Loose
+pub mod LooseLaws

@@ -9,7 +9,10 @@
 //!   a rule speaks for every fine choice.
 //! - `span_laws`: trees of parts that share their ends, and of cases of an echo over spans of ticks,
 //!   speak for every fine choice too.
+//! - `loose_laws`: so it is where the borders of a script are not known, for whatever is shown between
+//!   what is certain and what may be.
 #![tactic(auto)]
 
 pub mod fine_laws;
+pub mod loose_laws;
 pub mod span_laws;

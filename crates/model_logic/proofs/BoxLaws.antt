@@ -1,7 +1,8 @@
 -- A wider box covers a narrower one and each choice in it, and so do claims that are covered.
-use Rattle.std.proofs.Common.{ℕ, ◌<◌, refl, sym, subst, arith}
+use Rattle.std.proofs.Common.{ℕ, Bool, ◌<◌, refl, sym, subst, arith}
 use Rattle.model_history.specs.Laws.{HistoryLaws}
 use Rattle.model_history.specs.Rails.{Rails, Ends, Covers, RailsCover, IsPartOf}
+use Rattle.model_history.specs.RailLaws.{covers_same}
 use Rattle.model_logic.specs.declared.time.Time.TheVariants.{Zero, Param}
 use Rattle.model_logic.specs.PairMean.{PairWorld, PairSignals, pair_mean}
 use Rattle.model_logic.specs.Choice.{Choice, Box, IsIn, IsWithin, IsBoxWithin, LeastFromOne}
@@ -14,7 +15,7 @@ use Rattle.model_logic.specs.Logic.{key_tree, trip_tree}
 use Rattle.model_logic.specs.Covering.{IsWider, CoverBefore}
 use Rattle.model_logic.specs.{declared.time.Time.Time, Tree.Tree, Mean.mean, Solution.IsDelayed}
 use Rattle.model_line.specs.{declared.line.Line.Line, declared.script.Script.Script}
-use Rattle.model_line.specs.Parameters.{param_count}
+use Rattle.model_line.specs.{Parameters.param_count, Seen.is_seen, Seen.is_lost}
 use Rattle.model_logic.proofs.CoverLaws.{pair_mean-wider, claims_wider, solution_wider}
 use Rattle.model_logic.proofs.HistoryLaws.{keys_named, point_mean, point_history}
 use Rattle.model_logic.proofs.LogicNames.{names_trip_tree}
@@ -33,8 +34,10 @@ pub wider_world : (line : Line) (script : Script) (inner outer : Box)
     → IsWider line (pair_world_of line script outer) (pair_world_of line script inner)
 unfolding pair_world_of
 wider_world line script inner outer within = record {
-  seen = λ p t. refl;
-  lost = λ c t. refl;
+  seen = λ p t.
+      let on : Bool = is_seen script.spans.items p t in covers_same on on refl;
+  lost = λ c t.
+      let on : Bool = is_lost script.spans.items c t in covers_same on on refl;
   from = λ c. refl;
   delay = within.delays;
   time = time_part line inner.ends outer.ends within.numbers;

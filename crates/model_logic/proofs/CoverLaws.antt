@@ -23,10 +23,8 @@ module _ (laws : HistoryLaws) where
         → CoverBefore line a b t → RailsCover (pair_mean w a x t) (pair_mean v b x t)
     unfolding pair_mean Names
     pair_mean-wider a b (Const c) t early h cover = covers_same c c refl
-    pair_mean-wider a b (Seen p) t early h cover =
-        covers_same (w.seen p t) (v.seen p t) (wider.seen p t)
-    pair_mean-wider a b (Loss c) t early h cover =
-        covers_same (w.lost c t) (v.lost c t) (wider.lost c t)
+    pair_mean-wider a b (Seen p) t early h cover = wider.seen p t
+    pair_mean-wider a b (Loss c) t early h cover = wider.lost c t
     pair_mean-wider a b (Raw c) t early h cover =
         subst (λ (k : ℕ). RailsCover (rails_delayed (a (w.from c)) (w.delay c t) t)
         (rails_delayed (b k) (v.delay c t) t)) (wider.from c)

@@ -52,8 +52,8 @@ module _ (laws : HistoryLaws) where
       → pair_mean w keys x t ≡ pair_mean v keys x t
   unfolding pair_mean Names
   pair_mean-world line w v keys (Const b) t early h s = refl
-  pair_mean-world line w v keys (Seen p) t early h s = ap (λ (b : Bool). both b) (s.seen p t)
-  pair_mean-world line w v keys (Loss c) t early h s = ap (λ (b : Bool). both b) (s.lost c t)
+  pair_mean-world line w v keys (Seen p) t early h s = s.seen p t
+  pair_mean-world line w v keys (Loss c) t early h s = s.lost c t
   pair_mean-world line w v keys (Raw c) t early h s =
       ap (λ (k : ℕ). rails_delayed (keys k) (w.delay c t) t) (s.from c)
       ∙ ap (λ (e : Ends). rails_delayed (keys (v.from c)) e t) (s.delay c t h early)

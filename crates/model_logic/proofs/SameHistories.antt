@@ -1,6 +1,6 @@
 -- Histories rest on no declared interval, and interval histories on the intervals of their box.
 use Rattle.std.proofs.Common.{◌≡◌, ◌<◌, ℕ, List, sym, ◌∙◌, ap, subst}
-use Rattle.model_history.specs.Laws.{HistoryLaws}
+use Rattle.model_history.specs.{Laws.HistoryLaws, Rails.both}
 use Rattle.model_line.specs.Seen.{is_seen, is_lost}
 use Rattle.model_line.specs.{declared.line.Line.Line, SetBounds.SameButParams}
 use Rattle.model_line.specs.{declared.line.Channel.Channel, declared.script.Script.Script}
@@ -34,8 +34,8 @@ module _ (old new : Line) (same : SameButParams old new) (script : Script) where
   unfolding pair_world_of
   pair_world_same box =
       let made : List Channel → PairWorld = λ cs. record {
-        seen = is_seen script.spans.items;
-        lost = is_lost script.spans.items;
+        seen = λ p t. both (is_seen script.spans.items p t);
+        lost = λ c t. both (is_lost script.spans.items c t);
         from = from_of cs;
         delay = box.delay;
         time = ends_by box.ends;

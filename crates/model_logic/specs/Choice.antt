@@ -1,6 +1,6 @@
 -- Choices of every number that a line leaves open, boxes of such choices, and the worlds they make.
 use Rattle.std.specs.Prelude.{◌≤◌, ◌<◌, ℕ, List, get_or}
-use Rattle.model_history.specs.Rails.{Ends, single, IsPartOf}
+use Rattle.model_history.specs.Rails.{Ends, both, single, IsPartOf}
 use Rattle.model_line.specs.Parameters.{channel_count, param_count, delay_param, declared_ends}
 use Rattle.model_line.specs.Seen.{is_seen, is_lost}
 use Rattle.model_line.specs.Channels.{from_of}
@@ -92,8 +92,8 @@ world_of line script choice = record {
 -- a line and its script over a box
 unfoldable pub pair_world_of : Line → Script → Box → PairWorld
 pair_world_of line script box = record {
-  seen = is_seen script.spans.items;
-  lost = is_lost script.spans.items;
+  seen = λ p t. both (is_seen script.spans.items p t);
+  lost = λ c t. both (is_lost script.spans.items c t);
   from = from_of line.channels.items;
   delay = box.delay;
   time = ends_by box.ends;

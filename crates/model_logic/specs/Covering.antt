@@ -7,10 +7,11 @@ use Rattle.model_logic.specs.Histories.{Everywhere}
 use Rattle.model_logic.specs.PairMean.{PairWorld, PairSignals, pair_mean}
 use Rattle.model_logic.specs.{declared.time.Time.Time, Names.HasTime, Tree.Tree}
 
--- both see the same, and each interval of the line is part of the wider world's, at every tick
+-- what the wider world sees covers what the narrower one does, and each interval of the line is part of
+-- the wider world's, at every tick
 pub record IsWider (line : Line) (wide narrow : PairWorld) : Type 0 where
-  pub seen : (p : Place) (t : ℕ) → wide.seen p t ≡ narrow.seen p t
-  pub lost : (c t : ℕ) → wide.lost c t ≡ narrow.lost c t
+  pub seen : (p : Place) (t : ℕ) → RailsCover (wide.seen p t) (narrow.seen p t)
+  pub lost : (c t : ℕ) → RailsCover (wide.lost c t) (narrow.lost c t)
   pub from : (c : ℕ) → wide.from c ≡ narrow.from c
   pub delay : (c t : ℕ) → c < channel_count line → t < line.horizon
       → IsPartOf (narrow.delay c t) (wide.delay c t)

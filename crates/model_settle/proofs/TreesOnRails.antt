@@ -5,7 +5,7 @@ use Rattle.std.proofs.Common.{ap, arith, ⊎_elim, inr}
 use Rattle.std.specs.Prelude.{◌⊎◌, IsTrue}
 use Rattle.std.specs.Cmp.{both_ways}
 use Rattle.model_history.specs.{Laws.HistoryLaws, Elements.timed, Elements.sealed, Elements.delayed}
-use Rattle.model_history.specs.Rails.{Rails, Ends, Covers, rails_not, rails_and, rails_or}
+use Rattle.model_history.specs.Rails.{both, Rails, Ends, Covers, rails_not, rails_and, rails_or}
 use Rattle.model_history.specs.Rails.{rails_timed}
 use Rattle.model_history.specs.Rails.{rails_sealed, rails_delayed}
 use Rattle.model_logic.specs.Tree.{Tree, Const, Seen, Loss, Raw, Not, And, Or, Timer, Seal}
@@ -90,8 +90,8 @@ read_stays known from cone sides rail (Seal x y) read = inr (
 
 pub record IsWorstWorld (line : Line) (sides : Sides) (v : World) (w : PairWorld)
     (keys : PairSignals) : Type 0 where
-  pub seen : (p : Place) (t : ℕ) → v.seen p t ≡ w.seen p t
-  pub lost : (c t : ℕ) → v.lost c t ≡ w.lost c t
+  pub seen : (p : Place) (t : ℕ) → both (v.seen p t) ≡ w.seen p t
+  pub lost : (c t : ℕ) → both (v.lost c t) ≡ w.lost c t
   pub from : (c : ℕ) → v.from c ≡ w.from c
   pub from_line : (c : ℕ) → c < channel_count line → w.from c < terminal_count line
   pub later : (c t : ℕ) → c < channel_count line → t < line.horizon → 1 ≤ v.delay c t
@@ -134,9 +134,9 @@ module _ (laws : HistoryLaws) (line : Line) (cone : ℕ → Bool) (sides : Sides
   unfolding mean pair_mean Names IsReadOver
   tree_on_rail rail (Const b) t early named read before = value_const rail b b refl
   tree_on_rail rail (Seen p) t early named read before =
-      value_const rail (v.seen p t) (w.seen p t) (worst.seen p t)
+      value_const rail (v.seen p t) (v.seen p t) refl ∙ ap (value_on rail) (worst.seen p t)
   tree_on_rail rail (Loss c) t early named read before =
-      value_const rail (v.lost c t) (w.lost c t) (worst.lost c t)
+      value_const rail (v.lost c t) (v.lost c t) refl ∙ ap (value_on rail) (worst.lost c t)
   tree_on_rail rail (Raw c) t early named read before =
       known_or rail (Raw c) t (IsTrue (cone (w.from c)) × (sides.key (w.from c) ≡ rail)) early named
       read (λ is.

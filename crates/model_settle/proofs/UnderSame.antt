@@ -44,8 +44,8 @@ module _ (laws : HistoryLaws) (line : Line) (level other : Tree → ℕ → Opti
       → pair_under level w keys x t ≡ pair_under other v keys x t
   unfolding pair_under own_pair Names
   pair_same (Const b) t early h = refl
-  pair_same (Seen p) t early h = ap (λ (b : Bool). both b) (s.seen p t)
-  pair_same (Loss c) t early h = ap (λ (b : Bool). both b) (s.lost c t)
+  pair_same (Seen p) t early h = s.seen p t
+  pair_same (Loss c) t early h = s.lost c t
   pair_same (Raw c) t early h =
       ap (λ (k : ℕ). rails_delayed (keys k) (w.delay c t) t) (s.from c)
       ∙ ap (λ (e : Ends). rails_delayed (keys (v.from c)) e t) (s.delay c t h early)

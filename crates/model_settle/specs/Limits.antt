@@ -17,8 +17,8 @@ one_or_two = record { least = 1; greatest = 2 }
 
 abbrev pub small_pairs : PairWorld
 small_pairs = record {
-  seen = λ p t. first_tick t;
-  lost = λ c t. false;
+  seen = λ p t. both (first_tick t);
+  lost = λ c t. both false;
   from = λ c. 0;
   delay = λ c t. one_or_two;
   time = λ x. record { least = 0; greatest = 2 };

@@ -21,8 +21,8 @@ assumed_or None own = own
 -- at a tick has this level on both rails there, wherever it is read
 unfoldable pub pair_under : (Tree → ℕ → Option Bool) → PairWorld → PairSignals → Tree → ℕ → Rails
 pair_under level w keys (Const v) t = both v
-pair_under level w keys (Seen p) t = both (w.seen p t)
-pair_under level w keys (Loss c) t = both (w.lost c t)
+pair_under level w keys (Seen p) t = w.seen p t
+pair_under level w keys (Loss c) t = w.lost c t
 pair_under level w keys (Raw c) t = rails_delayed (keys (w.from c)) (w.delay c t) t
 pair_under level w keys (Not x) t = rails_not (pair_under level w keys x t)
 pair_under level w keys (And x y) t =

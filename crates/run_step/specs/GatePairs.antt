@@ -28,8 +28,8 @@ line_pairs line script box net =
 -- a gate's own kind over the pairs u of all gates
 abbrev pub kind_pair : PairWorld → PairSignals → GateSignals → Gate → ℕ → Rails
 kind_pair w keys u (Const v) t = both v
-kind_pair w keys u (Seen p) t = both (w.seen p t)
-kind_pair w keys u (Loss c) t = both (w.lost c t)
+kind_pair w keys u (Seen p) t = w.seen p t
+kind_pair w keys u (Loss c) t = w.lost c t
 kind_pair w keys u (Raw c) t = rails_delayed (keys (w.from c)) (w.delay c t) t
 kind_pair w keys u (Not a) t = rails_not (u a.0 t)
 kind_pair w keys u (And a b) t = rails_and (u a.0 t) (u b.0 t)

@@ -4,7 +4,7 @@ use Rattle.std.proofs.Common.{◌≡◌, ℕ, ◌<◌, ◌≤◌, List, Some, sy
 use Rattle.std.proofs.Common.{arith, subst, ⊎_elim, length-set}
 use Rattle.std.proofs.lemmas.Option.{slice_get-map, slice_get_within, get_or_from_slice_get}
 use Rattle.std.specs.Prelude.{slice_get, slice_set, option_map}
-use Rattle.model_history.specs.Rails.{Ends}
+use Rattle.model_history.specs.Rails.{Ends, both}
 use Rattle.model_line.specs.Parameters.{terminal_count, channel_count, param_count, delay_param}
 use Rattle.model_line.specs.Channels.{from_of}
 use Rattle.model_line.specs.{declared.script.SeenSpan.SeenSpan, declared.line.Line.Line}
@@ -121,8 +121,8 @@ module _ {V S : Type 0} (signal : SignalOf V S) (run : Run S) (delays : List (De
     world_at script shown until given early =
         let now = given.shown t (omega arith) early in
         record {
-          seen = now.seen;
-          lost = now.lost;
+          seen = λ p. ap both (now.seen p);
+          lost = λ c. ap both (now.lost c);
           channels = record {
             from = are.from;
             delay = λ c d at. span_at c t d at (omega arith) (set c d at);

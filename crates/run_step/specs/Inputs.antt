@@ -1,7 +1,7 @@
 -- What a net is given from outside: what its script shows and loses, and its delays.
 use Rattle.run_signal.specs.Signals.{SignalOf}
 use Rattle.std.specs.Prelude.{◌≡◌, ◌<◌, ◌≤◌, ℕ, List, Some, length, slice_get}
-use Rattle.model_history.specs.Rails.{Ends}
+use Rattle.model_history.specs.Rails.{Ends, both}
 use Rattle.model_line.specs.Parameters.{terminal_count, channel_count, param_count, delay_param}
 use Rattle.model_line.specs.Seen.{is_seen, is_lost}
 use Rattle.model_line.specs.{declared.line.Line.Line, declared.script.Place.Place}
@@ -73,8 +73,8 @@ pub record AreDelaysFrom {S : Type 0} (ends : S → ℕ → Ends) (lane : ℕ) (
 -- and so is what the present spans show and lose
 pub record IsWorldAt {S : Type 0} (ends : S → ℕ → Ends) (lane : ℕ) (present : List SeenSpan)
     (delays : List (Delay S)) (w : PairWorld) (t : ℕ) : Type 0 where
-  pub seen : (p : Place) → is_seen present p t ≡ w.seen p t
-  pub lost : (c : ℕ) → is_lost present c t ≡ w.lost c t
+  pub seen : (p : Place) → both (is_seen present p t) ≡ w.seen p t
+  pub lost : (c : ℕ) → both (is_lost present c t) ≡ w.lost c t
   pub channels : AreDelaysOf ends lane delays w t
 
 -- what is sent can be received: each delay is of a terminal, and at least 1 in each lane

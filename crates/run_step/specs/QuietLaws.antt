@@ -92,9 +92,9 @@ module _ (stretch : ElementsInAStretch) (line : Line) (w : PairWorld) (keys : Pa
         → kind_pair w keys u g (t + j) ≡ kind_pair w keys u g t
     one_gate j lt all i args (Const v) has names timer = refl
     one_gate j lt all i args (Seen p) has names timer =
-        ap both (keeps_at (w.seen p) t n j timer lt)
+        keeps_at (w.seen p) t n j timer lt
     one_gate j lt all i args (Loss c) has names timer =
-        ap both (keeps_at (w.lost c) t n j timer lt)
+        keeps_at (w.lost c) t n j timer lt
     one_gate j lt all i args (Raw c) has names timer =
         let held : Keeps (keys (w.from c)) t j = λ r low high.
         are.keys_are c r names (omega arith)

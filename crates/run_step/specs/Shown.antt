@@ -1,6 +1,7 @@
 -- The spans of a script that hold a tick, and those that begin later.
 use Rattle.std.specs.Prelude.{◌≡◌, ◌<◌, ◌≤◌, ◌-◌, ◌++◌, ℕ, Bool, false, List, length}
 use Rattle.std.specs.List.Sorted.{IsNonDecreasingBy}
+use Rattle.model_history.specs.Rails.{both}
 use Rattle.model_line.specs.Seen.{is_seen, is_lost}
 use Rattle.model_line.specs.{declared.script.Place.Place, declared.script.SeenSpan.SeenSpan}
 use Rattle.model_line.specs.Seen.{is_of_place, is_of_loss}
@@ -57,8 +58,8 @@ is_shown_by (Seal a b) span = false
 -- at tick t the spans show and lose what the gate is of, as the world does
 abbrev pub IsShownAt : List SeenSpan → PairWorld → ℕ → Gate → Type 0
 IsShownAt spans w t (Const v) = Unit {0}
-IsShownAt spans w t (Seen p) = is_seen spans p t ≡ w.seen p t
-IsShownAt spans w t (Loss c) = is_lost spans c t ≡ w.lost c t
+IsShownAt spans w t (Seen p) = both (is_seen spans p t) ≡ w.seen p t
+IsShownAt spans w t (Loss c) = both (is_lost spans c t) ≡ w.lost c t
 IsShownAt spans w t (Raw c) = Unit {0}
 IsShownAt spans w t (Not a) = Unit {0}
 IsShownAt spans w t (And a b) = Unit {0}

@@ -3,7 +3,7 @@ use Rattle.std.proofs.Common.{◌≡◌, ℕ, List, Bool, true, false, ◌&&◌,
 use Rattle.std.proofs.lemmas.Map.Views.{any-filter_same}
 use Rattle.std.specs.Prelude.{nat_le, nat_lt}
 use Rattle.std.specs.List.{filter}
-use Rattle.model_history.specs.Rails.{Ends}
+use Rattle.model_history.specs.Rails.{Ends, both}
 use Rattle.model_line.specs.Seen.{is_of_place, is_of_loss, shows, loses, is_seen, is_lost}
 use Rattle.model_line.specs.declared.script.{Place.Place, Script.Script, SeenSpan.SeenSpan}
 use Rattle.model_logic.specs.{PairMean.PairWorld, Choice.pair_world_of}
@@ -28,15 +28,15 @@ module _ {S : Type 0} (ends : S → ℕ → Ends) (run : Run S) (script : Script
   unfolding pair_world_of
   filter_shows list (gate.Const v) is t = tt
   filter_shows list (gate.Seen p) is t =
-      ap (λ (l : List SeenSpan). is_seen l p t) is
+      ap both (ap (λ (l : List SeenSpan). is_seen l p t) is
       ∙ any-filter_same (shows p t) (λ (s : SeenSpan). is_of_place p s.what) true
       (λ s on. first_true (is_of_place p s.what) (nat_le s.from t && nat_lt t s.to) on)
-      script.spans.items
+      script.spans.items)
   filter_shows list (gate.Loss c) is t =
-      ap (λ (l : List SeenSpan). is_lost l c t) is
+      ap both (ap (λ (l : List SeenSpan). is_lost l c t) is
       ∙ any-filter_same (loses c t) (λ (s : SeenSpan). is_of_loss c s.what) true
       (λ s on. first_true (is_of_loss c s.what) (nat_le s.from t && nat_lt t s.to) on)
-      script.spans.items
+      script.spans.items)
   filter_shows list (gate.Raw c) is t = tt
   filter_shows list (gate.Not x) is t = tt
   filter_shows list (gate.And x y) is t = tt
@@ -46,7 +46,8 @@ module _ {S : Type 0} (ends : S → ℕ → Ends) (run : Run S) (script : Script
 
 -- what shows and loses all shows and loses what a gate is of
 pub world_shows : (list : List SeenSpan) (w : PairWorld) (t : ℕ)
-    → ((p : _) → is_seen list p t ≡ w.seen p t) → ((c : ℕ) → is_lost list c t ≡ w.lost c t)
+    → ((p : _) → both (is_seen list p t) ≡ w.seen p t)
+    → ((c : ℕ) → both (is_lost list c t) ≡ w.lost c t)
     → (g : Gate) → IsShownAt list w t g
 world_shows list w t seen lost (gate.Const v) = tt
 world_shows list w t seen lost (gate.Seen p) = seen p
@@ -66,7 +67,7 @@ seen_lasts p b t n g q list is shown keep =
     subst (λ (h : Gate). IsShown list p.world h) is shown in
     let keeps : ScriptKeeps list t n = script_keeps list t n keep in
     subst (λ (h : Gate). Lasts p b t n h) (sym is)
-    (λ r low high. sym (shows r) ∙ keeps.seen q r low high ∙ shows t)
+    (λ r low high. sym (shows r) ∙ ap both (keeps.seen q r low high) ∙ shows t)
 
 pub loss_lasts : (p : LanePairs) (b t n : ℕ) (g : Gate) (c : ℕ) (list : List SeenSpan)
     → g ≡ gate.Loss c → IsShown list p.world g → AllKeep t n list → Lasts p b t n g
@@ -75,7 +76,7 @@ loss_lasts p b t n g c list is shown keep =
     subst (λ (h : Gate). IsShown list p.world h) is shown in
     let keeps : ScriptKeeps list t n = script_keeps list t n keep in
     subst (λ (h : Gate). Lasts p b t n h) (sym is)
-    (λ r low high. sym (shows r) ∙ keeps.lost c r low high ∙ shows t)
+    (λ r low high. sym (shows r) ∙ ap both (keeps.lost c r low high) ∙ shows t)
 
 pub raw_lasts_of : (p : LanePairs) (b t n : ℕ) (g : Gate) (c : ℕ) → g ≡ gate.Raw c
     → RawLasts (p.keys (p.world.from c)) (p.world.delay c) b t n → Lasts p b t n g

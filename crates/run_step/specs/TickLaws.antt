@@ -36,11 +36,11 @@ timer_keeps stretch u p d t n x is steady j lt keeps =
 
 module _ (w : PairWorld) (keys : PairSignals) (u : GateSignals) (t : ℕ) (gate : Gate)
     (y : Rails) where
-  pub seen_pair : (p : Place) → gate ≡ Seen p → y ≡ both (w.seen p t)
+  pub seen_pair : (p : Place) → gate ≡ Seen p → y ≡ w.seen p t
       → y ≡ kind_pair w keys u gate t
   seen_pair p is e = e ∙ ap (λ g. kind_pair w keys u g t) (sym is)
 
-  pub loss_pair : (c : ℕ) → gate ≡ Loss c → y ≡ both (w.lost c t) → y ≡ kind_pair w keys u gate t
+  pub loss_pair : (c : ℕ) → gate ≡ Loss c → y ≡ w.lost c t → y ≡ kind_pair w keys u gate t
   loss_pair c is e = e ∙ ap (λ g. kind_pair w keys u g t) (sym is)
 
   pub raw_pair : (c : ℕ) → gate ≡ Raw c → y ≡ rails_delayed (keys (w.from c)) (w.delay c t) t

@@ -4,7 +4,7 @@ use Rattle.std.proofs.Common.{subst}
 use Rattle.std.proofs.Math.Path.{fun_ext}
 use Rattle.std.proofs.lemmas.List.Elements.{All-nil}
 use Rattle.std.specs.List.{count_by, range_with_len}
-use Rattle.model_history.specs.Rails.{Ends, Rails}
+use Rattle.model_history.specs.Rails.{Ends, Rails, both}
 use Rattle.model_line.specs.Parameters.{declared_ends, delay_param, param_count}
 use Rattle.model_line.specs.Seen.{is_lost, is_seen}
 use Rattle.model_line.specs.{declared.line.Line.Line, declared.script.Script.Script}
@@ -131,8 +131,8 @@ module _ (counts : CountsRestOnNoInterval) (histories : HistoriesRestOnNoInterva
     unfolding pair_world_of
     pair_world_same box =
         let by_spans : List SeenSpan → PairWorld = λ spans. record {
-          seen = is_seen spans;
-          lost = is_lost spans;
+          seen = λ p t. both (is_seen spans p t);
+          lost = λ c t. both (is_lost spans c t);
           from = from_of b.channels.items;
           delay = box.delay;
           time = ends_by box.ends;

@@ -1,6 +1,6 @@
 -- What is said of a record of the field rests on the values of a line and of scripts alone.
 use Rattle.std.proofs.Common.{◌≡◌, ◌<◌, ℕ, List, map, sym, ◌∙◌, ap, subst}
-use Rattle.model_history.specs.Rails.{Covers, Rails}
+use Rattle.model_history.specs.Rails.{Covers, Rails, both}
 use Rattle.model_line.specs.Seen.{is_lost, is_seen}
 use Rattle.model_line.specs.{declared.line.Line.Line, declared.script.Script.Script}
 use Rattle.model_line.specs.{declared.line.Channel.Channel, Laws.CountsRestOnNoInterval}
@@ -84,8 +84,8 @@ module _ (counts : CountsRestOnNoInterval) (histories : HistoriesRestOnNoInterva
     unfolding pair_world_of
     world_same =
         let made : Box → List Channel → PairWorld = λ box channels. record {
-          seen = is_seen s.spans.items;
-          lost = is_lost s.spans.items;
+          seen = λ p t. both (is_seen s.spans.items p t);
+          lost = λ c t. both (is_lost s.spans.items c t);
           from = from_of channels;
           delay = box.delay;
           time = ends_by box.ends;

@@ -4,7 +4,7 @@ use Rattle.std.proofs.Common.{refl, sym, ◌∙◌, ap, subst, ◌&&◌, ◌||�
 use Rattle.std.proofs.lemmas.Option.{slice_get_within}
 use Rattle.std.specs.Prelude.{slice_get, cond}
 use Rattle.std.specs.List.{list_any, filter}
-use Rattle.model_history.specs.Rails.{Ends}
+use Rattle.model_history.specs.Rails.{Ends, both}
 use Rattle.model_line.specs.Parameters.{terminal_count, channel_count}
 use Rattle.model_line.specs.Seen.{is_of_place, is_of_loss, shows, loses}
 use Rattle.model_line.specs.{declared.script.SeenSpan.SeenSpan, declared.line.Line.Line}
@@ -46,10 +46,12 @@ module _ {V S : Type 0} (signal : SignalOf V S) (line : Line) (spans : List S)
       (pair_world_of line script (span_box signal.ends line spans lane)) t
   unfolding pair_world_of
   world_at lane t script = record {
-    seen = λ p. any_held (shows p t) (holds t) (λ s. is_of_place p s.what) (λ s. refl)
-        script.spans.items;
-    lost = λ c. any_held (loses c t) (holds t) (λ s. is_of_loss c s.what) (λ s. refl)
-        script.spans.items;
+    seen = λ p.
+        ap both (any_held (shows p t) (holds t) (λ s. is_of_place p s.what) (λ s. refl)
+        script.spans.items);
+    lost = λ c.
+        ap both (any_held (loses c t) (holds t) (λ s. is_of_loss c s.what) (λ s. refl)
+        script.spans.items);
     channels = record { from = are.from; delay = λ c d at. span_is lane c d at };
   }
 

@@ -1,4 +1,4 @@
-use Rattle.std.proofs.Common.{◌≡◌, ◌∙◌, subst, false}
+use Rattle.std.proofs.Common.{◌≡◌, ◌∙◌, ap, subst, false}
 use Rattle.model_history.specs.Rails.{both}
 use Rattle.run_step.specs.Shown.{IsShownAt}
 use Rattle.run_step.specs.TickLaws.{seen_pair, loss_pair, raw_pair, timer_stands, timer_pair}
@@ -8,14 +8,14 @@ use Rattle.run_step.proofs.gate_answer.answer.Goals as goal
 pub returns-in-Seen-clause-answers : goal.returns-in-Seen-clause-answers
 returns-in-Seen-clause-answers g c = λ lane w keys u inside shown of sent agree before.
     seen_pair w keys u c.args.moment.now.t c.args.gate.now _ c.in-Seen.place c.in-Seen.is
-    (subst (λ b. g.V.Signal.signal.rails c.known-in-Seen.result lane ≡ both b) (c.shown_in.ensures
+    (subst (λ x. g.V.Signal.signal.rails c.known-in-Seen.result lane ≡ x) (ap both c.shown_in.ensures
     ∙ subst (λ h. IsShownAt c.args.spans.now w c.args.moment.now.t h) c.in-Seen.is shown)
     (c.known-in-Seen.ensures lane inside))
 
 pub returns-in-Loss-clause-answers : goal.returns-in-Loss-clause-answers
 returns-in-Loss-clause-answers g c = λ lane w keys u inside shown of sent agree before.
     loss_pair w keys u c.args.moment.now.t c.args.gate.now _ c.in-Loss.channel c.in-Loss.is
-    (subst (λ b. g.V.Signal.signal.rails c.known-in-Loss.result lane ≡ both b) (c.lost_in.ensures
+    (subst (λ x. g.V.Signal.signal.rails c.known-in-Loss.result lane ≡ x) (ap both c.lost_in.ensures
     ∙ subst (λ h. IsShownAt c.args.spans.now w c.args.moment.now.t h) c.in-Loss.is shown)
     (c.known-in-Loss.ensures lane inside))
 

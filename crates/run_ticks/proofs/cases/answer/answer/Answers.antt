@@ -1,4 +1,4 @@
-use Rattle.std.proofs.Common.{◌≡◌, ◌∙◌, suc, subst, false, length}
+use Rattle.std.proofs.Common.{◌≡◌, ◌∙◌, ap, suc, subst, false, length}
 use Rattle.model_history.specs.Rails.{both}
 use Rattle.run_step.specs.TickLaws.{seen_pair, loss_pair, raw_pair, timer_stands, timer_pair}
 use Rattle.run_step.specs.TickLaws.{seal_stands, seal_pair}
@@ -12,7 +12,7 @@ pub returns-in-Seen : goal.returns-in-Seen
 returns-in-Seen g c = record {
   answers = λ lane w keys u inside world sent agree before.
       seen_pair w keys u c.args.t c.args.gate.now _ c.in-Seen.place c.in-Seen.is
-      (subst (λ b. g.V.Signal.signal.rails c.known-in-Seen.result lane ≡ both b) (c.shown_in.ensures
+      (subst (λ x. g.V.Signal.signal.rails c.known-in-Seen.result lane ≡ x) (ap both c.shown_in.ensures
       ∙ world.seen c.in-Seen.place)
       (c.known-in-Seen.ensures lane inside));
   shape = has_by c.args.gate.now (gate.Seen c.in-Seen.place) c.args.cell.now c.in-Seen.is tt;
@@ -25,7 +25,7 @@ pub returns-in-Loss : goal.returns-in-Loss
 returns-in-Loss g c = record {
   answers = λ lane w keys u inside world sent agree before.
       loss_pair w keys u c.args.t c.args.gate.now _ c.in-Loss.channel c.in-Loss.is
-      (subst (λ b. g.V.Signal.signal.rails c.known-in-Loss.result lane ≡ both b) (c.lost_in.ensures
+      (subst (λ x. g.V.Signal.signal.rails c.known-in-Loss.result lane ≡ x) (ap both c.lost_in.ensures
       ∙ world.lost c.in-Loss.channel)
       (c.known-in-Loss.ensures lane inside));
   shape = has_by c.args.gate.now (gate.Loss c.in-Loss.channel) c.args.cell.now c.in-Loss.is tt;
