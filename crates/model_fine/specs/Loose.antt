@@ -11,8 +11,8 @@ use Rattle.model_logic.specs.Logic.{key_tree, trip_tree}
 use Rattle.model_logic.specs.{Mean.World, Mean.mean, PairMean.PairWorld, PairMean.pair_mean}
 use Rattle.model_fine.specs.Fine.{AtFineTicks}
 
--- a line over a box, and two scripts: what the first shows is shown for certain, and nothing is that the
--- second does not
+-- a line over a box, and two scripts: what the first shows is shown for certain, and nothing is shown that
+-- the second does not show
 unfoldable pub loose_world_of : Line → Script → Script → Box → PairWorld
 loose_world_of line certain perhaps box = record {
   seen = λ p t. record {
