@@ -10,7 +10,7 @@ use Rattle.call_facts.specs.Lists.{if_one}
 one_at_most : (answer : Answer) (row : Row)
     → length (if_one (fails_so answer) row) + length (if_one (is_left answer) row) ≤ 1
 one_at_most (Held nodes) row = omega arith
-one_at_most (Fails timing) row = omega arith
+one_at_most (Fails timing every) row = omega arith
 one_at_most (Open nodes) row = omega arith
 
 -- so together they are no more than all

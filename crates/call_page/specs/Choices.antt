@@ -7,7 +7,8 @@ use Rattle.model_timing.specs.Timing.{TimingValues}
 use Rattle.judge_settle.specs.corner.Cuts.{IsCut}
 use Rattle.draw_page.specs.declared.page.FailingChoice.{FailingChoice}
 use Rattle.draw_page.specs.declared.page.Undecided.{Undecided}
-use Rattle.call_tables.specs.{declared.row.Row.Row, Table.is_failing, Table.is_open}
+use Rattle.call_tables.specs.{declared.row.Row.Row, Table.fails_for_every, Table.is_failing}
+use Rattle.call_tables.specs.Table.{is_open}
 use Rattle.call_page.specs.declared.parts.Part.{Part}
 use Rattle.call_facts.specs.{Drawings.IsPlayOf, Lists.At, Lists.EachOf, Lists.if_one}
 use Rattle.call_facts.specs.Told.{IsToldTime, IsToldStep, is_told, is_at_least}
@@ -46,6 +47,7 @@ pub record IsChoiceOf (line : Line) (scripts : List Script) (parts : List Part) 
   pub fault : IsFaultOfScript parts row.script c.fault
   pub script : At scripts row.script (λ s. c.script.items ≡ s.name)
   pub terminal : c.terminal.items ≡ terminal_name line row.terminal
+  pub every : c.every ≡ fails_for_every row.settled.answer
   pub choice : At scripts row.script (λ s. IsChoiceFor line s row.terminal c)
 
 -- ---- what is open
@@ -55,4 +57,3 @@ pub record IsUndecidedOf (line : Line) (scripts : List Script) (parts : List Par
   pub fault : IsFaultOfScript parts row.script u.fault
   pub script : u.script.items ≡ script_name scripts row.script
   pub terminal : u.terminal.items ≡ terminal_name line row.terminal
-  pub analyses : u.analyses ≡ row.settled.analyses

@@ -2,7 +2,7 @@
 use Rattle.std.specs.Prelude.{◌≡◌, ◌<◌, List, Some, slice_get}
 use Rattle.model_line.specs.{declared.line.Line.Line, declared.script.Script.Script}
 use Rattle.model_line.specs.Parameters.{terminal_count}
-use Rattle.judge_settle.specs.settle.Answers.{IsAnswer}
+use Rattle.judge_settle.specs.settle.Answers.{IsAnswered}
 use Rattle.call_tables.specs.{Rows.AreRows, declared.row.Row.Row}
 use Rattle.call_answer.specs.Study.{IsAnyStudy}
 use Rattle.call_facts.specs.FirstTicks.{AreFirsts}
@@ -13,7 +13,7 @@ pub record IsRowOf (line : Line) (scripts : List Script) (row : Row) : Type 0 wh
   pub script : Script
   pub at : slice_get scripts row.script ≡ Some script
   pub terminal : row.terminal < terminal_count line
-  pub answer : IsAnswer line script row.terminal row.settled.answer
+  pub answered : IsAnswered line script row.terminal row.settled
 
 -- the answers and first ticks of all obligations
 pub record AreKnown (known : Known) : Type 0 where

@@ -1,5 +1,5 @@
 -- The page of a study.
-use Rattle.std.specs.Prelude.{◌≡◌, ◌≤◌, ◌+◌, ◌*◌, ℕ, List, length, map}
+use Rattle.std.specs.Prelude.{◌≡◌, ◌≤◌, ◌+◌, ◌*◌, ℕ, List, count_by, length, map}
 use Rattle.std.specs.List.{flat_map, list_any}
 use Rattle.model_line.specs.{declared.line.Line.Line, declared.script.Script.Script}
 use Rattle.model_line.specs.Parameters.{terminal_count}
@@ -9,7 +9,8 @@ use Rattle.draw_page.specs.Pages.{page_of}
 use Rattle.draw_page.specs.declared.page.{Time.Time, Digest.Digest}
 use Rattle.file_study.specs.declared.sweeps.group.Group.{Group}
 use Rattle.call_answer.specs.{Answers.Answers, Answers.status_by, declared.done.Done.Done}
-use Rattle.call_tables.specs.{Rows.AreRows, Table.is_failing, Table.is_open}
+use Rattle.call_tables.specs.{Rows.AreRows, Table.fails_for_every, Table.is_failing}
+use Rattle.call_tables.specs.Table.{is_open}
 use Rattle.call_tables.specs.declared.row.Row.{Row}
 use Rattle.call_page.specs.declared.parts.Part.{Part}
 use Rattle.call_facts.specs.declared.firsts.Firsts.{Firsts}
@@ -33,6 +34,7 @@ pub record IsHeadOf (line : Line) (title : List ℕ) (page : Page) : Type 0 wher
 pub record AreCounts (line : Line) (scripts : List Script) (rows : List Row) (counts : Counts)
     : Type 0 where
   pub fails : counts.fails ≡ length (flat_map failing_row rows)
+  pub every : counts.every ≡ count_by (λ row. fails_for_every row.settled.answer) rows
   pub undecided : counts.undecided ≡ length (flat_map open_row rows)
   pub all : counts.held + counts.fails + counts.undecided ≡ length scripts * terminal_count line
 

@@ -7,7 +7,11 @@ use Rattle.model_line.specs.NamesByNumber.{terminal_name}
 use Rattle.judge_report.specs.Deadlines.{deadline_of}
 use Rattle.judge_settle.specs.declared.settle.answer.Answer.{Answer}
 use Rattle.judge_settle.specs.declared.settle.answer.Answer.TheVariants.{Held, Fails, Open}
+use Rattle.judge_settle.specs.declared.settle.answer.By.{By}
+use Rattle.judge_settle.specs.declared.settle.answer.By.TheVariants as by
 use Rattle.judge_verdict.specs.verdict.OneEach.{OneEach}
+use Rattle.draw_page.specs.declared.page.Means.{Means}
+use Rattle.draw_page.specs.declared.page.Means.TheVariants as means
 use Rattle.draw_page.specs.declared.page.{Standing.Standing, Verdict.Verdict}
 use Rattle.draw_page.specs.declared.page.Standing.TheVariants as standing
 use Rattle.call_tables.specs.declared.row.Row.{Row}
@@ -17,8 +21,16 @@ use Rattle.call_facts.specs.{FirstTicks.place, Lists.At}
 -- how an obligation with this answer stands
 abbrev pub standing_of : Answer → Standing
 standing_of (Held nodes) = standing.Held
-standing_of (Fails timing) = standing.Fails
+standing_of (Fails timing every) = standing.Fails
 standing_of (Open nodes) = standing.Open
+
+-- by what it was settled
+abbrev pub means_of : By → Means
+means_of by.Rules = means.Rules
+means_of by.Candidate = means.Candidate
+means_of by.Corner = means.Corner
+means_of by.Parts = means.Parts
+means_of by.Cases = means.Cases
 
 -- how far it is from failing: one that fails is at 0, one that is open at 1; one that is held is
 -- farther by what is to spare before its deadline, and farthest where it has none
@@ -28,7 +40,7 @@ distance_held Internal deadline (Some first) = 2 + (deadline - first)
 distance_held External deadline first = 8000
 
 abbrev pub distance : Answer → Kind → ℕ → Option ℕ → ℕ
-distance (Fails timing) kind deadline first = 0
+distance (Fails timing every) kind deadline first = 0
 distance (Open nodes) kind deadline first = 1
 distance (Held nodes) kind deadline first = distance_held kind deadline first
 
@@ -52,8 +64,8 @@ pub record IsWorst (line : Line) (scripts : List Script) (rows : List Row) (firs
       → distance_at line scripts rows firsts (start + worst) k
       ≤ distance_at line scripts rows firsts (start + j) k
 
--- the standing of each of these scripts at terminal k; and deadline and first ticks of the one that
--- does worst there
+-- the standing of each of these scripts at terminal k; and of the one that does worst there by what it
+-- was settled, its deadline and first ticks
 pub record IsVerdictOf (line : Line) (scripts : List Script) (rows : List Row)
     (firsts : List Firsts) (start count k : ℕ) (v : Verdict) : Type 0 where
   pub terminal : v.terminal.items ≡ terminal_name line k
@@ -62,5 +74,6 @@ pub record IsVerdictOf (line : Line) (scripts : List Script) (rows : List Row)
       v.standings.items
   pub worst : ℕ
   pub is_worst : IsWorst line scripts rows firsts start count k worst
+  pub by : At rows (place line (start + worst) k) (λ row. v.by ≡ means_of row.settled.by)
   pub deadline : At scripts (start + worst) (λ s. v.deadline ≡ deadline_of s.kind s.deadline)
   pub ticks : At firsts (place line (start + worst) k) (λ f. (v.may ≡ f.may) × (v.must ≡ f.must))

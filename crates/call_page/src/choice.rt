@@ -14,7 +14,7 @@ use crate::known::{name_of, script_at};
 use crate::parts::{Part, part_of_script};
 use call_answer::Study;
 use call_facts::{least_times, play, told_steps, told_times};
-use call_tables::Row;
+use call_tables::{Row, fails_for_every};
 use draw_page::FailingChoice;
 use judge_settle::corner::{Obligation, cut};
 use model_line::{Memory, Script, name_of_terminal};
@@ -87,6 +87,7 @@ fn choice_of(
         fault,
         script,
         terminal,
+        every: fails_for_every(row),
         told,
         least,
         steps,

@@ -55,7 +55,7 @@ fn push_choice(
         EachOf (IsChoiceOf study.now.line study.now.scripts.items parts.now)
         (before ++ failing_row row.now) choices.new.items) }
 {
-    if let Answer::Fails(timing) = &row.settled.answer {
+    if let Answer::Fails { timing, .. } = &row.settled.answer {
         let choice = choice(alloc, study, parts, row, timing)?;
         choices.push(choice)?;
     }

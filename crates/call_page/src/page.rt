@@ -144,7 +144,7 @@ fn choices_of(alloc: Global, study: &Study, parts: &[Part], rows: &[Row]) -> Res
 {
     let failing = choices(alloc, study, parts, rows)?;
     let undecided = undecided(alloc, study, parts, rows)?;
-    let counts = counts(rows.len(), failing.len(), undecided.len())?;
+    let counts = counts(rows.len(), failing.len(), every(rows), undecided.len())?;
     Ok(Choices {
         counts,
         failing,
@@ -152,11 +152,21 @@ fn choices_of(alloc: Global, study: &Study, parts: &[Part], rows: &[Row]) -> Res
     })
 }
 
-// So many obligations, of which so many fail, and so many are left open.
-fn counts(all: usize, fails: usize, left: usize) -> Result<Counts, Memory>
-    requires { fails + left ≤ all }
+// How many fail for every choice.
+fn every(rows: &[Row]) -> usize
+    ensures count { result ≡ count_by (λ row. fails_for_every_of row.settled.answer) rows.now }
+    ensures few { result ≤ length rows.now }
+{
+    rows.iter().filter(|row| fails_for_every(row)).count()
+}
+
+// So many obligations, of which so many fail, so many of them for every choice, and so many are left
+// open.
+fn counts(all: usize, fails: usize, every: usize, left: usize) -> Result<Counts, Memory>
+    requires shares { fails + left ≤ all }
+    requires every { every ≤ all }
     ensures { IfOk result (λ counts. counts
-        ≡ record { held = all - fails - left; fails = fails; undecided = left }) }
+        ≡ record { held = all - fails - left; fails = fails; every = every; undecided = left }) }
 {
     // more rows than fit a count would not fit any memory either
     if all > 4294967295 {
@@ -165,6 +175,7 @@ fn counts(all: usize, fails: usize, left: usize) -> Result<Counts, Memory>
     Ok(Counts {
         held: (all - fails - left) as u32,
         fails: fails as u32,
+        every: every as u32,
         undecided: left as u32,
     })
 }

@@ -66,6 +66,5 @@ fn one(alloc: Global, study: &Study, parts: &[Part], row: &Row) -> Result<Undeci
         fault: part_of_script(parts, row.script as usize),
         script,
         terminal,
-        analyses: row.settled.analyses,
     })
 }

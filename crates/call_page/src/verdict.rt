@@ -5,7 +5,8 @@ ghost use Rattle.model_line.specs.Parameters.{terminal_count};
 ghost use Rattle.judge_verdict.specs.verdict.OneEach.{OneEach};
 ghost use Rattle.call_page.specs.Facts.{AreKnown};
 ghost use Rattle.call_facts.specs.{FirstTicks.place, Lists.At};
-ghost use Rattle.call_page.specs.Verdicts.{IsVerdictOf, standing_of as standing_of_answer};
+ghost use Rattle.call_page.specs.Verdicts.{IsVerdictOf, means_of};
+ghost use Rattle.call_page.specs.Verdicts.{standing_of as standing_of_answer};
 
 use crate::known::{Known, firsts_at, row_at};
 use crate::parts::Part;
@@ -87,12 +88,14 @@ fn standing_of(answer: &Answer) -> Standing
 {
     match answer {
         Answer::Held(_) => Standing::Held,
-        Answer::Fails(_) => Standing::Fails,
+        Answer::Fails { .. } => Standing::Fails,
         Answer::Open(_) => Standing::Open,
     }
 }
 
-fn means(by: By) -> Means {
+fn means(by: By) -> Means
+    ensures { result ≡ means_of by }
+{
     match by {
         By::Rules => Means::Rules,
         By::Candidate => Means::Candidate,

@@ -73,7 +73,7 @@ fn distance(answer: &Answer, kind: Kind, deadline: u32, first: Option<u32>) -> u
     ensures { result ≡ distance_of answer.now kind deadline first }
 {
     match answer {
-        Answer::Fails(_) => 0,
+        Answer::Fails { .. } => 0,
         Answer::Open(_) => 1,
         Answer::Held(_) => distance_held(kind, deadline, first),
     }

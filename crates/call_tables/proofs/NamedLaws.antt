@@ -42,12 +42,12 @@ may_stand : (line : Line) (script : Script) (k : ℕ) (answer : Answer) → k < 
     → IsAnswer line script k answer
     → All (MayStand line) (failing_named (terminal_name line k) answer)
 may_stand line script k (Held nodes) there is = All-nil (MayStand line)
-may_stand line script k (Fails timing) there is =
+may_stand line script k (Fails timing every) there is =
     All-cons (MayStand line) (record { name = terminal_name line k; timing = timing }) []
     (record {
       plain_name = plain_name line k there;
-      inside = is.inside;
-      ascending = is.ascending;
+      inside = is.failing.inside;
+      ascending = is.failing.ascending;
     })
     (All-nil (MayStand line))
 may_stand line script k (Open nodes) there is = All-nil (MayStand line)
@@ -56,10 +56,10 @@ fails_there : (line : Line) (script : Script) (k : ℕ) (answer : Answer)
     → IsAnswer line script k answer
     → All (FailsWhereNamed line script) (failing_named (terminal_name line k) answer)
 fails_there line script k (Held nodes) is = All-nil (FailsWhereNamed line script)
-fails_there line script k (Fails timing) is =
+fails_there line script k (Fails timing every) is =
     All-cons (FailsWhereNamed line script)
     (record { name = terminal_name line k; timing = timing }) []
-    (record { terminal = k; named = refl; fails = is })
+    (record { terminal = k; named = refl; fails = is.failing })
     (All-nil (FailsWhereNamed line script))
 fails_there line script k (Open nodes) is = All-nil (FailsWhereNamed line script)
 
@@ -120,7 +120,7 @@ with_row : (line : Line) (o end : ℕ) (name : List ℕ) (answer : Answer)
     → AreNamed line (o + 1) end timings
     → AreNamed line o end (failing_named name answer ++ timings)
 with_row line o end name (Held nodes) timings named early are = later line o end timings are
-with_row line o end name (Fails timing) timings named early are =
+with_row line o end name (Fails timing every) timings named early are =
     with_own line o end (record { name = name; timing = timing }) timings named early are
 with_row line o end name (Open nodes) timings named early are = later line o end timings are
 
@@ -165,7 +165,7 @@ names_differ line timings are j k less below same =
 
 few_more : (name : List ℕ) (answer : Answer) → length (failing_named name answer) ≤ 1
 few_more name (Held nodes) = omega arith
-few_more name (Fails timing) = omega arith
+few_more name (Fails timing every) = omega arith
 few_more name (Open nodes) = omega arith
 
 few_timings : (line : Line) (rows : List Row)

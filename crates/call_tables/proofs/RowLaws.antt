@@ -81,5 +81,5 @@ module _ (line : Line) (scripts : List Script) (rows : List Row) (s : ℕ)
         terminal = sym same.1;
         below = below;
         answer = subst (λ (i : ℕ). IsAnswer line is.script i row.settled.answer) (sym same.1)
-            is.answer;
+            is.answered.answer;
       }

@@ -56,10 +56,10 @@ are_numbers order line timing inside = record {
 can_be_said : DeclaredIntervalsAreInOrder → (line : Line) (script : Script) (k : ℕ)
     (answer : Answer) → IsAnswer line script k answer → IsSettleResult line (result_of answer)
 can_be_said order line script k (Held nodes) is = is.written
-can_be_said order line script k (Fails timing) is = record {
-  inside = is.inside.steps;
-  ascending = is.ascending;
-  are = are_numbers order line timing is.inside;
+can_be_said order line script k (Fails timing every) is = record {
+  inside = is.failing.inside.steps;
+  ascending = is.failing.ascending;
+  are = are_numbers order line timing is.failing.inside;
 }
 can_be_said order line script k (Open nodes) is = is.written
 
@@ -106,8 +106,8 @@ supported : HaveOneHistory → (line : Line) (script : Script) (k : ℕ) (answer
     → IsAnswer line script k answer → IsSupported line script k (result_of answer)
 supported once line script k (Held nodes) early there is =
     record { tree = is.tree; are = is.are; sound = is.sound }
-supported once line script k (Fails timing) early there is =
-    refutes once line script k timing early there is
+supported once line script k (Fails timing every) early there is =
+    refutes once line script k timing early there is.failing
 supported once line script k (Open nodes) early there is =
     record { tree = is.tree; are = is.are; sound = is.sound }
 

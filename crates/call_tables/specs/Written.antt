@@ -25,7 +25,7 @@ rows_of line rows s =
 -- an answer as a text of settled trees says it
 abbrev pub result_of : Answer → SettleResult
 result_of (Held nodes) = tree nodes.items
-result_of (Fails timing) = fails timing.steps timing.values
+result_of (Fails timing every) = fails timing.steps timing.values
 result_of (Open nodes) = tree nodes.items
 
 -- those of several rows, and of each script in order
@@ -45,7 +45,7 @@ trees_text line scripts rows = settle_text line scripts (results_by_script line 
 -- the timing of an answer, if it is one, under this name
 abbrev pub failing_named : List ℕ → Answer → List NamedValues
 failing_named name (Held nodes) = []
-failing_named name (Fails timing) = record { name = name; timing = timing } ∷ []
+failing_named name (Fails timing every) = record { name = name; timing = timing } ∷ []
 failing_named name (Open nodes) = []
 
 -- that of a row, under the name of its terminal

@@ -21,5 +21,5 @@ pub use recheck::recheck_settled;
 pub use row::Row;
 pub use rows::settle_all;
 pub use timings::settle_timings;
-pub use told::{is_open, settle_table, status_of, table_of};
+pub use told::{fails_for_every, is_open, settle_table, status_of, table_of};
 pub use trees::settle_trees;

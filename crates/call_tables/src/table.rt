@@ -6,13 +6,12 @@ ghost use Rattle.model_line.specs.Parameters.{terminal_count};
 ghost use Rattle.call_tables.specs.Rows.{AreRows};
 ghost use Rattle.call_tables.specs.Table.{answer_word as word_of_answer};
 ghost use Rattle.call_tables.specs.Table.{row_record, table_text as table_text_of};
-ghost use Rattle.call_tables.specs.Table.{timing_name};
+ghost use Rattle.call_tables.specs.Table.{fails_for as fails_for_of, timing_name};
 
 use crate::row::Row;
 use base_records::push_record;
 use call_answer::Study;
-use itoa::Buffer;
-use judge_settle::settle::{Answer, by_word};
+use judge_settle::settle::{Answer, by_word, choices_word};
 use model_line::Memory;
 use std::alloc::Global;
 
@@ -30,8 +29,8 @@ pub fn table_text(alloc: Global, study: &Study, rows: &[Row]) -> Result<Vec<u8>,
             b"script",
             b"terminal",
             b"answer",
+            b"fails_for",
             b"by",
-            b"analyses",
             b"timing",
         ],
     )?;
@@ -52,8 +51,6 @@ fn push_row(alloc: Global, text: &mut Vec<u8>, study: &Study, row: &Row) -> Resu
     let script = study.scripts[row.script as usize].name;
     let terminal = study.line.terminals[row.terminal as usize].name;
     let answer = &row.settled.answer;
-    let mut digits = Buffer::new();
-    let analyses = digits.format(row.settled.analyses).as_bytes();
     push_record(
         alloc,
         text,
@@ -61,8 +58,8 @@ fn push_row(alloc: Global, text: &mut Vec<u8>, study: &Study, row: &Row) -> Resu
             script.bytes(),
             terminal.bytes(),
             answer_word(answer),
+            fails_for(answer),
             by_word(row.settled.by),
-            analyses,
             timing_of(answer, terminal.bytes()),
         ],
     )
@@ -74,8 +71,18 @@ fn answer_word(answer: &Answer) -> &'static [u8]
 {
     match answer {
         Answer::Held(_) => b"held",
-        Answer::Fails(_) => b"fails",
+        Answer::Fails { .. } => b"fails",
         Answer::Open(_) => b"open",
+    }
+}
+
+// For which choices it fails.
+fn fails_for(answer: &Answer) -> &'static [u8]
+    ensures { result.now ≡ fails_for_of answer.now }
+{
+    match answer {
+        Answer::Fails { every, .. } => choices_word(*every),
+        Answer::Held(_) | Answer::Open(_) => b"",
     }
 }
 
@@ -84,7 +91,7 @@ fn timing_of<'a>(answer: &Answer, terminal: &'a [u8]) -> &'a [u8]
     ensures { result.now ≡ timing_name answer.now terminal.now }
 {
     match answer {
-        Answer::Fails(_) => terminal,
+        Answer::Fails { .. } => terminal,
         Answer::Held(_) | Answer::Open(_) => b"",
     }
 }

@@ -71,7 +71,7 @@ fn push_failing(
     ensures { OnOk result (map values_of timings.new.items
         ≡ map values_of timings.old.items ++ failing_of line.now row.now) }
 {
-    if let Answer::Fails(timing) = &row.settled.answer {
+    if let Answer::Fails { timing, .. } = &row.settled.answer {
         let name = line.terminals[row.terminal as usize].name;
         let timing = timing.copy(alloc)?;
         timings.push(NamedTiming { name, timing })?;

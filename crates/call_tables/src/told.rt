@@ -3,6 +3,7 @@
 ghost use Rattle.std.specs.Prelude.{◌≡◌, IfOk};
 ghost use Rattle.std.specs.List.{list_any};
 ghost use Rattle.call_answer.specs.{Answers.Says, Answers.status_by};
+ghost use Rattle.call_tables.specs.Table.{fails_for_every as fails_for_every_of};
 ghost use Rattle.call_tables.specs.Table.{is_failing as row_fails, is_open as row_is_open};
 ghost use Rattle.call_tables.specs.{Rows.AreRows, Settled.settle_answer, Settled.IsTableOf};
 ghost use Rattle.call_answer.specs.Study.{IsAnyStudy};
@@ -69,7 +70,7 @@ fn is_failing(row: &Row) -> bool
     ensures { result ≡ row_fails row.now }
 {
     match row.settled.answer {
-        Answer::Fails(_) => true,
+        Answer::Fails { .. } => true,
         Answer::Held(_) | Answer::Open(_) => false,
     }
 }
@@ -80,6 +81,16 @@ pub fn is_open(row: &Row) -> bool
 {
     match row.settled.answer {
         Answer::Open(_) => true,
-        Answer::Held(_) | Answer::Fails(_) => false,
+        Answer::Held(_) | Answer::Fails { .. } => false,
+    }
+}
+
+/// Whether an obligation fails for every choice.
+pub fn fails_for_every(row: &Row) -> bool
+    ensures { result ≡ fails_for_every_of row.now.settled.answer }
+{
+    match row.settled.answer {
+        Answer::Fails { every, .. } => every,
+        Answer::Held(_) | Answer::Open(_) => false,
     }
 }

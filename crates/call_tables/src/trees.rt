@@ -93,7 +93,7 @@ fn claim_of(alloc: Global, answer: &Answer) -> Result<TreeClaim, Memory>
 {
     match answer {
         Answer::Held(nodes) => Ok(TreeClaim::Tree(Vec::from_slice(alloc, nodes.as_slice())?)),
-        Answer::Fails(timing) => claim_of_timing(alloc, timing),
+        Answer::Fails { timing, .. } => claim_of_timing(alloc, timing),
         Answer::Open(nodes) => Ok(TreeClaim::Tree(Vec::from_slice(alloc, nodes.as_slice())?)),
     }
 }

@@ -10,7 +10,7 @@ use Rattle.model_line.specs.NamesByNumber.{kind_text, terminal_name}
 use Rattle.file_study.specs.declared.sweeps.group.Group.{Group}
 use Rattle.call_answer.specs.{Answers.Answers, Answers.status_by, declared.done.Done.Done}
 use Rattle.call_verdicts.specs.{Findings.AreFindings, Verdicts.is_failing, Verdicts.is_open}
-use Rattle.call_verdicts.specs.{Verdicts.fails_so, Verdicts.is_left}
+use Rattle.call_verdicts.specs.Verdicts.{fails_for_every, fails_so, is_left}
 use Rattle.call_verdicts.specs.Records.{margin_text, trip_text}
 use Rattle.call_verdicts.specs.Stretches.{is_held, place_label, stretches, values_label}
 use Rattle.call_verdicts.specs.Worst.{place_text, worst_place}
@@ -38,17 +38,18 @@ verdicts_at scripts k found = filter_map (verdict_at scripts k) found
 abbrev pub faults_header : List (List ℕ)
 faults_header =
     codes "fault" ∷ codes "terminal" ∷ codes "kind" ∷ codes "scripts" ∷ codes "held"
-    ∷ codes "fails" ∷ codes "open" ∷ codes "place" ∷ codes "trip_ms" ∷ codes "margin_ms"
-    ∷ codes "not_held" ∷ codes "not_held_ms" ∷ []
+    ∷ codes "fails" ∷ codes "fails_every" ∷ codes "open" ∷ codes "place" ∷ codes "trip_ms"
+    ∷ codes "margin_ms" ∷ codes "not_held" ∷ codes "not_held_ms" ∷ []
 
 -- The fields of a fault at a terminal, of which these are the verdicts: how many there are, are
--- held, fail and are open; of the worst place which it is, its trip and its margin; and where it is
+-- held, fail, fail for every choice, and are open; of the worst place which it is, its trip and its margin; and where it is
 -- not held, by the numbers of places and by the values of what is swept.
 unfoldable pub fault_record : Line → Group → ℕ → List Verdict → List (List ℕ)
 fault_record line group k vs =
     group.name ∷ terminal_name line k ∷ get_or (map (λ v. kind_text v.kind) vs) 0 []
     ∷ decimal (length vs) ∷ decimal (count_by is_held vs)
     ∷ decimal (count_by (λ v. fails_so v.standing) vs)
+    ∷ decimal (count_by (λ v. fails_for_every v.standing) vs)
     ∷ decimal (count_by (λ v. is_left v.standing) vs)
     ∷ place_text vs (worst_place line.horizon vs)
     ∷ get_or (map (λ v. trip_text line.tick_us v.first_must) vs) (worst_place line.horizon vs) []

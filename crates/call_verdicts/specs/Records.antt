@@ -8,7 +8,7 @@ use Rattle.model_line.specs.declared.script.Kind.{Kind}
 use Rattle.model_line.specs.declared.script.Kind.TheVariants.{Internal, External}
 use Rattle.model_line.specs.NamesByNumber.{kind_text, script_name, terminal_name}
 use Rattle.file_study.specs.declared.sweeps.group.Group.{Group}
-use Rattle.judge_settle.specs.settle.Words.{by_word}
+use Rattle.judge_settle.specs.settle.Words.{by_word, choices_word}
 use Rattle.base_text.specs.lines.Milliseconds.{ticks_text}
 use Rattle.file_study.specs.sweeps.Places.{PlaceValues, place_in}
 use Rattle.call_verdicts.specs.declared.finding.{Finding.Finding, Standing.Standing}
@@ -16,8 +16,14 @@ use Rattle.call_verdicts.specs.declared.finding.Standing.TheVariants.{Held, Fail
 
 abbrev pub answer_word : Standing → List ℕ
 answer_word Held = codes "held"
-answer_word Fails = codes "fails"
+answer_word (Fails every) = codes "fails"
 answer_word Open = codes "open"
+
+-- for which choices it fails
+abbrev pub fails_for : Standing → List ℕ
+fails_for Held = []
+fails_for (Fails every) = choices_word every
+fails_for Open = []
 
 -- times with `/` between them
 abbrev pub times_text : ℕ → List ℕ → List ℕ
@@ -55,7 +61,7 @@ margin_text tick_us External deadline first = []
 abbrev pub header_record : List (List ℕ)
 header_record =
     codes "fault" ∷ codes "place" ∷ codes "script" ∷ codes "terminal" ∷ codes "kind"
-    ∷ codes "answer" ∷ codes "by" ∷ codes "swept_ms" ∷ codes "trip_ms" ∷ codes "margin_ms" ∷ []
+    ∷ codes "answer" ∷ codes "fails_for" ∷ codes "by" ∷ codes "swept_ms" ∷ codes "trip_ms" ∷ codes "margin_ms" ∷ []
 
 -- the fields of a finding
 unfoldable pub finding_record : Line → List Script → List Group → Finding → List (List ℕ)
@@ -63,7 +69,7 @@ finding_record line scripts groups f =
     fault_name (place_in groups f.script) ∷ number_text (place_in groups f.script)
     ∷ script_name scripts f.script ∷ terminal_name line f.terminal
     ∷ get_or (map (λ s. kind_text s.kind) scripts) f.script [] ∷ answer_word f.standing
-    ∷ by_word f.by ∷ swept_text line.tick_us (place_in groups f.script)
+    ∷ fails_for f.standing ∷ by_word f.by ∷ swept_text line.tick_us (place_in groups f.script)
     ∷ trip_text line.tick_us f.first_must
     ∷ get_or (map (λ s. margin_text line.tick_us s.kind s.deadline f.first_must) scripts) f.script []
     ∷ []

@@ -10,12 +10,18 @@ use Rattle.call_verdicts.specs.declared.finding.Standing.TheVariants.{Held, Fail
 
 abbrev pub fails_so : Standing → Bool
 fails_so Held = false
-fails_so Fails = true
+fails_so (Fails every) = true
 fails_so Open = false
+
+-- for every choice
+abbrev pub fails_for_every : Standing → Bool
+fails_for_every Held = false
+fails_for_every (Fails every) = every
+fails_for_every Open = false
 
 abbrev pub is_left : Standing → Bool
 is_left Held = false
-is_left Fails = false
+is_left (Fails every) = false
 is_left Open = true
 
 abbrev pub is_failing : Finding → Bool

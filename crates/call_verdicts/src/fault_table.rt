@@ -12,7 +12,7 @@ use crate::fault_fields::{kind_of, told_at};
 use crate::fields::number_words;
 use crate::finding::Finding;
 use crate::stretches::{places_text, values_text};
-use crate::verdict::{Verdict, failing_count, held_count, open_count, verdicts_of};
+use crate::verdict::{Verdict, every_count, failing_count, held_count, open_count, verdicts_of};
 use crate::worst::{number_at, worst_place};
 use base_records::push_record;
 use file_study::sweeps::Group;
@@ -46,6 +46,7 @@ fn push_header(alloc: Global, text: &mut Vec<u8>) -> Result<(), Memory>
             b"scripts",
             b"held",
             b"fails",
+            b"fails_every",
             b"open",
             b"place",
             b"trip_ms",
@@ -126,7 +127,7 @@ fn push_verdicts(
 {
     let (fault, name) = (group.name, line.terminals[terminal].name);
     let (mut scripts, mut held) = (Buffer::new(), Buffer::new());
-    let (mut failing, mut open) = (Buffer::new(), Buffer::new());
+    let (mut failing, mut every, mut open) = (Buffer::new(), Buffer::new(), Buffer::new());
     let worst = worst_place(line.horizon, verdicts);
     let mut place = Buffer::new();
     let places = places_text(alloc, verdicts)?;
@@ -142,6 +143,7 @@ fn push_verdicts(
             scripts.format(verdicts.len()).as_bytes(),
             held.format(held_count(verdicts)).as_bytes(),
             failing.format(failing_count(verdicts)).as_bytes(),
+            every.format(every_count(verdicts)).as_bytes(),
             open.format(open_count(verdicts)).as_bytes(),
             number_words(&mut place, number_at(verdicts, worst)),
             told.trip.as_slice(),

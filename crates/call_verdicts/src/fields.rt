@@ -3,13 +3,14 @@
 ghost use Rattle.std.specs.Prelude.{◌≡◌, ◌++◌, ◌∷◌, [], IfOk, IfSome, None, OnOk, Some, decimal};
 ghost use Rattle.model_line.specs.declared.script.Kind.TheVariants.{Internal};
 ghost use Rattle.base_text.specs.lines.Milliseconds.{ticks_text};
-ghost use Rattle.call_verdicts.specs.Records.{answer_word as word_of_answer};
+ghost use Rattle.call_verdicts.specs.Records.{answer_word as word_of_answer, fails_for};
 ghost use Rattle.call_verdicts.specs.Records.{margin_text as margin_text_of, times_text};
 ghost use Rattle.call_verdicts.specs.Records.{trip_text as trip_text_of};
 
 use crate::finding::Standing;
 use base_text::lines::push_ticks;
 use itoa::Buffer;
+use judge_settle::settle::choices_word;
 use model_line::{Kind, Memory};
 use std::alloc::Global;
 
@@ -132,7 +133,17 @@ pub fn answer_word(standing: Standing) -> &'static [u8]
 {
     match standing {
         Standing::Held => b"held",
-        Standing::Fails => b"fails",
+        Standing::Fails { .. } => b"fails",
         Standing::Open => b"open",
+    }
+}
+
+/// For which choices it fails: `every` or `some`; nothing where it does not.
+pub fn fails_for_word(standing: Standing) -> &'static [u8]
+    ensures { result.now ≡ fails_for standing }
+{
+    match standing {
+        Standing::Fails { every } => choices_word(every),
+        Standing::Held | Standing::Open => b"",
     }
 }

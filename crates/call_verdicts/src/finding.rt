@@ -8,7 +8,7 @@ ghost use Rattle.net_gates.specs.NetOf.{IsNetOf};
 ghost use Rattle.run_step.specs.Runs.{IsTheHistory};
 ghost use Rattle.judge_verdict.specs.verdict.PairWavesOf.{pair_history};
 ghost use Rattle.judge_verdict.specs.verdict.OneEach.{OneEach};
-ghost use Rattle.judge_settle.specs.settle.Answers.{IsAnswer, AreAnswers};
+ghost use Rattle.judge_settle.specs.settle.Answers.{AreAnswers, IsAnswer, IsAnswered};
 ghost use Rattle.call_verdicts.specs.Cases.{IsCases};
 ghost use Rattle.call_verdicts.specs.Findings.{AreFindings, IsFinding, IsStanding};
 ghost use Rattle.judge_report.specs.Firsts.{IsFirstMust};
@@ -24,9 +24,9 @@ use std::alloc::Global;
 pub enum Standing {
     /// Every choice of fractions inside the declared intervals meets it.
     Held,
-    /// A timing inside, which may have steps, does not meet it.
-    Fails,
-    /// Nothing is said.
+    /// A timing inside, which may have steps, does not meet it. Where `every`, no choice does.
+    Fails { every: bool },
+    /// The interval rules leave it unknown, and each of the line's candidates meets it.
     Open,
 }
 
@@ -120,8 +120,8 @@ fn find(cases: &Cases, waves: &PairWaves, i: usize, terminal: u32, settled: &Set
     requires history { (script : Script) → slice_get cases.now.scripts.now i ≡ Some script →
         IsTheHistory cases.now.compiled.line.now script (declared_box cases.now.compiled.line.now)
         (pair_history waves.now) }
-    requires answer { (script : Script) → slice_get cases.now.scripts.now i ≡ Some script →
-        IsAnswer cases.now.compiled.line.now script terminal settled.now.answer }
+    requires answered { (script : Script) → slice_get cases.now.scripts.now i ≡ Some script →
+        IsAnswered cases.now.compiled.line.now script terminal settled.now }
     ensures { IsFinding cases.now.compiled.line.now cases.now.scripts.now
         (i * terminal_count cases.now.compiled.line.now + terminal) result }
 {
@@ -140,7 +140,7 @@ fn standing_of(answer: &Answer) -> Standing
 {
     match answer {
         Answer::Held(_) => Standing::Held,
-        Answer::Fails(_) => Standing::Fails,
+        Answer::Fails { every, .. } => Standing::Fails { every: *every },
         Answer::Open(_) => Standing::Open,
     }
 }

@@ -7,7 +7,7 @@ ghost use Rattle.call_verdicts.specs.Findings.{AreFindings};
 ghost use Rattle.call_verdicts.specs.Records.{finding_record, header_record, verdicts_text};
 
 use crate::cases::Cases;
-use crate::fields::{answer_word, number_words, told_of_trip};
+use crate::fields::{answer_word, fails_for_word, number_words, told_of_trip};
 use crate::finding::Finding;
 use crate::told::{fault_name, number_in, swept_text};
 use base_records::push_record;
@@ -46,6 +46,7 @@ fn push_header(alloc: Global, text: &mut Vec<u8>) -> Result<(), Memory>
             b"terminal",
             b"kind",
             b"answer",
+            b"fails_for",
             b"by",
             b"swept_ms",
             b"trip_ms",
@@ -79,6 +80,7 @@ fn push_finding<'a>(
     let fault: &'a [u8] = fault_name(place);
     let kind_said: &'a [u8] = kind_word(kind);
     let answer: &'a [u8] = answer_word(found.standing);
+    let fails_for: &'a [u8] = fails_for_word(found.standing);
     let by: &'a [u8] = by_word(found.by);
     push_record(
         alloc,
@@ -90,6 +92,7 @@ fn push_finding<'a>(
             terminal.bytes(),
             kind_said,
             answer,
+            fails_for,
             by,
             swept.as_slice(),
             told.trip.as_slice(),

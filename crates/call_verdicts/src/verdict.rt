@@ -4,7 +4,7 @@ ghost use Rattle.std.specs.Prelude.{◌≡◌, ◌++◌, [], IfOk, OnOk};
 ghost use Rattle.std.specs.List.{cons_option, count_by};
 ghost use Rattle.call_verdicts.specs.Faults.{verdict_at, verdicts_at};
 ghost use Rattle.call_verdicts.specs.Stretches.{is_held as verdict_is_held};
-ghost use Rattle.call_verdicts.specs.Verdicts.{fails_so, is_left};
+ghost use Rattle.call_verdicts.specs.Verdicts.{fails_for_every, fails_so, is_left};
 
 use crate::finding::{Finding, Standing};
 use model_line::{Kind, Memory, Script};
@@ -92,6 +92,19 @@ pub fn failing_count(verdicts: &[Verdict]) -> usize
     count
 }
 
+/// How many fail for every choice.
+pub fn every_count(verdicts: &[Verdict]) -> usize
+    ensures { result ≡ count_by (λ v. fails_for_every v.standing) verdicts.now }
+{
+    let mut count = 0;
+    for one in verdicts {
+        if fails_always(one.standing) {
+            count += 1;
+        }
+    }
+    count
+}
+
 /// How many are open.
 pub fn open_count(verdicts: &[Verdict]) -> usize
     ensures { result ≡ count_by (λ v. is_left v.standing) verdicts.now }
@@ -114,7 +127,16 @@ pub fn is_held(verdict: &Verdict) -> bool
 fn fails(standing: Standing) -> bool
     ensures { result ≡ fails_so standing }
 {
-    matches!(standing, Standing::Fails)
+    matches!(standing, Standing::Fails { .. })
+}
+
+fn fails_always(standing: Standing) -> bool
+    ensures { result ≡ fails_for_every standing }
+{
+    match standing {
+        Standing::Fails { every } => every,
+        Standing::Held | Standing::Open => false,
+    }
 }
 
 fn is_open(standing: Standing) -> bool

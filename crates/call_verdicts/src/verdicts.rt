@@ -59,7 +59,7 @@ fn is_failing(one: &Finding) -> bool
     ensures { result ≡ finding_fails one.now }
 {
     match one.standing {
-        Standing::Fails => true,
+        Standing::Fails { .. } => true,
         Standing::Held | Standing::Open => false,
     }
 }
@@ -69,6 +69,6 @@ fn is_open(one: &Finding) -> bool
 {
     match one.standing {
         Standing::Open => true,
-        Standing::Held | Standing::Fails => false,
+        Standing::Held | Standing::Fails { .. } => false,
     }
 }

@@ -1,5 +1,5 @@
 -- The choices of delays that fail an obligation.
-use Rattle.std.specs.Prelude.{◌++◌, ℕ, List, [], ◌∷◌, codes, Vec}
+use Rattle.std.specs.Prelude.{◌++◌, ℕ, Bool, true, false, List, [], ◌∷◌, codes, Vec}
 use Rattle.std.specs.declared.alloc.Global.{Global}
 use Rattle.std.specs.List.{flat_map}
 use Rattle.base_markup.specs.declared.html.tag.Tag.TheVariants as tag
@@ -20,6 +20,16 @@ choice_heading_html choice =
     plain_html tag.Heading3
     (link_html (anchor.Fault choice.fault) choice.script.items ++ words_text (codes " at ")
     ++ words_text choice.terminal.items)
+
+-- that every choice fails, where it does
+unfoldable pub every_html : List ℕ
+every_html =
+    words_in_html tag.Paragraph
+    (codes "Every choice inside the declared intervals fails it; this is one of them.")
+
+abbrev pub some_every_html : Bool → List ℕ
+some_every_html true = every_html
+some_every_html false = []
 
 -- ---- the times that matter: the number here, and the declared interval
 
@@ -92,8 +102,8 @@ least_html (name ∷ names) = some_least_html (name ∷ names)
 unfoldable pub choice_html : ℕ → FailingChoice → List ℕ
 choice_html tick_us choice =
     plain_html tag.Section
-    (choice_heading_html choice ++ some_told_html tick_us choice.told.items
-    ++ some_steps_html tick_us choice.steps.items ++ least_html choice.least.items
+    (choice_heading_html choice ++ some_every_html choice.every
+    ++ some_told_html tick_us choice.told.items ++ some_steps_html tick_us choice.steps.items ++ least_html choice.least.items
     ++ figure_html (drawing_seen choice.play))
 
 unfoldable pub none_failing_html : List ℕ

@@ -51,14 +51,17 @@ held_html count = count_html (codes "tile yes") count (codes "held for every cho
 unfoldable pub failing_html : ℕ → List ℕ
 failing_html count = count_html (codes "tile no") count (codes "fail for some choice")
 
+unfoldable pub every_html : ℕ → List ℕ
+every_html count = count_html (codes "tile no") count (codes "of these for every choice")
+
 unfoldable pub undecided_html : ℕ → List ℕ
 undecided_html count = count_html (codes "tile unknown") count (codes "open")
 
 unfoldable pub counts_html : Counts → ℕ → Option LeastMargin → List ℕ
 counts_html counts tick_us least =
     classed_html tag.Division (codes "tiles")
-    (held_html counts.held ++ failing_html counts.fails ++ undecided_html counts.undecided
-    ++ least_html tick_us least)
+    (held_html counts.held ++ failing_html counts.fails ++ every_html counts.every
+    ++ undecided_html counts.undecided ++ least_html tick_us least)
 
 unfoldable pub meaning_html : List ℕ
 meaning_html = said_in_html tag.Paragraph (codes "small") (codes "Held: every choice of times inside the declared intervals meets the obligation, fractions of a tick included. Fails: a choice inside them, shown below, does not. Open: neither is known.")

@@ -2,7 +2,8 @@
 
 ghost use Rattle.std.specs.Prelude.{◌≡◌, IfOk};
 ghost use Rattle.std.specs.List.{flat_map};
-ghost use Rattle.draw_page.specs.Choices.{choice_heading_html, choice_html, failing_html};
+ghost use Rattle.draw_page.specs.Choices.{choice_heading_html, choice_html, every_html};
+ghost use Rattle.draw_page.specs.Choices.{failing_html, some_every_html};
 ghost use Rattle.draw_page.specs.Choices.{least_html, least_name_html, middle_html, name_html};
 ghost use Rattle.draw_page.specs.Choices.{none_failing_html, some_failing_html, some_least_html};
 ghost use Rattle.draw_page.specs.Choices.{some_steps_html, step_row_html, steps_html, told_html};
@@ -56,8 +57,9 @@ fn choices(alloc: Global, tick_us: u32, failing: &[FailingChoice]) -> Result<Htm
 fn one_choice(alloc: Global, tick_us: u32, choice: &FailingChoice) -> Result<Html, AllocError>
     ensures { IfOk result (λ html. html.text.items ≡ choice_html tick_us choice.now) }
 {
+    let head = joined(heading(alloc, choice), some_every(alloc, choice.every));
     let told = joined(
-        heading(alloc, choice),
+        head,
         some_told(alloc, tick_us, choice.told.as_slice()),
     );
     let steps = joined(told, some_steps(alloc, tick_us, choice.steps.as_slice()));
@@ -78,6 +80,28 @@ fn heading(alloc: Global, choice: &FailingChoice) -> Result<Html, AllocError>
     let at = joined(script, Html::words(alloc, b" at "));
     let terminal = Html::words(alloc, choice.terminal.as_slice());
     around(alloc, Tag::Heading3, joined(at, terminal))
+}
+
+// That every choice fails, if it does.
+fn some_every(alloc: Global, every: bool) -> Result<Html, AllocError>
+    ensures { IfOk result (λ html. html.text.items ≡ some_every_html every) }
+{
+    if every {
+        every_fails(alloc)
+    } else {
+        Ok(Html::new(alloc))
+    }
+}
+
+#[tactic(auto, unfolding(crate::specs::Choices::every_html))]
+fn every_fails(alloc: Global) -> Result<Html, AllocError>
+    ensures { IfOk result (λ html. html.text.items ≡ every_html) }
+{
+    words_in(
+        alloc,
+        Tag::Paragraph,
+        b"Every choice inside the declared intervals fails it; this is one of them.",
+    )
 }
 
 // The times that matter, if any does.

@@ -5,7 +5,8 @@ ghost use Rattle.base_markup.specs.declared.html.tag.Tag.TheVariants as tag;
 ghost use Rattle.base_markup.specs.{html.Words.words_text};
 ghost use Rattle.draw_page.specs.Elements.{said_in_html};
 ghost use Rattle.draw_page.specs.Headings.{answer_links_html, contents_html, count_html};
-ghost use Rattle.draw_page.specs.Headings.{counts_html, failing_html, header_html, held_html};
+ghost use Rattle.draw_page.specs.Headings.{counts_html, every_html, failing_html, header_html};
+ghost use Rattle.draw_page.specs.Headings.{held_html};
 ghost use Rattle.draw_page.specs.Headings.{least_html, link_item_html, meaning_html, notes_html};
 ghost use Rattle.draw_page.specs.Headings.{other_links_html, subject_said, undecided_html};
 ghost use Rattle.draw_page.specs.Headings.{tile_class as class_of_tile, tile_html, zone_said};
@@ -87,7 +88,8 @@ fn counts(
     ensures { IfOk result (λ html. html.text.items ≡ counts_html counts tick_us least.now) }
 {
     let failing = joined(held(alloc, counts.held), failing(alloc, counts.fails));
-    let undecided = joined(failing, undecided(alloc, counts.undecided));
+    let every = joined(failing, every(alloc, counts.every));
+    let undecided = joined(every, undecided(alloc, counts.undecided));
     let all = joined(undecided, least_tile(alloc, tick_us, least));
     classed_around(alloc, Tag::Division, b"tiles", all)
 }
@@ -104,6 +106,13 @@ fn failing(alloc: Global, count: u32) -> Result<Html, AllocError>
     ensures { IfOk result (λ html. html.text.items ≡ failing_html count) }
 {
     tile(alloc, b"tile no", count, b"fail for some choice")
+}
+
+#[tactic(auto, unfolding(crate::specs::Headings::every_html))]
+fn every(alloc: Global, count: u32) -> Result<Html, AllocError>
+    ensures { IfOk result (λ html. html.text.items ≡ every_html count) }
+{
+    tile(alloc, b"tile no", count, b"of these for every choice")
 }
 
 #[tactic(auto, unfolding(crate::specs::Headings::undecided_html))]

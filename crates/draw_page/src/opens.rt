@@ -6,10 +6,9 @@ ghost use Rattle.draw_page.specs.Opens.{none_open_html, open_html, open_row_html
 ghost use Rattle.draw_page.specs.Opens.{some_open_html};
 
 use crate::anchor::Anchor;
-use crate::elements::{columns, link, number_cell, number_in, row_head, section, table, words_in};
+use crate::elements::{columns, link, number_cell, row_head, section, table, words_in};
 use crate::page::{Page, Undecided};
 use crate::parts::{around, joined};
-use crate::words::number_words;
 use base_markup::html::{Html, Tag};
 use std::alloc::{AllocError, Global};
 
@@ -40,7 +39,7 @@ fn none_open(alloc: Global) -> Result<Html, AllocError>
 fn open_table(alloc: Global, all: &[Undecided]) -> Result<Html, AllocError>
     ensures { IfOk result (λ html. html.text.items ≡ open_table_html all.now) }
 {
-    let head = columns(alloc, &[b"Script", b"terminal", b"analyses tried"]);
+    let head = columns(alloc, &[b"Script", b"terminal"]);
     table(alloc, b"told", head, open_rows(alloc, all))
 }
 
@@ -60,7 +59,5 @@ fn open_row(alloc: Global, one: &Undecided) -> Result<Html, AllocError>
     let to = Anchor::Fault(one.fault as usize);
     let script = row_head(alloc, link(alloc, to, one.script.as_slice()));
     let terminal = number_cell(alloc, b"terminal", one.terminal.as_slice());
-    let words = number_words(alloc, one.analyses as usize);
-    let analyses = number_in(alloc, b"analyses tried", words);
-    around(alloc, Tag::Row, joined(joined(script, terminal), analyses))
+    around(alloc, Tag::Row, joined(script, terminal))
 }

@@ -33,11 +33,13 @@ pub struct Page {
     pub made: Vec<u8>,
 }
 
-/// How many obligations hold, fail and are undecided: one for each script and terminal.
+/// How many obligations are held, fail, fail for every choice, and are open: one for each script and
+/// terminal.
 #[derive(Clone, Copy)]
 pub struct Counts {
     pub held: u32,
     pub fails: u32,
+    pub every: u32,
     pub undecided: u32,
 }
 
@@ -106,9 +108,9 @@ pub struct Verdict {
     pub must: Option<u32>,
 }
 
-/// A choice of delays that fails an obligation: the times that matter, the times that stand at
-/// their declared least (all others stand in the middle of their intervals), where a delay moves,
-/// and the play.
+/// A choice of delays that fails an obligation, whether every choice does, the times that matter, the
+/// times that stand at their declared least (all others stand in the middle of their intervals), where a
+/// delay moves, and the play.
 #[derive(Drop)]
 pub struct FailingChoice {
     /// The fault by its number.
@@ -116,6 +118,7 @@ pub struct FailingChoice {
     /// The script's name.
     pub script: Vec<u8>,
     pub terminal: Vec<u8>,
+    pub every: bool,
     pub told: Vec<ToldTime>,
     pub least: Vec<Vec<u8>>,
     pub steps: Vec<ToldStep>,
@@ -139,14 +142,12 @@ pub struct ToldStep {
     pub number: u32,
 }
 
-/// An obligation that is open after so many analyses: the fault by its number, the script and the
-/// terminal by their names.
+/// An obligation that is open: the fault by its number, the script and the terminal by their names.
 #[derive(Drop)]
 pub struct Undecided {
     pub fault: u32,
     pub script: Vec<u8>,
     pub terminal: Vec<u8>,
-    pub analyses: u32,
 }
 
 /// A time, its declared interval in ticks, and how far its ends can be moved outward.

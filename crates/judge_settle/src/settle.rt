@@ -4,6 +4,7 @@
 mod answer;
 mod boxes;
 mod budget;
+mod every;
 mod grown;
 mod leaves;
 mod play;
@@ -11,5 +12,5 @@ mod search;
 mod settling;
 mod sides;
 
-pub use answer::{Answer, By, Settled, by_word};
+pub use answer::{Answer, By, Settled, by_word, choices_word};
 pub use settling::settle;

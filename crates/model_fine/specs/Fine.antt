@@ -85,3 +85,8 @@ EachFineChoiceMeets line script k box =
 -- each inside the declared intervals does
 abbrev pub EveryFineChoiceMeets : Line → Script → ℕ → Type 0
 EveryFineChoiceMeets line script k = EachFineChoiceMeets line script k (declared_box line)
+
+-- each inside them fails it
+abbrev pub EveryFineChoiceFails : Line → Script → ℕ → Type 0
+EveryFineChoiceFails line script k =
+    ForEachFineHistory line script (declared_box line) (λ n h. ¬ (FineMeets n line script k h))

@@ -1,7 +1,8 @@
 //! Answers.
 
 ghost use Rattle.std.specs.Prelude.{◌≡◌};
-ghost use Rattle.judge_settle.specs.settle.Words.{by_word as word_of_by};
+ghost use Rattle.judge_settle.specs.settle.Words.{by_of_nodes, by_word as word_of_by};
+ghost use Rattle.judge_settle.specs.settle.Words.{choices_word as word_of_choices};
 
 use judge_cases::CaseNode;
 use model_timing::Timing;
@@ -12,24 +13,26 @@ pub enum Answer {
     /// Each leaf of the tree is yes: every choice inside meets the obligation, of whole ticks and of
     /// fractions.
     Held(Vec<CaseNode>),
-    /// The timing, which may have steps, is inside, and its history fails it.
-    Fails(Timing),
-    /// The budget was spent, or nothing was left to cut: some leaf is undecided.
+    /// The timing, which may have steps, is inside, and its history fails it. Where `every`, the
+    /// interval rules break it: every choice inside fails it.
+    Fails { timing: Timing, every: bool },
+    /// Some leaf is undecided. The interval rules leave the obligation unknown, and each of the line's
+    /// candidates meets it.
     Open(Vec<CaseNode>),
 }
 
-/// By what an obligation was settled. It is told for the reader alone: contracts say no more of it than its word.
+/// By what an obligation was settled, or left open.
 #[derive(Clone, Copy)]
 pub enum By {
-    /// The interval rules over the declared box.
+    /// The interval rules over the declared box: a tree of one leaf.
     Rules,
-    /// A timing that was tried at the root.
+    /// A timing that was tried, in a line whose scheme does not make every trip one-railed.
     Candidate,
-    /// The worst corner.
+    /// The worst corner, in a line whose scheme does.
     Corner,
-    /// Parts of the declared box.
+    /// A tree of parts of the declared box.
     Parts,
-    /// Cases of echoes.
+    /// A tree with cases of echoes.
     Cases,
 }
 
@@ -46,10 +49,37 @@ pub fn by_word(by: By) -> &'static [u8]
     }
 }
 
-/// The answer to an obligation, by what, and after how many analyses of boxes and timings.
+/// For which choices an obligation that fails does so, as tables have it: `every` or `some`.
+pub fn choices_word(every: bool) -> &'static [u8]
+    ensures { result.now ≡ word_of_choices every }
+{
+    if every { b"every" } else { b"some" }
+}
+
+/// The answer to an obligation, and by what.
 #[derive(Drop)]
 pub struct Settled {
     pub answer: Answer,
     pub by: By,
-    pub analyses: u32,
+}
+
+/// By what a tree with these nodes settles an obligation.
+pub fn by_tree(nodes: &[CaseNode]) -> By
+    ensures { result ≡ by_of_nodes nodes.now }
+{
+    if nodes.iter().any(|node| is_case(node)) {
+        By::Cases
+    } else if nodes.iter().any(|node| is_part(node)) {
+        By::Parts
+    } else {
+        By::Rules
+    }
+}
+
+fn is_case(node: &CaseNode) -> bool {
+    matches!(node, CaseNode::Wanted { .. })
+}
+
+fn is_part(node: &CaseNode) -> bool {
+    matches!(node, CaseNode::Parted { .. })
 }

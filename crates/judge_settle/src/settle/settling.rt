@@ -1,6 +1,6 @@
 //! The answers to the obligations of a script.
 
-ghost use Rattle.std.specs.Prelude.{◌≡◌, ◌<◌, ◌≤◌, ◌↔◌, ℕ, [], IfOk, IfSome, IsTrue};
+ghost use Rattle.std.specs.Prelude.{◌≡◌, ◌<◌, ◌≤◌, ℕ, [], IfOk};
 ghost use Rattle.model_line.specs.{declared.line.Line.Line, declared.script.Script.Script};
 ghost use Rattle.model_line.specs.{Fits.Fits, Parameters.terminal_count};
 ghost use Rattle.model_logic.specs.Choice.{declared_box};
@@ -10,16 +10,17 @@ ghost use Rattle.judge_cases.specs.{declared.view.View.View, Views.Views};
 ghost use Rattle.run_step.specs.Runs.{IsTheHistory};
 ghost use Rattle.judge_verdict.specs.verdict.PairWavesOf.{pair_history};
 ghost use Rattle.judge_settle.specs.{corner.Decided.AreDecided, settle.Trees.IsFound};
-ghost use Rattle.judge_settle.specs.settle.Answers.{IsAnswer, AreAnswers};
+ghost use Rattle.judge_settle.specs.settle.Answers.{AreAnswers, FailsFor, IsAnswered};
+ghost use Rattle.judge_settle.specs.settle.Answers.{IsRuling, IsUndecided};
 ghost use Rattle.judge_settle.specs.settle.Trees.{Size, size_of_text};
 
 use crate::corner::{Decided, decide};
-use crate::settle::answer::{Answer, By, Settled};
+use crate::settle::answer::{Answer, By, Settled, by_tree};
 use crate::settle::boxes::side_in;
 use crate::settle::budget::Budget;
+use crate::settle::every::fails_for_every;
 use crate::settle::grown::leaf;
 use crate::settle::leaves::confirmed;
-use crate::settle::play::fails;
 use crate::settle::search::{Found, search_view};
 use crate::settle::sides::Branch;
 use judge_ahead::Scene;
@@ -58,8 +59,8 @@ pub fn settle(
         AreAnswers compiled.now.line.now script.now settled.items) }
 {
     match decide(alloc, compiled, script, waves)? {
-        Some(decided) => by_corner(alloc, compiled.line, script, &decided),
-        None => by_search(alloc, compiled, script, analyses),
+        Some(decided) => by_corner(alloc, compiled.line, script, waves, &decided),
+        None => by_search(alloc, compiled, script, waves, analyses),
     }
 }
 
@@ -68,35 +69,42 @@ fn by_corner(
     alloc: Global,
     line: &Line,
     script: &Script,
+    waves: &PairWaves,
     decided: &Decided,
 ) -> Result<Vec<Settled>, Memory>
     requires fits { Fits line.now script.now }
     requires one_railed { IsOneRailedBy line.now.scheme line.now }
+    requires terminals { waves.now.terminals ≡ terminal_count line.now }
+    requires horizon { waves.now.horizon ≡ line.now.horizon }
+    requires history { IsTheHistory line.now script.now (declared_box line.now)
+        (pair_history waves.now) }
     requires decides { AreDecided line.now script.now decided.now.timing decided.now.held.items }
     ensures { IfOk result (λ settled. AreAnswers line.now script.now settled.items) }
 {
     let mut settled = Vec::new(alloc);
     for k in 0..line.terminals.len() {
-        let one = of_corner(alloc, line, script, k as u32, decided)?;
+        let every = fails_for_every(line, script, waves, k as u32);
+        let one = of_corner(alloc, line, script, k as u32, decided, every)?;
         settled.push(one)?;
     }
     Ok(settled)
 }
 
-// The answer to one of them.
+// The answer to one of them. If it fails, it is told for which choices.
 fn of_corner(
     alloc: Global,
     line: &Line,
     script: &Script,
     terminal: u32,
     decided: &Decided,
+    every: bool,
 ) -> Result<Settled, Memory>
     requires fits { Fits line.now script.now }
     requires terminal { terminal < terminal_count line.now }
     requires one_railed { IsOneRailedBy line.now.scheme line.now }
     requires decides { AreDecided line.now script.now decided.now.timing decided.now.held.items }
-    ensures { IfOk result (λ settled.
-        IsAnswer line.now script.now terminal settled.answer) }
+    requires every { FailsFor line.now script.now terminal every }
+    ensures { IfOk result (λ settled. IsAnswered line.now script.now terminal settled) }
 {
     line_laws();
     the_worst_choice_decides();
@@ -106,12 +114,11 @@ fn of_corner(
     if decided.held[terminal as usize] {
         return held_at_once(alloc);
     }
-    let failing = timing.copy(alloc)?;
-    let _steps = failing.steps();
+    let timing = timing.copy(alloc)?;
+    let _steps = timing.steps();
     Ok(Settled {
-        answer: Answer::Fails(failing),
+        answer: Answer::Fails { timing, every },
         by: By::Corner,
-        analyses: 1,
     })
 }
 
@@ -119,7 +126,7 @@ fn of_corner(
 fn held_at_once(alloc: Global) -> Result<Settled, Memory>
     ensures { IfOk result (λ settled. (line : Line) (script : Script) (k : ℕ) →
         script.deadline < line.horizon → k < terminal_count line →
-        IsHeldOver line script k (declared_box line) → IsAnswer line script k settled.answer) }
+        IsHeldOver line script k (declared_box line) → IsAnswered line script k settled) }
 {
     each_box_has_one_history_under();
     what_is_held_is_met_between_ticks();
@@ -127,7 +134,6 @@ fn held_at_once(alloc: Global) -> Result<Settled, Memory>
     Ok(Settled {
         answer: Answer::Held(tree.nodes),
         by: By::Rules,
-        analyses: 1,
     })
 }
 
@@ -137,10 +143,15 @@ fn by_search(
     alloc: Global,
     compiled: &Compiled<'_>,
     script: &Script,
+    waves: &PairWaves,
     analyses: u32,
 ) -> Result<Vec<Settled>, Memory>
     requires fits { Fits compiled.now.line.now script.now }
     requires mixed { ¬ (IsOneRailedBy compiled.now.line.now.scheme compiled.now.line.now) }
+    requires terminals { waves.now.terminals ≡ terminal_count compiled.now.line.now }
+    requires horizon { waves.now.horizon ≡ compiled.now.line.now.horizon }
+    requires history { IsTheHistory compiled.now.line.now script.now
+        (declared_box compiled.now.line.now) (pair_history waves.now) }
     ensures { IfOk result (λ settled.
         AreAnswers compiled.now.line.now script.now settled.items) }
 {
@@ -148,78 +159,45 @@ fn by_search(
     let said = certify(alloc, compiled, script)?;
     let mut settled = Vec::new(alloc);
     for k in 0..compiled.line.terminals.len() {
-        let one = under_verdict(
-            alloc,
-            compiled,
-            script,
-            k as u32,
-            &said.verdicts[k],
-            analyses,
-        )?;
+        let every = fails_for_every(compiled.line, script, waves, k as u32);
+        let verdict = &said.verdicts[k];
+        let one = under_verdict(alloc, compiled, script, k as u32, verdict, every, analyses)?;
         settled.push(one)?;
     }
     Ok(settled)
 }
 
-// The answer to an obligation with this verdict.
+// The answer to an obligation with this verdict. If it fails, it is told for which choices.
 fn under_verdict(
     alloc: Global,
     compiled: &Compiled<'_>,
     script: &Script,
     terminal: u32,
     verdict: &Verdict,
+    every: bool,
     analyses: u32,
 ) -> Result<Settled, Memory>
     requires fits { Fits compiled.now.line.now script.now }
     requires terminal { terminal < terminal_count compiled.now.line.now }
     requires mixed { ¬ (IsOneRailedBy compiled.now.line.now.scheme compiled.now.line.now) }
-    requires verdict { verdict.now ≡ Verdict.Yes →
-        IsHeldOver compiled.now.line.now script.now terminal
-        (declared_box compiled.now.line.now) }
+    requires verdict { IsRuling compiled.now.line.now script.now terminal verdict.now }
+    requires every { FailsFor compiled.now.line.now script.now terminal every }
     ensures { IfOk result (λ settled.
-        IsAnswer compiled.now.line.now script.now terminal settled.answer) }
-{
-    let at_once = by_verdict(alloc, compiled, script, terminal, verdict)?;
-    match at_once {
-        Some(settled) => Ok(settled),
-        None => searched(alloc, compiled, script, terminal, analyses),
-    }
-}
-
-// The answer of the interval rules over the declared box, or of the first of the line's candidates
-// that fails the obligation, if one of them settles it.
-fn by_verdict(
-    alloc: Global,
-    compiled: &Compiled<'_>,
-    script: &Script,
-    terminal: u32,
-    verdict: &Verdict,
-) -> Result<Option<Settled>, Memory>
-    requires fits { Fits compiled.now.line.now script.now }
-    requires terminal { terminal < terminal_count compiled.now.line.now }
-    requires verdict { verdict.now ≡ Verdict.Yes →
-        IsHeldOver compiled.now.line.now script.now terminal
-        (declared_box compiled.now.line.now) }
-    ensures { IfOk result (λ found. IfSome found (λ settled.
-        IsAnswer compiled.now.line.now script.now terminal settled.answer)) }
+        IsAnswered compiled.now.line.now script.now terminal settled) }
 {
     line_laws();
-    if is_yes(verdict) {
-        let settled = held_at_once(alloc)?;
-        return Ok(Some(settled));
+    match verdict {
+        Verdict::Yes => held_at_once(alloc),
+        Verdict::No(timing) => {
+            let timing = timing.copy(alloc)?;
+            let _steps = timing.steps();
+            Ok(Settled {
+                answer: Answer::Fails { timing, every },
+                by: By::Candidate,
+            })
+        }
+        Verdict::Undecided => searched(alloc, compiled, script, terminal, every, analyses),
     }
-    let Verdict::No(timing) = verdict else {
-        return Ok(None);
-    };
-    if !fails(alloc, compiled, script, terminal, timing)? {
-        return Ok(None);
-    }
-    let failing = timing.copy(alloc)?;
-    Ok(Some(Settled {
-        answer: Answer::Fails(failing),
-        by: By::Candidate,
-        analyses: 1,
-    }))
 }
 
 // The answer of a search over the declared box.
@@ -228,13 +206,16 @@ fn searched(
     compiled: &Compiled<'_>,
     script: &Script,
     terminal: u32,
+    every: bool,
     analyses: u32,
 ) -> Result<Settled, Memory>
     requires fits { Fits compiled.now.line.now script.now }
     requires terminal { terminal < terminal_count compiled.now.line.now }
     requires mixed { ¬ (IsOneRailedBy compiled.now.line.now.scheme compiled.now.line.now) }
+    requires undecided { IsUndecided compiled.now.line.now script.now terminal }
+    requires every { FailsFor compiled.now.line.now script.now terminal every }
     ensures { IfOk result (λ settled.
-        IsAnswer compiled.now.line.now script.now terminal settled.answer) }
+        IsAnswered compiled.now.line.now script.now terminal settled) }
 {
     deadlines_are_below_the_horizon();
     let scene = Scene::new(alloc, compiled.line, compiled.net, script, terminal)?;
@@ -254,52 +235,32 @@ fn searched(
         &mut leaves,
     )?;
     let sure = confirmed(alloc, compiled, &scene, found, leaves.as_slice())?;
-    let answer = answer_of(sure);
-    let by = by(&answer, &budget);
-    Ok(Settled {
-        answer,
-        by,
-        analyses: budget.made,
-    })
-}
-
-fn is_yes(verdict: &Verdict) -> bool
-    ensures { IsTrue result ↔ (verdict.now ≡ Verdict.Yes) }
-{
-    matches!(verdict, Verdict::Yes)
+    Ok(settled_by(sure, every))
 }
 
 // The answer that a search gives over the declared box.
-fn answer_of(found: Found) -> Answer
+fn settled_by(found: Found, every: bool) -> Settled
     ensures { (line : Line) (script : Script) (k : ℕ) (size : Size) (view : View) →
         script.deadline < line.horizon → k < terminal_count line →
-        ¬ (IsOneRailedBy line.scheme line) → Views line (declared_box line) [] view →
+        ¬ (IsOneRailedBy line.scheme line) → IsUndecided line script k →
+        FailsFor line script k every → Views line (declared_box line) [] view →
         size.depth ≤ size_of_text.depth → size.cuts ≤ size_of_text.cuts →
-        IsFound line script k size view found → IsAnswer line script k result }
+        IsFound line script k size view found → IsAnswered line script k result }
 {
     sound_trees_meet();
     match found {
-        Found::Fails(timing) => Answer::Fails(timing),
+        Found::Fails(timing) => Settled {
+            answer: Answer::Fails { timing, every },
+            by: By::Candidate,
+        },
         Found::Tree(tree) => {
-            if tree.yes {
+            let by = by_tree(&tree.nodes);
+            let answer = if tree.yes {
                 Answer::Held(tree.nodes)
             } else {
                 Answer::Open(tree.nodes)
-            }
+            };
+            Settled { answer, by }
         }
-    }
-}
-
-// By what a search answered.
-fn by(answer: &Answer, budget: &Budget) -> By {
-    if budget.cases {
-        return By::Cases;
-    }
-    if budget.parts {
-        return By::Parts;
-    }
-    match answer {
-        Answer::Held(_) => By::Rules,
-        Answer::Fails(_) | Answer::Open(_) => By::Candidate,
     }
 }

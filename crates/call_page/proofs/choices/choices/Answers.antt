@@ -29,7 +29,7 @@ push_choice-requires-clause-row c =
       script = row.script;
       at = row.at;
       terminal = row.terminal;
-      answer = row.answer;
+      answered = row.answered;
     }
 
 pub loop-row-preserved : goal.loop-row-preserved

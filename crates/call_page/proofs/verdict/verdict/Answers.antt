@@ -3,6 +3,8 @@ use Rattle.model_line.specs.declared.script.Script.{Script}
 use Rattle.judge_report.specs.Deadlines.{deadline_of}
 use Rattle.call_facts.specs.FirstTicks.{place}
 use Rattle.call_facts.specs.declared.firsts.Firsts.{Firsts}
+use Rattle.call_tables.specs.declared.row.Row.{Row}
+use Rattle.call_page.specs.Verdicts.{means_of}
 use Rattle.call_page.proofs.There.{at_this, at_read}
 use Rattle.call_page.proofs.verdict.verdict.Goals as goal
 
@@ -20,6 +22,8 @@ returns c =
       standings = c.in_ok-standings.ensures;
       worst = c.worst.result;
       is_worst = c.worst.ensures;
+      by = at_this known.rows.now i c.row_at-row.result.now
+          (λ (row : Row). c.means.result ≡ means_of row.settled.by) c.row_at-row.ensures c.means.ensures;
       deadline = at_read scripts scripts script c.index-of.result.now
           (λ (s : Script). c.deadline.result ≡ deadline_of s.kind s.deadline) refl there
           c.index-of.ensures c.deadline.ensures;

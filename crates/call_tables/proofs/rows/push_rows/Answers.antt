@@ -47,7 +47,7 @@ loop-one-preserved c =
             at = here;
             terminal = terminal;
             place = refl;
-            answer = are.each at.terminal one
+            answered = are.each at.terminal one
                 (subst (λ (n : ℕ). slice_get all n ≡ Some one) (sym at.invariant.terminal) place);
           })
           (at.invariant.rows line scripts s here are before);

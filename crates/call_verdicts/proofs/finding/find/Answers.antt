@@ -21,7 +21,8 @@ returns c =
       at = at;
       terminal = c.requires.terminal;
       place = refl;
-      standing = c.standing_of.ensures line script k (c.requires.answer script at);
+      standing = c.standing_of.ensures line script k (c.requires.answered script at).answer;
+      by = record { settled = c.args.settled.now; is = c.requires.answered script at; by_is = refl };
       first = λ w is_w.
           c.first_must.ensures.first
           ∙ ap (first_on (λ t. (trip t).must)) c.requires.horizon

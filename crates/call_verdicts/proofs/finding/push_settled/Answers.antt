@@ -13,8 +13,8 @@ bounds-settled-k c =
     let count = (c.requires.settled script at).count in
     omega (arith, count, c.loop-k-test.true)
 
-pub find-one-requires-clause-answer : goal.find-one-requires-clause-answer
-find-one-requires-clause-answer c = λ script at.
+pub find-one-requires-clause-answered : goal.find-one-requires-clause-answered
+find-one-requires-clause-answered c = λ script at.
     let are = c.requires.settled script at in
     are.each c.loop-k.k c.index-settled-k.result
     (slice_get_read c.args.settled.now _ c.loop-k.k c.index-settled-k.result refl
