@@ -3,3 +3,5 @@ pub mod TreeLaws
 pub mod LeafLaws
 pub mod CornerLaws
 pub mod AnswerLaws
+pub mod EveryLaws
+pub mod RulingLaws

@@ -13,3 +13,4 @@ pub mod WorstTimings
 pub mod Leading
 pub mod Walks
 pub mod NotReached
+pub mod BestChoices

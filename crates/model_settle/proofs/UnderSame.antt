@@ -3,7 +3,7 @@
 use Rattle.std.proofs.Common.{◌≡◌, ◌<◌, ◌≤◌, ℕ, Bool, refl, sym, ◌∙◌, ap, subst, arith, ⊎_elim}
 use Rattle.std.proofs.Common.{inl, inr, List, length}
 use Rattle.std.specs.Prelude.{Option, IsFalse}
-use Rattle.model_history.specs.{Laws.HistoryLaws, Rails.Rails, Rails.Ends, Rails.both}
+use Rattle.model_history.specs.{Laws.HistoryLaws, Rails.Rails, Rails.Ends}
 use Rattle.model_history.specs.Rails.{rails_not, rails_and, rails_or, rails_timed, rails_delayed}
 use Rattle.model_line.specs.{declared.line.Line.Line, declared.script.Script.Script}
 use Rattle.model_line.specs.declared.line.Terminal.{Terminal}

@@ -11,11 +11,11 @@ use Rattle.model_line.specs.{declared.line.Setting.Setting, declared.script.Scri
 use Rattle.model_line.specs.{Settings.line_settings, Parameters.terminal_count, Channels.from_of}
 use Rattle.model_logic.specs.Choice.{Choice, IsInside, declared_box}
 use Rattle.model_logic.specs.Histories.{History, IsLineHistory, Meets, PairHistory, IsPairHistory}
-use Rattle.model_logic.specs.{Elements.is_weak, Logic.trip_tree, Rule.IsHeld}
+use Rattle.model_logic.specs.{Elements.is_weak, Logic.trip_tree, Rule.IsHeld, Rule.IsBroken}
 use Rattle.model_settle.specs.Sides.{Rail, turned, End, Least, pickup_end, dropout_end, Sides}
 use Rattle.model_settle.specs.Sides.{IsReadOn, IsOneRailed}
 use Rattle.model_logic.specs.Obligations.{EveryChoiceMeets}
-use Rattle.model_settle.specs.{Worst.worst_choice, Worst.deciding}
+use Rattle.model_settle.specs.{Choices.SomeChoiceMeets, Worst.worst_choice, Worst.deciding}
 
 -- no terminal is a weak infeed
 abbrev pub HasNoWeakEnd : Line → Type 0
@@ -105,3 +105,12 @@ pub record TheWorstChoiceDecides : Type 0 where
       (worst_choice line (scheme_sides line (deciding script.kind)) (declared_box line) w.key) h
       → k < terminal_count line
       → Meets line script k h ↔ IsHeld script.kind script.deadline line.horizon (w.trip k)
+
+-- where the rule of such a line is not broken, some choice meets the obligation: the one whose numbers
+-- and delays favour it, where the worst one is read on the other rail
+abbrev pub TheBestChoiceMeets : Type 0
+TheBestChoiceMeets = (line : Line) (script : Script) (w : PairHistory) (k : ℕ)
+    → script.deadline < line.horizon → IsOneRailedBy line.scheme line
+    → IsPairHistory line script (declared_box line) w → k < terminal_count line
+    → ¬ (IsBroken script.kind script.deadline line.horizon (w.trip k))
+    → SomeChoiceMeets line script k

@@ -6,7 +6,7 @@ ghost use Rattle.model_settle.specs.Demands.{TheWalkTellsTheSides};
 ghost use Rattle.model_settle.specs.Leads.{AWorseChoiceMeetsLess};
 ghost use Rattle.model_settle.specs.Limits.{RailsAreNotReached};
 ghost use Rattle.model_settle.specs.Schemes.{SchemesAreOneRailed, OneTimingDecidesTheScript};
-ghost use Rattle.model_settle.specs.Schemes.{TheWorstChoiceDecides};
+ghost use Rattle.model_settle.specs.Schemes.{TheBestChoiceMeets, TheWorstChoiceDecides};
 
 use model_history::laws::history_laws;
 use model_line::laws::declared_intervals_are_in_order;
@@ -61,6 +61,15 @@ pub fn schemes_are_one_railed()
 /// meets each obligation of a script exactly where the rule is held.
 pub fn the_worst_choice_decides()
     ensures { TheWorstChoiceDecides }
+{
+    history_laws();
+    line_laws();
+    declared_intervals_are_in_order();
+}
+
+/// Of such a line some choice meets each obligation whose rule is not broken.
+pub fn the_best_choice_meets()
+    ensures { TheBestChoiceMeets }
 {
     history_laws();
     line_laws();

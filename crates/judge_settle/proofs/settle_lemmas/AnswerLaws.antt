@@ -11,7 +11,7 @@ use Rattle.judge_settle.specs.declared.settle.grown.Grown.{Grown}
 use Rattle.judge_cases.specs.Trees.{AreTree}
 use Rattle.judge_settle.specs.settle.Trees.{IsGrown, Size, size_of_text}
 use Rattle.judge_settle.proofs.settle_lemmas.TreeLaws.{branches_of}
-use Rattle.judge_settle.specs.settle.Answers.{IsHeldTree, IsOpenTree}
+use Rattle.judge_settle.specs.settle.Answers.{IsHeldTree, IsOpenTree, IsUndecided}
 
 -- a tree that grew to at most the size of one in a text can stand there
 grown_written : (line : Line) (script : Script) (k : ℕ) (size : Size) (g : Grown)
@@ -44,12 +44,13 @@ held_answer meet line script k size g early there all deep many grown =
 pub open_answer : (line : Line) (script : Script) (k : ℕ) (size : Size) (g : Grown)
     → g.yes ≡ false → size.depth ≤ size_of_text.depth → size.cuts ≤ size_of_text.cuts
     → IsGrown line script k size (declared_box line) [] g → ¬ (IsOneRailedBy line.scheme line)
-    → IsOpenTree line script k g.nodes.items
-open_answer line script k size g off deep many grown mixed = record {
+    → IsUndecided line script k → IsOpenTree line script k g.nodes.items
+open_answer line script k size g off deep many grown mixed earned = record {
   tree = grown.tree;
   are = grown.nodes;
   sound = grown.sound;
   undecided = sym grown.yes ∙ off;
+  earned = earned;
   mixed = mixed;
   written = grown_written line script k size g deep many grown;
 }

@@ -4,7 +4,7 @@ use Rattle.model_line.specs.{declared.line.Line.Line, declared.script.Script.Scr
 use Rattle.model_line.specs.Parameters.{terminal_count}
 use Rattle.model_logic.specs.Choice.{declared_box}
 use Rattle.model_settle.specs.CaseTrees.{CaseTree, are_yes, AreSound}
-use Rattle.model_settle.specs.Schemes.{IsOneRailedBy}
+use Rattle.model_settle.specs.{Choices.SomeChoiceMeets, Schemes.IsOneRailedBy}
 use Rattle.judge_cases.specs.Nodes.{preorder}
 use Rattle.judge_cases.specs.declared.node.CaseNode.{CaseNode}
 use Rattle.judge_cases.specs.Trees.{AreTree}
@@ -39,12 +39,20 @@ IsRuleBroken line script k =
     (w : PairHistory) → IsPairHistory line script (declared_box line) w
     → rule_of line script (w.trip k) ≡ Broken
 
--- for which choices an obligation that fails does so. Every one: the rule is broken, so every choice
--- of fractions fails it. Some: the rule is not broken.
+-- every choice of fractions fails the obligation, since its rule is broken
+pub record FailsForEvery (line : Line) (script : Script) (k : ℕ) : Type 0 where
+  pub broken : IsRuleBroken line script k
+  pub fail : EveryFineChoiceFails line script k
+
+-- the rule is not broken; where the line's scheme makes every trip one-railed, some choice meets it
+pub record FailsForSome (line : Line) (script : Script) (k : ℕ) : Type 0 where
+  pub unbroken : ¬ (IsRuleBroken line script k)
+  pub met : IsOneRailedBy line.scheme line → SomeChoiceMeets line script k
+
+-- for which choices an obligation that fails does so
 abbrev pub FailsFor : Line → Script → ℕ → Bool → Type 0
-FailsFor line script k true =
-    IsRuleBroken line script k × EveryFineChoiceFails line script k
-FailsFor line script k false = ¬ (IsRuleBroken line script k)
+FailsFor line script k true = FailsForEvery line script k
+FailsFor line script k false = FailsForSome line script k
 
 -- the interval rules do not hold the obligation, and each of the line's candidates meets it
 pub record IsUndecided (line : Line) (script : Script) (k : ℕ) : Type 0 where

@@ -1,8 +1,10 @@
 //! Answers.
 
 ghost use Rattle.std.specs.Prelude.{◌≡◌};
+ghost use Rattle.std.specs.List.{list_any};
 ghost use Rattle.judge_settle.specs.settle.Words.{by_of_nodes, by_word as word_of_by};
 ghost use Rattle.judge_settle.specs.settle.Words.{choices_word as word_of_choices};
+ghost use Rattle.judge_settle.specs.settle.Words.{is_case as is_case_of, is_part as is_part_of};
 
 use judge_cases::CaseNode;
 use model_timing::Timing;
@@ -67,19 +69,35 @@ pub struct Settled {
 pub fn by_tree(nodes: &[CaseNode]) -> By
     ensures { result ≡ by_of_nodes nodes.now }
 {
-    if nodes.iter().any(|node| is_case(node)) {
+    if has_case(nodes) {
         By::Cases
-    } else if nodes.iter().any(|node| is_part(node)) {
+    } else if has_part(nodes) {
         By::Parts
     } else {
         By::Rules
     }
 }
 
-fn is_case(node: &CaseNode) -> bool {
+fn has_case(nodes: &[CaseNode]) -> bool
+    ensures { result ≡ list_any is_case_of nodes.now }
+{
+    nodes.iter().any(|node| is_case(node))
+}
+
+fn has_part(nodes: &[CaseNode]) -> bool
+    ensures { result ≡ list_any is_part_of nodes.now }
+{
+    nodes.iter().any(|node| is_part(node))
+}
+
+fn is_case(node: &CaseNode) -> bool
+    ensures { result ≡ is_case_of node.now }
+{
     matches!(node, CaseNode::Wanted { .. })
 }
 
-fn is_part(node: &CaseNode) -> bool {
+fn is_part(node: &CaseNode) -> bool
+    ensures { result ≡ is_part_of node.now }
+{
     matches!(node, CaseNode::Parted { .. })
 }

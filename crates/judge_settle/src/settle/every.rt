@@ -11,6 +11,7 @@ use judge_verdict::verdict::{PairWaves, Rule, judge};
 use model_fine::fine_laws::the_rule_speaks_for_every_fine_choice;
 use model_line::{Line, Script};
 use model_logic::laws::line_laws;
+use model_settle::polarity_laws::the_best_choice_meets;
 
 /// Whether the interval rules break the obligation of a terminal, so that every choice fails it. The
 /// waves are over the interval history of the script.
@@ -24,9 +25,11 @@ pub fn fails_for_every(line: &Line, script: &Script, waves: &PairWaves, terminal
     ensures { FailsFor line.now script.now terminal result }
 {
     line_laws();
+    the_best_choice_meets();
     the_rule_speaks_for_every_fine_choice();
     match judge(waves, script, terminal) {
         Rule::Broken => true,
-        Rule::Held | Rule::Unknown => false,
+        Rule::Held => false,
+        Rule::Unknown => false,
     }
 }

@@ -12,14 +12,14 @@ ghost use Rattle.judge_verdict.specs.verdict.PairWavesOf.{pair_history};
 ghost use Rattle.judge_settle.specs.{corner.Decided.AreDecided, settle.Trees.IsFound};
 ghost use Rattle.judge_settle.specs.settle.Answers.{AreAnswers, FailsFor, IsAnswered};
 ghost use Rattle.judge_settle.specs.settle.Answers.{IsRuling, IsUndecided};
-ghost use Rattle.judge_settle.specs.settle.Trees.{Size, size_of_text};
+ghost use Rattle.judge_settle.specs.settle.Trees.{IsGrown, Size, size_of_text};
 
 use crate::corner::{Decided, decide};
 use crate::settle::answer::{Answer, By, Settled, by_tree};
 use crate::settle::boxes::side_in;
 use crate::settle::budget::Budget;
 use crate::settle::every::fails_for_every;
-use crate::settle::grown::leaf;
+use crate::settle::grown::{Grown, leaf};
 use crate::settle::leaves::confirmed;
 use crate::settle::search::{Found, search_view};
 use crate::settle::sides::Branch;
@@ -33,6 +33,7 @@ use model_line::{Line, Memory, Script};
 use model_logic::laws::line_laws;
 use model_settle::case_laws::each_box_has_one_history_under;
 use model_settle::polarity_laws::the_worst_choice_decides;
+use model_timing::timings_inside_are_choices_inside;
 use net_gates::Compiled;
 use std::alloc::Global;
 
@@ -186,11 +187,11 @@ fn under_verdict(
         IsAnswered compiled.now.line.now script.now terminal settled) }
 {
     line_laws();
+    timings_inside_are_choices_inside();
     match verdict {
         Verdict::Yes => held_at_once(alloc),
         Verdict::No(timing) => {
             let timing = timing.copy(alloc)?;
-            let _steps = timing.steps();
             Ok(Settled {
                 answer: Answer::Fails { timing, every },
                 by: By::Candidate,
@@ -247,20 +248,33 @@ fn settled_by(found: Found, every: bool) -> Settled
         size.depth ≤ size_of_text.depth → size.cuts ≤ size_of_text.cuts →
         IsFound line script k size view found → IsAnswered line script k result }
 {
-    sound_trees_meet();
     match found {
         Found::Fails(timing) => Settled {
             answer: Answer::Fails { timing, every },
             by: By::Candidate,
         },
-        Found::Tree(tree) => {
-            let by = by_tree(&tree.nodes);
-            let answer = if tree.yes {
-                Answer::Held(tree.nodes)
-            } else {
-                Answer::Open(tree.nodes)
-            };
-            Settled { answer, by }
-        }
+        Found::Tree(tree) => settled_by_tree(tree),
+    }
+}
+
+// The answer of a tree over the declared box.
+fn settled_by_tree(tree: Grown) -> Settled
+    ensures { (line : Line) (script : Script) (k : ℕ) (size : Size) →
+        script.deadline < line.horizon → k < terminal_count line →
+        ¬ (IsOneRailedBy line.scheme line) → IsUndecided line script k →
+        size.depth ≤ size_of_text.depth → size.cuts ≤ size_of_text.cuts →
+        IsGrown line script k size (declared_box line) [] tree → IsAnswered line script k result }
+{
+    sound_trees_meet();
+    let by = by_tree(&tree.nodes);
+    if tree.yes {
+        return Settled {
+            answer: Answer::Held(tree.nodes),
+            by,
+        };
+    }
+    Settled {
+        answer: Answer::Open(tree.nodes),
+        by,
     }
 }

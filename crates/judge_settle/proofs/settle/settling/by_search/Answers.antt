@@ -14,10 +14,10 @@ under_verdict-requires-clause-verdict c =
     let script = c.args.script.now in
     let k = c.loop-k.k in
     let said = c.in_ok-said.ensures in
-    let at : slice_get c.in_ok-said.said.verdicts.items k ≡ Some c.index.result.now =
-    slice_get_read c.in_ok-said.said.verdicts.items (terminal_count line) k c.index.result.now
-    (sym said.printable.verdicts.count) (omega arith) c.index.ensures in
-    ruling_of line script k c.in_ok-said.said.verdicts.items c.index.result.now at
+    let at : slice_get c.in_ok-said.said.verdicts.items k ≡ Some c.index-verdict.result.now =
+    slice_get_read c.in_ok-said.said.verdicts.items (terminal_count line) k c.index-verdict.result.now
+    (sym said.printable.verdicts.count) (omega arith) c.index-verdict.ensures in
+    ruling_of line script k c.in_ok-said.said.verdicts.items c.index-verdict.result.now at
     (c.line_laws.ensures.interval_histories.exists line script (declared_box line)
     (c.line_laws.ensures.inside.declared line)) said.verdicts said.no
 

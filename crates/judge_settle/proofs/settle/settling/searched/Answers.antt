@@ -25,6 +25,6 @@ returns c =
     subst (λ (n : ℕ). IsFound line script n size view found) scene.terminal over_script in
     let many : size.cuts ≤ size_of_text.cuts =
     omega (arith, c.side_in.ensures, c.new-budget.ensures) in
-    c.answer_of-answer.ensures line script k size view
+    c.settled_by.ensures line script k size view
     (c.deadlines_are_below_the_horizon.ensures line script c.requires.fits) c.requires.terminal
-    c.requires.mixed c.in_ok-view.ensures (omega arith) many is
+    c.requires.mixed c.requires.undecided c.requires.every c.in_ok-view.ensures (omega arith) many is
