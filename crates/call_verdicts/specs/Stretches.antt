@@ -12,7 +12,7 @@ use Rattle.call_verdicts.specs.declared.verdict.Verdict.{Verdict}
 
 abbrev pub holds_so : Standing → Bool
 holds_so Held = true
-holds_so Fails = false
+holds_so (Fails every) = false
 holds_so Open = false
 
 abbrev pub is_held : Verdict → Bool

@@ -1,10 +1,8 @@
-use Rattle.std.proofs.Common.{◌≡◌, ℕ, List, Some, refl, sym, subst, ◌∙◌, ap}
-use Rattle.std.specs.Prelude.{slice_get}
+use Rattle.std.proofs.Common.{ℕ, List, refl, ◌∙◌, ap}
 use Rattle.model_history.specs.ListLaws.{exists_at}
 use Rattle.model_history.specs.Rails.{Rails, must_of}
 use Rattle.model_line.specs.{declared.line.Line.Line, declared.script.Script.Script}
 use Rattle.judge_verdict.specs.verdict.PairWavesOf.{pair_at}
-use Rattle.judge_settle.specs.settle.Answers.{IsAnswer}
 use Rattle.run_waves.specs.waves.FirstTick.{first_on}
 use Rattle.run_waves.specs.waves.FirstTickLaws.{first_on-same}
 use Rattle.call_verdicts.proofs.finding.find.Goals as goal
