@@ -7,7 +7,7 @@ use Rattle.model_line.specs.NamesByNumber.{terminal_name}
 use Rattle.model_timing.specs.NamedValues.{NamedValues}
 use Rattle.file_tables.specs.script.Printed.{records_text}
 use Rattle.file_tables.specs.timing.Printed.{file_records}
-use Rattle.file_tables.specs.timing.Timings.{timings_in}
+use Rattle.file_tables.specs.timing.Timings.{timings_of}
 use Rattle.judge_settle.specs.declared.settle.answer.Answer.{Answer}
 use Rattle.judge_settle.specs.declared.settle.answer.Answer.TheVariants.{Held, Fails, Open}
 use Rattle.judge_settle.specs.settle.Trees.{IsFailing}
@@ -62,9 +62,9 @@ pub record FailsWhereNamed (line : Line) (script : Script) (timing : NamedValues
   pub named : timing.name ≡ terminal_name line terminal
   pub fails : IsFailing line script terminal timing.timing
 
--- the text has the records of these timings, which stand for just these; and each fails
+-- the text has the records of these timings, and is read back as just these; and each fails
 pub record IsTimingsText (line : Line) (script : Script) (timings : List NamedValues)
     (text : List ℕ) : Type 0 where
   pub text_is : text ≡ records_text (file_records line timings)
-  pub read_back : timings_in line (file_records line timings) ≡ Ok timings
+  pub read_back : timings_of line text ≡ Ok timings
   pub fail : All (FailsWhereNamed line script) timings

@@ -1,2 +1,3 @@
+pub mod TextLaws
 pub mod script_lemmas
 pub mod timing_lemmas

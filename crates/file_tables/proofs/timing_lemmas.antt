@@ -1,3 +1,4 @@
+pub mod ReadBack
 pub mod Earlier
 pub mod SoFarInside
 pub mod Standing

@@ -10,7 +10,7 @@ ghost use Rattle.file_tables.specs.timing.Printed.{timing_records, file_records,
 ghost use Rattle.file_tables.specs.timing.Printed.{AreOfOneFile};
 ghost use Rattle.model_timing.specs.{declared.step.Step.Step};
 ghost use Rattle.model_timing.specs.NamedValues.{values_of};
-ghost use Rattle.file_tables.specs.timing.Timings.{timings_in};
+ghost use Rattle.file_tables.specs.timing.Timings.{timings_of};
 
 use crate::timing::laws::timings_are_read_back;
 use base_records::{Memory, push_record};
@@ -30,9 +30,9 @@ pub fn print_timings(alloc: Global, line: &Line, timings: &[NamedTiming]) -> Res
     ensures text { IfOk result (λ v. v.items
         ≡ records_text (file_records line.now (map values_of timings.now))) }
 
-    // These records stand for the same timings.
-    ensures stand { timings_in line.now (file_records line.now (map values_of timings.now))
-        ≡ Ok (map values_of timings.now) }
+    // It is read back as the same timings.
+    ensures read_back { IfOk result (λ v. timings_of line.now v.items
+        ≡ Ok (map values_of timings.now)) }
 {
     timings_are_read_back();
     delays_are_parameters();
