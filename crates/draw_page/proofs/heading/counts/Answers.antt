@@ -5,5 +5,5 @@ pub returns : goal.returns
 unfolding counts_html
 returns c =
     c.classed_around.ensures _ (c.joined-all.ensures _ _ (c.joined-undecided.ensures _ _
-    (c.joined-failing.ensures _ _ c.held.ensures c.failing.ensures) c.undecided.ensures)
-    c.least_tile.ensures)
+    (c.joined-every.ensures _ _ (c.joined-failing.ensures _ _ c.held.ensures c.failing.ensures)
+    c.every.ensures) c.undecided.ensures) c.least_tile.ensures)
