@@ -1,0 +1,4 @@
+pub mod LaterElements
+pub mod AtRest
+pub mod RestingTrees
+pub mod LaterTrees
