@@ -1,0 +1,4 @@
+pub mod WaveLaws
+pub mod Rules
+pub mod Lists
+pub mod RightKeys
