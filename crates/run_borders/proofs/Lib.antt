@@ -2,3 +2,4 @@ pub mod WaveLaws
 pub mod Rules
 pub mod Lists
 pub mod RightKeys
+pub mod TripsCovered

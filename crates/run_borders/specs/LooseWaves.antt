@@ -1,14 +1,15 @@
 -- What a run over two scripts gives.
-use Rattle.std.specs.Prelude.{◌≡◌, ◌<◌, ℕ, List, [], length, get_or}
+use Rattle.std.specs.Prelude.{◌≡◌, ◌<◌, ◌≤◌, ℕ, List, [], length, get_or}
 use Rattle.model_history.specs.Rails.{Rails}
 use Rattle.run_signal.specs.declared.tern.Tern.{Tern}
 use Rattle.model_line.specs.declared.script.What.{What}
 use Rattle.model_line.specs.Parameters.{terminal_count}
 use Rattle.model_logic.specs.PairMean.{PairSignals, pair_mean}
-use Rattle.model_logic.specs.Histories.{PairHistory}
+use Rattle.model_logic.specs.{Choice.Choice, Histories.History, Histories.PairHistory}
 use Rattle.net_gates.specs.{Formulas.formula_of, NetOf.NetOf}
 use Rattle.net_gates.specs.NetOf.{key_of, trip_of}
-use Rattle.model_fine.specs.Loose.{IsLooseHistory}
+use Rattle.model_fine.specs.Fine.{IsFineWithin}
+use Rattle.model_fine.specs.Loose.{Shown, IsBetween, IsLooseHistory, IsShownHistory}
 use Rattle.run_waves.specs.waves.Waves.{wave_at, IsWaveOf}
 use Rattle.run_waves.specs.derived.{Stretches.holds, Claims.pairs_of}
 use Rattle.run_borders.specs.declared.run.LooseRun.{LooseRun}
@@ -57,3 +58,11 @@ pub record AreLooseWaves (run : LooseRun) (waves : List (List Tern)) : Type 0 wh
       → key_wave run waves k t ≡ history.key k t
   pub trips : (k t : ℕ) → k < terminal_count (line_of run) → t < (line_of run).horizon
       → trip_wave run waves k t ≡ history.trip k t
+
+-- of every fine history of every fine choice within the box, under whatever is shown between the two scripts
+abbrev pub ForEachShownHistory : LooseRun → (ℕ → History → Type 0) → Type 0
+ForEachShownHistory run Fact =
+    (n : ℕ) (shown : Shown) (choice : Choice) (h : History) → 1 ≤ n
+    → IsBetween n (line_of run) run.certain.now run.perhaps.now (box_of run) shown
+    → IsFineWithin n (line_of run) choice (box_of run) → IsShownHistory n (line_of run) shown choice h
+    → Fact n h

@@ -1,33 +1,34 @@
-use Rattle.std.proofs.Common.{◌≡◌, ℕ, Bool, not, sym, subst, length}
-use Rattle.std.specs.Prelude.{IsTrue}
-use Rattle.model_history.specs.{Rails.Rails, TruthLaws.not_both}
-use Rattle.model_line.specs.declared.script.Kind.{Kind}
+use Rattle.std.proofs.Common.{◌≡◌, ℕ, List, [], ◌∙◌, ap, subst}
+use Rattle.std.specs.Prelude.{get_or, IsTrue}
 use Rattle.model_logic.specs.Rule.{IsBroken}
+use Rattle.net_gates.specs.NetOf.{trip_of}
+use Rattle.run_signal.specs.declared.tern.Tern.{Tern}
 use Rattle.run_waves.specs.waves.Waves.{wave_at}
-use Rattle.run_borders.proofs.Rules.{on_unless, denied_unless, off_by_denial}
+use Rattle.run_borders.specs.LooseRuns.{line_of, net_of}
+use Rattle.run_borders.specs.LooseWaves.{trip_wave}
+use Rattle.run_borders.proofs.TripsCovered.{broken_failed, trip_covered}
 use Rattle.run_borders.proofs.rule.is_broken.Goals as goal
 
-pub returns-in-Internal : goal.returns-in-Internal
-returns-in-Internal c =
-    let trip : ℕ → Rails = wave_at c.args.trip.now in
-    let long : ℕ = length c.args.trip.now in
-    let answer : Bool = not c.comes_by.result in
-    subst (λ (kind : Kind). (IsTrue answer → IsBroken kind c.args.deadline c.args.end trip)
-    × (IsBroken kind c.args.deadline c.args.end trip → IsTrue answer))
-    (sym c.in-Internal.is)
-    (λ on. c.comes_by.ensures.never (λ t. (trip t).may) long c.requires.deadline c.first_may.ensures.first (off_by_denial c.comes_by.result on),
-    λ broken. denied_unless c.comes_by.result (λ on.
-    let here = c.comes_by.ensures.comes (λ t. (trip t).may) long c.first_may.ensures.first on in
-    not_both _ (broken here.0 here.1) here.2))
+pub returns-clause-rule : goal.returns-clause-rule
+returns-clause-rule c =
+    let waves : List (List Tern) = c.args.waves.now in
+    let same : c.nth-trip.result.now ≡ get_or waves (trip_of (net_of c.args.run.now) c.args.terminal) [] =
+    c.nth-trip.ensures ∙ ap (λ (g : ℕ). get_or waves g []) c.trip_gate-gate.ensures.is in
+    subst (λ (wave : List Tern).
+    (IsTrue c.wave_is_broken.result → IsBroken c.args.kind c.args.deadline c.args.end (wave_at wave))
+    × (IsBroken c.args.kind c.args.deadline c.args.end (wave_at wave) → IsTrue c.wave_is_broken.result))
+    same c.wave_is_broken.ensures
 
-pub returns-in-External : goal.returns-in-External
-returns-in-External c =
-    let trip : ℕ → Rails = wave_at c.args.trip.now in
-    let long : ℕ = length c.args.trip.now in
-    let answer : Bool = c.comes_before.result in
-    subst (λ (kind : Kind). (IsTrue answer → IsBroken kind c.args.deadline c.args.end trip)
-    × (IsBroken kind c.args.deadline c.args.end trip → IsTrue answer))
-    (sym c.in-External.is)
-    (λ on. c.comes_before.ensures.comes (λ t. (trip t).must) long c.first_must.ensures.first on,
-    λ broken. on_unless c.comes_before.result (λ off. not_both _ (c.comes_before.ensures.never (λ t. (trip t).must) long c.requires.end c.first_must.ensures.first off
-    broken.0 broken.1) broken.2))
+pub returns-clause-not_met : goal.returns-clause-not_met
+returns-clause-not_met c = λ on n shown choice h some between inside is_h.
+    let run = c.args.run.now in
+    let waves : List (List Tern) = c.args.waves.now in
+    let same : c.nth-trip.result.now ≡ get_or waves (trip_of (net_of run) c.args.terminal) [] =
+    c.nth-trip.ensures ∙ ap (λ (g : ℕ). get_or waves g []) c.trip_gate-gate.ensures.is in
+    broken_failed n some c.args.deadline c.args.end (line_of run).horizon c.requires.deadline c.requires.end
+    (trip_wave run waves c.args.terminal) (h.trip c.args.terminal)
+    (λ t lt. trip_covered c.loose_histories_cover.ensures run c.requires.run waves c.requires.waves n some
+    shown choice h between inside is_h c.args.terminal t c.requires.terminal lt)
+    c.args.kind
+    (subst (λ (wave : List Tern). IsBroken c.args.kind c.args.deadline c.args.end (wave_at wave)) same
+    (c.wave_is_broken.ensures.0 on))
