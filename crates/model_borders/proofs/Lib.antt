@@ -2,3 +2,6 @@ pub mod LaterElements
 pub mod AtRest
 pub mod RestingTrees
 pub mod LaterTrees
+pub mod LengthSums
+pub mod Places
+pub mod LiesBetween

@@ -1,0 +1,12 @@
+use Rattle.std.proofs.Common.{◌+◌, ◌-◌, ℕ, true, false, ◌∙◌, ap}
+use Rattle.model_borders.specs.Borders.{earliest, reach}
+use Rattle.model_borders.proofs.borders.earliest_at.Goals as goal
+
+pub returns : goal.returns
+unfolding earliest
+returns c =
+    c.saturating_sub.ensures
+    ∙ ap (λ (y : ℕ). c.args.place + y - c.reach-ahead.result) c.reach-behind.ensures.sum
+    ∙ ap (λ (y : ℕ). c.args.place
+    + reach c.args.borders.now c.args.part.now false c.args.still c.args.border - y)
+    c.reach-ahead.ensures.sum
