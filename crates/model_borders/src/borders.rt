@@ -49,7 +49,8 @@ pub fn earliest_at(
 ) -> u32
     requires few { length part.now ≤ 16 }
     requires place { place ≤ 17000000 }
-    ensures { result ≡ earliest borders.now part.now still place border }
+    ensures place { result ≡ earliest borders.now part.now still place border }
+    ensures limited { result ≤ 34000000 }
 {
     let behind = reach(borders, part, still, border, false);
     let ahead = reach(borders, part, border, still, true);
@@ -66,7 +67,8 @@ pub fn latest_at(
 ) -> u32
     requires few { length part.now ≤ 16 }
     requires place { place ≤ 17000000 }
-    ensures { result ≡ latest borders.now part.now still place border }
+    ensures place { result ≡ latest borders.now part.now still place border }
+    ensures limited { result ≤ 34000000 }
 {
     let behind = reach(borders, part, still, border, true);
     let ahead = reach(borders, part, border, still, false);

@@ -1,0 +1,11 @@
+//! Faults whose times are not known to a tick: what the interval rules say of a part of the times, an
+//! interval for each, where one border stands still.
+#![tactic(auto)]
+
+mod fault;
+mod parts;
+mod ruled;
+mod view;
+
+pub use fault::{Asked, Fault, PartRule};
+pub use parts::part_rule;
