@@ -8,4 +8,4 @@ mod ruled;
 mod view;
 
 pub use fault::{Asked, Fault, PartRule};
-pub use parts::part_rule;
+pub use parts::{part_answer, part_rule};

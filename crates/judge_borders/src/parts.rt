@@ -1,6 +1,6 @@
-//! The rule of a part.
+//! The rule of a part: with one border that stands still, and with each in turn.
 
-ghost use Rattle.std.specs.Prelude.{◌<◌, IfOk};
+ghost use Rattle.std.specs.Prelude.{◌≤◌, ◌<◌, length, IfOk};
 ghost use Rattle.model_line.specs.Parameters.{terminal_count};
 ghost use Rattle.judge_borders.specs.Parts.{CanAsk, IsPart, RuleSays, line_of};
 
@@ -47,4 +47,34 @@ pub fn part_rule(
     let view = view_of(fault, part, still, place);
     let rule = rule_at(&run, waves.as_slice(), terminal, fault.asked, view);
     Ok(rule)
+}
+
+/// The same with each border in turn, until one tells; open where none does.
+pub fn part_answer(
+    alloc: Global,
+    fault: &Fault<'_>,
+    part: &[Within],
+    terminal: u32,
+) -> Result<PartRule, Memory>
+    requires fault { CanAsk fault.now }
+    requires part { IsPart part.now }
+    requires terminal { terminal < terminal_count (line_of fault.now) }
+    requires borders { length fault.now.script.now.borders.items ≤ 100 }
+    ensures { IfOk result (λ rule. RuleSays fault.now part.now terminal rule) }
+{
+    for still in 0..fault.script.borders.len() as u32 {
+        let rule = part_rule(alloc, fault, part, still, terminal)?;
+        if tells(rule) {
+            return Ok(rule);
+        }
+    }
+    Ok(PartRule::Open)
+}
+
+// Whether it is held or broken.
+fn tells(rule: PartRule) -> bool {
+    match rule {
+        PartRule::Held | PartRule::Broken => true,
+        PartRule::Open => false,
+    }
 }
