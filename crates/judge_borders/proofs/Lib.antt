@@ -1,1 +1,2 @@
 pub mod MovedBack
+pub mod SharedMiddles

@@ -3,9 +3,11 @@
 #![tactic(auto)]
 
 mod fault;
+mod middles;
 mod parts;
 mod ruled;
 mod view;
 
 pub use fault::{Asked, Fault, PartRule};
+pub use middles::{TwoParts, halves};
 pub use parts::{part_answer, part_rule};

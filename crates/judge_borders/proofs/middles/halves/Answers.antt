@@ -1,0 +1,41 @@
+use Rattle.std.proofs.Common.{ℕ, List, subst, get_or}
+use Rattle.model_history.specs.Rails.{Ends, single}
+use Rattle.run_signal.specs.Spans.{ends_of}
+use Rattle.judge_borders.specs.Halves.{WithLength, middle_of}
+use Rattle.judge_borders.proofs.SharedMiddles.{share_middle, lower_ends, upper_ends}
+use Rattle.judge_borders.proofs.middles.halves.Goals as goal
+
+pub returns-clause-lower : goal.returns-clause-lower
+returns-clause-lower c =
+    let part : List Ends = c.args.part.now in
+    subst (WithLength part c.in_ok-lower.lower.items c.args.place)
+    (lower_ends part c.args.place c.index-part-place.result c.requires.exists c.index-part-place.is
+    c.least.result c.greatest.result c.least.ensures.least c.greatest.ensures.greatest c.least-2.result
+    c.new.result c.least-2.ensures.least c.new.ensures)
+    c.in_ok-lower.ensures
+
+pub returns-clause-upper : goal.returns-clause-upper
+returns-clause-upper c =
+    let part : List Ends = c.args.part.now in
+    subst (WithLength part c.in_ok-upper.upper.items c.args.place)
+    (upper_ends part c.args.place c.index-part-place.result c.requires.exists c.index-part-place.is
+    c.least.result c.greatest.result c.least.ensures.least c.greatest.ensures.greatest c.greatest-2.result
+    c.new-2.result c.greatest-2.ensures.greatest c.new-2.ensures)
+    c.in_ok-upper.ensures
+
+pub returns-clause-cover : goal.returns-clause-cover
+returns-clause-cover c =
+    let part : List Ends = c.args.part.now in
+    let ends : Ends = get_or part c.args.place (single 0) in
+    share_middle part c.in_ok-lower.lower.items c.in_ok-upper.upper.items c.args.place
+    (middle_of part c.args.place) c.requires.exists
+    (subst (WithLength part c.in_ok-lower.lower.items c.args.place)
+    (lower_ends part c.args.place c.index-part-place.result c.requires.exists c.index-part-place.is
+    c.least.result c.greatest.result c.least.ensures.least c.greatest.ensures.greatest c.least-2.result
+    c.new.result c.least-2.ensures.least c.new.ensures)
+    c.in_ok-lower.ensures)
+    (subst (WithLength part c.in_ok-upper.upper.items c.args.place)
+    (upper_ends part c.args.place c.index-part-place.result c.requires.exists c.index-part-place.is
+    c.least.result c.greatest.result c.least.ensures.least c.greatest.ensures.greatest c.greatest-2.result
+    c.new-2.result c.greatest-2.ensures.greatest c.new-2.ensures)
+    c.in_ok-upper.ensures)
