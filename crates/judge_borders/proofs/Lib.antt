@@ -1,2 +1,3 @@
 pub mod MovedBack
 pub mod SharedMiddles
+pub mod Joined

@@ -9,6 +9,7 @@ use Rattle.run_signal.specs.Spans.{ends_of}
 use Rattle.std.proofs.lemmas.Option.{get_or_from_slice_get}
 use Rattle.model_history.specs.ListLaws.{at_index}
 use Rattle.judge_borders.specs.Halves.{WithLength, ShareTheirMiddle, middle_of}
+use Rattle.judge_borders.specs.Parts.{IsPart}
 
 -- lengths of a part whose own lies in its new interval are lengths of the part with that
 in_new : (n : ℕ) (part new : List Ends) (i : ℕ) (own : Ends) (x : ℕ → ℕ) → WithLength part new i own
@@ -39,6 +40,20 @@ share_middle part lower upper i middle inside low high n x are =
     (λ above. inr (in_new n part upper i (ends_of middle (get_or part i (single 0)).greatest) x high are
     above (are.greatest i inside)))
     (cases_lt (x i) (middle * n))
+
+-- a part with another interval in order is a part
+pub part_with : (part new : List Ends) (i : ℕ) (own : Ends) → IsPart part → WithLength part new i own
+    → own.least ≤ own.greatest → IsPart new
+part_with part new i own is with_own ordered = record {
+  few = omega (arith, is.few, with_own.many);
+  ordered = λ j lt. ⊎_elim
+      (λ same. subst (λ (k : ℕ). (get_or new k (single 0)).least ≤ (get_or new k (single 0)).greatest)
+      (sym same)
+      (subst (λ (e : Ends). e.least ≤ e.greatest) (sym with_own.here) ordered))
+      (λ other. subst (λ (e : Ends). e.least ≤ e.greatest) (sym (with_own.others j other))
+      (is.ordered j (omega (arith, lt, with_own.many))))
+      (cases_eq j i);
+}
 
 -- ---- the ends of the halves
 

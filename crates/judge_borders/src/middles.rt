@@ -27,6 +27,7 @@ pub fn halves(alloc: Global, part: &[Within], place: u32) -> Result<TwoParts, Me
         (ends_of (get_or part.now place (single 0)).least (middle_of part.now place))) }
     ensures upper { IfOk result (λ two. WithLength part.now two.upper.items place
         (ends_of (middle_of part.now place) (get_or part.now place (single 0)).greatest)) }
+    ensures parts { IfOk result (λ two. IsPart two.lower.items × IsPart two.upper.items) }
     ensures cover { IfOk result (λ two. ShareTheirMiddle part.now two.lower.items two.upper.items) }
 {
     let own = part[place as usize];
