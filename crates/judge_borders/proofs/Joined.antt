@@ -1,7 +1,6 @@
 -- Answers of two halves are answers of the whole.
-use Rattle.std.proofs.Common.{◌≡◌, ◌⊎◌, ◌++◌, ℕ, List, [], ◌∷◌, inl, inr, sym, subst, ⊎_elim, refl}
+use Rattle.std.proofs.Common.{◌≡◌, ◌++◌, ℕ, List, [], ◌∷◌, inl, inr, sym, subst, ⊎_elim}
 use Rattle.std.proofs.lemmas.List.Elements.{All-append, All-nil, All-cons}
-use Rattle.std.specs.List.{All}
 use Rattle.model_history.specs.Rails.{Ends}
 use Rattle.model_borders.specs.Borders.{AreLengthsIn}
 use Rattle.judge_borders.specs.declared.answered.Part.{Part}

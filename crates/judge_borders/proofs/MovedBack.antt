@@ -1,12 +1,12 @@
 -- What is said of histories that are moved, so that one border stands still, is said of those that are not.
-use Rattle.std.proofs.Common.{◌≡◌, ◌<◌, ◌≤◌, ◌+◌, ◌-◌, ◌*◌, ◌/◌, ℕ, Bool, List, length, refl, sym, ap}
+use Rattle.std.proofs.Common.{◌≡◌, ◌≤◌, ◌+◌, ◌-◌, ◌*◌, ◌/◌, ℕ, Bool, List, length, refl, sym, ap}
 use Rattle.std.proofs.Common.{subst, ◌∙◌, ⊎_elim, arith}
 use Rattle.std.proofs.lemmas.Bool.{cases_lt}
 use Rattle.std.proofs.lemmas.Nat.{div-mul-add}
 use Rattle.std.proofs.Math.Nat.{mul-le-mul_right}
 use Rattle.std.specs.Prelude.{IsTrue, get_or}
 use Rattle.model_history.specs.{Laws.HistoryLaws, Elements.delayed}
-use Rattle.model_history.specs.Rails.{Ends, Covers, single}
+use Rattle.model_history.specs.Rails.{Ends, single}
 use Rattle.model_line.specs.Seen.{is_seen, is_lost}
 use Rattle.model_line.specs.declared.script.Kind.TheVariants.{Internal, External}
 use Rattle.model_line.specs.{declared.script.Kind.Kind, declared.script.Place.Place}

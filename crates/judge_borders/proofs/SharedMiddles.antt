@@ -1,5 +1,5 @@
 -- Each length of a part is one of its half below the middle, or above it.
-use Rattle.std.proofs.Common.{◌≡◌, ◌≢◌, ◌<◌, ◌≤◌, ◌+◌, ◌*◌, ◌/◌, ◌⊎◌, ℕ, List, length, inl, inr, sym, subst, ap, arith}
+use Rattle.std.proofs.Common.{◌≡◌, ◌<◌, ◌≤◌, ◌+◌, ◌*◌, ◌/◌, ℕ, List, length, inl, inr, sym, subst, ap, arith}
 use Rattle.std.proofs.Common.{⊎_elim, ◌∙◌}
 use Rattle.std.proofs.lemmas.Bool.{cases_lt, cases_eq}
 use Rattle.std.specs.Prelude.{get_or}
@@ -58,28 +58,28 @@ part_with part new i own is with_own ordered = record {
 -- ---- the ends of the halves
 
 module _ (part : List Ends) (i : ℕ) (own : Ends) (inside : i < length part) (is : own ≡ get_or part i own)
-    where
-  own_is : own ≡ get_or part i (single 0)
-  own_is = sym (get_or_from_slice_get part i own (single 0) (at_index part i own inside is))
+  where
+    own_is : own ≡ get_or part i (single 0)
+    own_is = sym (get_or_from_slice_get part i own (single 0) (at_index part i own inside is))
 
-  module _ (least greatest : ℕ) (is_least : least ≡ own.least) (is_greatest : greatest ≡ own.greatest) where
-    middle_is : (least + greatest) / 2 ≡ middle_of part i
-    middle_is =
-        ap (λ (y : ℕ). (y + greatest) / 2) (is_least ∙ ap (λ (e : Ends). e.least) own_is)
-        ∙ ap (λ (y : ℕ). ((get_or part i (single 0)).least + y) / 2)
-        (is_greatest ∙ ap (λ (e : Ends). e.greatest) own_is)
+    module _ (least greatest : ℕ) (is_least : least ≡ own.least) (is_greatest : greatest ≡ own.greatest) where
+      middle_is : (least + greatest) / 2 ≡ middle_of part i
+      middle_is =
+          ap (λ (y : ℕ). (y + greatest) / 2) (is_least ∙ ap (λ (e : Ends). e.least) own_is)
+          ∙ ap (λ (y : ℕ). ((get_or part i (single 0)).least + y) / 2)
+          (is_greatest ∙ ap (λ (e : Ends). e.greatest) own_is)
 
-    pub lower_ends : (low : ℕ) (ends : Ends) → low ≡ own.least → ends ≡ ends_of low ((least + greatest) / 2)
-        → ends ≡ ends_of (get_or part i (single 0)).least (middle_of part i)
-    lower_ends low ends is_low made =
-        made ∙ ap (λ (y : ℕ). ends_of y ((least + greatest) / 2))
-        (is_low ∙ ap (λ (e : Ends). e.least) own_is)
-        ∙ ap (λ (y : ℕ). ends_of (get_or part i (single 0)).least y) middle_is
+      pub lower_ends : (low : ℕ) (ends : Ends) → low ≡ own.least → ends ≡ ends_of low ((least + greatest) / 2)
+          → ends ≡ ends_of (get_or part i (single 0)).least (middle_of part i)
+      lower_ends low ends is_low made =
+          made ∙ ap (λ (y : ℕ). ends_of y ((least + greatest) / 2))
+          (is_low ∙ ap (λ (e : Ends). e.least) own_is)
+          ∙ ap (λ (y : ℕ). ends_of (get_or part i (single 0)).least y) middle_is
 
-    pub upper_ends : (high : ℕ) (ends : Ends) → high ≡ own.greatest
-        → ends ≡ ends_of ((least + greatest) / 2) high
-        → ends ≡ ends_of (middle_of part i) (get_or part i (single 0)).greatest
-    upper_ends high ends is_high made =
-        made ∙ ap (λ (y : ℕ). ends_of ((least + greatest) / 2) y)
-        (is_high ∙ ap (λ (e : Ends). e.greatest) own_is)
-        ∙ ap (λ (y : ℕ). ends_of y (get_or part i (single 0)).greatest) middle_is
+      pub upper_ends : (high : ℕ) (ends : Ends) → high ≡ own.greatest
+          → ends ≡ ends_of ((least + greatest) / 2) high
+          → ends ≡ ends_of (middle_of part i) (get_or part i (single 0)).greatest
+      upper_ends high ends is_high made =
+          made ∙ ap (λ (y : ℕ). ends_of ((least + greatest) / 2) y)
+          (is_high ∙ ap (λ (e : Ends). e.greatest) own_is)
+          ∙ ap (λ (y : ℕ). ends_of y (get_or part i (single 0)).greatest) middle_is

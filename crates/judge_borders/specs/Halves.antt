@@ -1,5 +1,5 @@
 -- Parts that differ in one length, and halves that share its middle.
-use Rattle.std.specs.Prelude.{◌≡◌, ◌≢◌, ◌≤◌, ◌+◌, ◌/◌, ◌⊎◌, ℕ, List, length, get_or}
+use Rattle.std.specs.Prelude.{◌≡◌, ◌≢◌, ◌+◌, ◌/◌, ◌⊎◌, ℕ, List, length, get_or}
 use Rattle.model_history.specs.Rails.{Ends, single}
 use Rattle.model_borders.specs.Borders.{AreLengthsIn}
 

@@ -85,11 +85,12 @@ module _ (laws : HistoryLaws) (n : ℕ) (some : 1 ≤ n) (script : LooseScript) 
       stands_to n script.borders.items part x are a place d at span.from in
       let to : earliest script.borders.items part a place span.to * n
       ≤ d + stands n script.borders.items (length part) x span.to =
-      stands_from n script.borders.items part x are a place d at span.to in
-      (omega (arith, begun, first, from),
-      (inside (stands n script.borders.items (length part) x span.from)
-      (stands n script.borders.items (length part) x span.to) (t - d)).1
-      (omega (arith, begun, first, from), omega (arith, begun, first, from, over, last, to)))
+      stands_from n script.borders.items part x are a place d at span.to in (
+        omega (arith, begun, first, from),
+        (inside (stands n script.borders.items (length part) x span.from)
+            (stands n script.borders.items (length part) x span.to) (t - d)).1
+            (omega (arith, begun, first, from), omega (arith, begun, first, from, over, last, to)),
+      )
 
   perhaps_in : d ≤ t → (span : LooseSpan) → IsTrue (holds_at n script (length part) x (t - d) span)
       → IsTrue (nat_le (earliest script.borders.items part a place span.from) (t / n)
@@ -106,11 +107,12 @@ module _ (laws : HistoryLaws) (n : ℕ) (some : 1 ≤ n) (script : LooseScript) 
       ≤ latest script.borders.items part a place span.to * n =
       stands_to n script.borders.items part x are a place d at span.to in
       (inside (earliest script.borders.items part a place span.from)
-      (latest script.borders.items part a place span.to) (t / n)).1
-      (le-div (earliest script.borders.items part a place span.from) t n some
-      (omega (arith, past, begun, from)),
-      div_below t n (latest script.borders.items part a place span.to) some
-      (omega (arith, past, over, to)))
+      (latest script.borders.items part a place span.to) (t / n)).1 (
+        le-div (earliest script.borders.items part a place span.from) t n some
+            (omega (arith, past, begun, from)),
+        div_below t n (latest script.borders.items part a place span.to) some
+            (omega (arith, past, over, to)),
+      )
 
   -- ---- what all spans show
 

@@ -4,7 +4,6 @@ use Rattle.std.specs.Prelude.{Some, None, length, get_or, slice_get, nat_le, nat
 use Rattle.std.specs.List.{list_any}
 use Rattle.model_history.specs.Rails.{Ends, single}
 use Rattle.model_line.specs.Seen.{is_of_place, is_of_loss}
-use Rattle.model_line.specs.declared.script.What.{What}
 use Rattle.model_line.specs.declared.script.{SeenSpan.SeenSpan}
 use Rattle.model_fine.specs.Loose.{Shown}
 use Rattle.model_borders.specs.declared.script.{Border.Border, LooseSpan.LooseSpan}

@@ -40,13 +40,7 @@ fn alone(borders: &[Border], part: &[Within], border: u32, late: bool) -> u32
 }
 
 /// The earliest tick at which a border may stand where another stands still at that place.
-pub fn earliest_at(
-    borders: &[Border],
-    part: &[Within],
-    still: u32,
-    place: u32,
-    border: u32,
-) -> u32
+pub fn earliest_at(borders: &[Border], part: &[Within], still: u32, place: u32, border: u32) -> u32
     requires few { length part.now ≤ 16 }
     requires place { place ≤ 17000000 }
     ensures place { result ≡ earliest borders.now part.now still place border }
@@ -58,13 +52,7 @@ pub fn earliest_at(
 }
 
 /// The latest tick at which it may.
-pub fn latest_at(
-    borders: &[Border],
-    part: &[Within],
-    still: u32,
-    place: u32,
-    border: u32,
-) -> u32
+pub fn latest_at(borders: &[Border], part: &[Within], still: u32, place: u32, border: u32) -> u32
     requires few { length part.now ≤ 16 }
     requires place { place ≤ 17000000 }
     ensures place { result ≡ latest borders.now part.now still place border }

@@ -1,5 +1,5 @@
 -- Keys that are derived from keys: round by round they are right for one tick more.
-use Rattle.std.proofs.Common.{◌≡◌, ◌<◌, ◌≤◌, ◌+◌, ℕ, List, [], length, refl, sym, ap, ◌∙◌, subst, arith}
+use Rattle.std.proofs.Common.{◌≡◌, ◌<◌, ◌≤◌, ◌+◌, ℕ, List, [], length, refl, sym, ap, ◌∙◌, arith}
 use Rattle.std.specs.Prelude.{get_or, slice_get, Some}
 use Rattle.model_history.specs.Laws.{HistoryLaws, RailsReadThePast}
 use Rattle.model_history.specs.Rails.{Rails, rails_not, rails_and, rails_or}

@@ -1,5 +1,5 @@
 -- What a truth value tells of its denial.
-use Rattle.std.proofs.Common.{◌≡◌, Bool, true, false, not, refl}
+use Rattle.std.proofs.Common.{Bool, true, false, not, refl}
 use Rattle.std.specs.Prelude.{IsTrue, IsFalse}
 
 pub on_unless : (b : Bool) → (IsFalse b → ⊥) → IsTrue b

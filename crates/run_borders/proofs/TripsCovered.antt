@@ -1,7 +1,7 @@
 -- What the rule of a trip's wave says of each history that the waves cover.
 use Rattle.std.proofs.Common.{◌≡◌, ◌<◌, ◌≤◌, ◌+◌, ◌*◌, ◌/◌, ℕ, Bool, true, false, List, refl, sym, subst, ap, ◌∙◌}
 use Rattle.std.proofs.Common.{arith}
-use Rattle.std.proofs.Math.Nat.{mul-le-mul_right, div-mul-le_self}
+use Rattle.std.proofs.Math.Nat.{mul-le-mul_right}
 use Rattle.std.proofs.lemmas.Nat.{div_below, div-mul-add}
 use Rattle.std.specs.Prelude.{IsTrue}
 use Rattle.model_history.specs.Rails.{Rails, Covers}
@@ -55,9 +55,11 @@ module _ (n : ℕ) (some : 1 ≤ n) (deadline end horizon : ℕ) (early : deadli
   last = before n some deadline horizon early
 
   pub held_met : (kind : Kind) → IsHeld kind deadline end w → MeetsBy kind (deadline * n) (end * n) u
-  held_met Internal held =
-      (held.0 * n, mul-le-mul_right {m = held.0} {n = deadline} n held.1,
-      must_first held.0 (omega (arith, held.1, early)) held.2)
+  held_met Internal held = (
+    held.0 * n,
+    mul-le-mul_right {m = held.0} {n = deadline} n held.1,
+    must_first held.0 (omega (arith, held.1, early)) held.2,
+  )
   held_met External held = λ t lt. off_there (u t) (λ on.
       let all : end * n ≤ horizon * n = mul-le-mul_right {m = end} {n = horizon} n within in
       not_both _ (held (t / n) (div_below t n end some lt))

@@ -1,7 +1,6 @@
 -- Waves that are made of stretches, and what is shown through a stretch.
-use Rattle.std.proofs.Common.{◌≡◌, ◌+◌, ◌<◌, ◌≤◌, ◌++◌, ℕ, List, [], length, replicate, refl, ap, arith}
+use Rattle.std.proofs.Common.{◌≡◌, ◌<◌, ◌++◌, ℕ, List, [], length, replicate, refl, ap, arith}
 use Rattle.std.proofs.Common.{subst, ◌∙◌, Bool}
-use Rattle.std.specs.Prelude.{IsTrue}
 use Rattle.model_history.specs.Rails.{Rails, IsSound}
 use Rattle.model_line.specs.declared.script.What.TheVariants.{Element, Loss}
 use Rattle.model_line.specs.declared.script.What.{What}

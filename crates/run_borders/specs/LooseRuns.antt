@@ -5,7 +5,7 @@ use Rattle.model_line.specs.Parameters.{channel_count, param_count, delay_param}
 use Rattle.model_line.specs.Seen.{is_seen, is_lost}
 use Rattle.model_line.specs.{declared.line.Line.Line, declared.script.Place.Place}
 use Rattle.model_logic.specs.{Choice.Box, PairMean.PairWorld}
-use Rattle.net_gates.specs.{declared.gate.Gate.Gate, NetOf.NetOf}
+use Rattle.net_gates.specs.{NetOf.NetOf}
 use Rattle.model_fine.specs.Loose.{loose_world_of}
 use Rattle.run_borders.specs.declared.run.LooseRun.{LooseRun}
 

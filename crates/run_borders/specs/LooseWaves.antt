@@ -10,7 +10,7 @@ use Rattle.net_gates.specs.{Formulas.formula_of, NetOf.NetOf}
 use Rattle.net_gates.specs.NetOf.{key_of, trip_of}
 use Rattle.model_fine.specs.Fine.{IsFineWithin}
 use Rattle.model_fine.specs.Loose.{Shown, IsBetween, IsLooseHistory, IsShownHistory}
-use Rattle.run_waves.specs.waves.Waves.{wave_at, IsWaveOf}
+use Rattle.run_waves.specs.waves.Waves.{IsWaveOf}
 use Rattle.run_waves.specs.derived.{Stretches.holds, Claims.pairs_of}
 use Rattle.run_borders.specs.declared.run.LooseRun.{LooseRun}
 use Rattle.run_borders.specs.LooseRuns.{line_of, net_of, box_of, world_of}

@@ -1,6 +1,5 @@
-use Rattle.std.proofs.Common.{◌≤◌, ℕ, List, sym, subst, get_or, arith}
+use Rattle.std.proofs.Common.{◌≤◌, List, sym, subst, get_or, arith}
 use Rattle.model_history.specs.Rails.{Ends, single}
-use Rattle.run_signal.specs.Spans.{ends_of}
 use Rattle.judge_borders.specs.Halves.{WithLength, middle_of}
 use Rattle.judge_borders.proofs.SharedMiddles.{share_middle, lower_ends, upper_ends, part_with}
 use Rattle.judge_borders.proofs.middles.halves.Goals as goal
@@ -41,14 +40,25 @@ returns-clause-cover c =
     c.in_ok-upper.ensures)
 
 pub returns-clause-parts : goal.returns-clause-parts
-returns-clause-parts c =
-    (part_with c.args.part.now c.in_ok-lower.lower.items c.args.place c.new.result c.requires.part
-    c.in_ok-lower.ensures
-    (subst (λ (e : Ends). e.least ≤ e.greatest) (sym c.new.ensures)
-    (omega (arith, c.least.ensures.least, c.least-2.ensures.least, c.greatest.ensures.greatest,
-    c.least.ensures.in_order.ordered))),
-    part_with c.args.part.now c.in_ok-upper.upper.items c.args.place c.new-2.result c.requires.part
-    c.in_ok-upper.ensures
-    (subst (λ (e : Ends). e.least ≤ e.greatest) (sym c.new-2.ensures)
-    (omega (arith, c.least.ensures.least, c.greatest-2.ensures.greatest, c.greatest.ensures.greatest,
-    c.least.ensures.in_order.ordered))))
+returns-clause-parts c = (
+  part_with c.args.part.now c.in_ok-lower.lower.items c.args.place c.new.result c.requires.part
+      c.in_ok-lower.ensures
+      (subst (λ (e : Ends). e.least ≤ e.greatest) (sym c.new.ensures)
+      (omega (
+        arith,
+        c.least.ensures.least,
+        c.least-2.ensures.least,
+        c.greatest.ensures.greatest,
+        c.least.ensures.in_order.ordered,
+      ))),
+  part_with c.args.part.now c.in_ok-upper.upper.items c.args.place c.new-2.result c.requires.part
+      c.in_ok-upper.ensures
+      (subst (λ (e : Ends). e.least ≤ e.greatest) (sym c.new-2.ensures)
+      (omega (
+        arith,
+        c.least.ensures.least,
+        c.greatest-2.ensures.greatest,
+        c.greatest.ensures.greatest,
+        c.least.ensures.in_order.ordered,
+      ))),
+)

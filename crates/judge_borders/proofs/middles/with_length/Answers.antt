@@ -1,4 +1,4 @@
-use Rattle.std.proofs.Common.{◌≡◌, ◌<◌, length, get_or, ◌∙◌, ap, List, arith}
+use Rattle.std.proofs.Common.{◌≡◌, length, get_or, ◌∙◌, ap, List, arith}
 use Rattle.std.proofs.lemmas.List.{length-set, get_or-set_same, get_or-set_other}
 use Rattle.model_history.specs.Rails.{Ends, single}
 use Rattle.judge_borders.proofs.middles.with_length.Goals as goal

@@ -1,7 +1,5 @@
 use Rattle.std.proofs.Common.{◌≡◌, ℕ, List, subst}
-use Rattle.model_line.specs.declared.script.Script.{Script}
 use Rattle.model_borders.specs.Borders.{latest_alone}
-use Rattle.model_borders.specs.Between.{AreTwoScripts}
 use Rattle.model_borders.specs.declared.script.Border.{Border}
 use Rattle.judge_borders.proofs.MovedBack.{seen_more, lost_more, held_there, broken_there, by_rule}
 use Rattle.judge_borders.proofs.parts.part_rule.Goals as goal

@@ -1,4 +1,4 @@
-use Rattle.std.proofs.Common.{◌≡◌, ◌+◌, ◌-◌, ◌*◌, ℕ, length, ◌∙◌, ap, arith}
+use Rattle.std.proofs.Common.{◌≡◌, ◌+◌, ◌*◌, ℕ, length, ◌∙◌, ap, arith}
 use Rattle.std.specs.Prelude.{get_or}
 use Rattle.model_history.specs.Rails.{single}
 use Rattle.model_borders.specs.Borders.{sum_below, fixed_in, times_in, ends_at, alone}

@@ -1,4 +1,4 @@
-use Rattle.std.proofs.Common.{◌+◌, ◌-◌, ℕ, true, false, ◌∙◌, ap, arith}
+use Rattle.std.proofs.Common.{◌+◌, ◌-◌, ℕ, false, ◌∙◌, ap, arith}
 use Rattle.model_borders.specs.Borders.{earliest, reach}
 use Rattle.model_borders.proofs.borders.earliest_at.Goals as goal
 

@@ -1,4 +1,4 @@
-use Rattle.std.proofs.Common.{◌+◌, ◌-◌, ℕ, true, false, ◌∙◌, ap, arith}
+use Rattle.std.proofs.Common.{◌+◌, ◌-◌, ℕ, true, ◌∙◌, ap, arith}
 use Rattle.model_borders.specs.Borders.{latest, reach}
 use Rattle.model_borders.proofs.borders.latest_at.Goals as goal
 

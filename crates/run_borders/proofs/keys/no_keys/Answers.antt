@@ -1,4 +1,4 @@
-use Rattle.std.proofs.Common.{◌≡◌, ◌<◌, length, [], sym, ◌∙◌, ap, arith}
+use Rattle.std.proofs.Common.{◌≡◌, length, [], sym, ◌∙◌, ap, arith}
 use Rattle.run_borders.proofs.Lists.{each_more}
 use Rattle.run_borders.proofs.keys.no_keys.Goals as goal
 

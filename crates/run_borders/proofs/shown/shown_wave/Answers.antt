@@ -1,5 +1,4 @@
-use Rattle.std.proofs.Common.{◌≡◌, ◌≤◌, ◌<◌, ◌-◌, ◌+◌, ℕ, Bool, length, arith, ap, sym, ◌∙◌, subst}
-use Rattle.model_history.specs.Rails.{Rails}
+use Rattle.std.proofs.Common.{◌≡◌, ◌≤◌, ◌<◌, ◌-◌, ◌+◌, ℕ, length, arith, ap, sym, ◌∙◌, subst}
 use Rattle.run_signal.specs.Terns.{tern_rails}
 use Rattle.run_waves.specs.waves.Waves.{IsWaveOf}
 use Rattle.run_step.specs.InputLaws.{script_fewer}

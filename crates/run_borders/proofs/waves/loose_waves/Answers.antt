@@ -1,7 +1,7 @@
-use Rattle.std.proofs.Common.{◌≡◌, ◌<◌, ℕ, List, length, sym, ◌∙◌, ap, subst, arith}
+use Rattle.std.proofs.Common.{List, length, ◌∙◌, ap, subst, arith}
 use Rattle.run_signal.specs.declared.tern.Tern.{Tern}
 use Rattle.run_waves.specs.derived.Claims.{pairs_of}
-use Rattle.run_borders.specs.LooseRuns.{line_of, net_of}
+use Rattle.run_borders.specs.LooseRuns.{net_of}
 use Rattle.run_borders.specs.LooseWaves.{AreGateWaves, AreKeysOf}
 use Rattle.run_borders.proofs.RightKeys.{are_loose, right_at_once, right_more}
 use Rattle.run_borders.proofs.waves.loose_waves.Goals as goal
