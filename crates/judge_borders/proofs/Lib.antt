@@ -1,0 +1,3 @@
+pub mod MovedBack
+pub mod SharedMiddles
+pub mod Joined

@@ -1,0 +1,7 @@
+pub mod LaterElements
+pub mod AtRest
+pub mod RestingTrees
+pub mod LaterTrees
+pub mod LengthSums
+pub mod Places
+pub mod LiesBetween
