@@ -1,2 +1,1 @@
 pub mod dump_lemmas
-pub mod roles_lemmas

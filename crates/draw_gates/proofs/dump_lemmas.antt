@@ -1,4 +1,5 @@
 pub mod TextLaws
 pub mod NameLaws
 pub mod DumpLaws
+pub mod PartLaws
 pub mod LevelLaws

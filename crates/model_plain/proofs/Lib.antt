@@ -1,6 +1,5 @@
-pub mod BelowSteps
-pub mod KeyReads
 pub mod OthersLaws
 pub mod ProgramLaws
 pub mod Counts
 pub mod WeakLaws
+pub mod NamedLaws

@@ -1,4 +1,4 @@
-pub mod Keys
 pub mod Formulas
 pub mod Parts
 pub mod FormulaLaws
+pub mod Roles

@@ -55,10 +55,14 @@ abbrev pub wanted_over : Line → ℕ → Tree → Tree
 wanted_over line k permission =
     Timer (And permission (quiet line k)) (terminal_setting line k EchoPickup) Zero
 
+-- one pulse of what it wants
+abbrev pub echo_over : Line → ℕ → Tree → Tree
+echo_over line k wanted =
+    And wanted (Not (Timer wanted (terminal_setting line k EchoPulse) Zero))
+
 -- what it sends, over what it sees ahead and whether it wants to echo
 abbrev pub weak_key_over : Line → ℕ → Tree → Tree → Tree
-weak_key_over line k ahead wanted =
-    Or ahead (And wanted (Not (Timer wanted (terminal_setting line k EchoPulse) Zero)))
+weak_key_over line k ahead wanted = Or ahead (echo_over line k wanted)
 
 -- what it trips on, over its permission and whether it wants to echo
 abbrev pub weak_pilot_over : Line → ℕ → Tree → Tree → Tree

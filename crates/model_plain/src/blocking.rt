@@ -6,6 +6,7 @@ ghost use Rattle.model_plain.specs.Formulas.{tree_of};
 ghost use Rattle.model_logic.specs.Logic.{blocking_key as blocking_key_tree};
 ghost use Rattle.model_logic.specs.Logic.{blocking_pilot as blocking_pilot_tree};
 ghost use Rattle.model_logic.specs.Tree.{Tree};
+ghost use Rattle.model_plain.specs.Roles.{coordinated as coordinated_tree};
 
 use crate::build::{and, not, timer};
 use crate::formula::Formula;
@@ -33,9 +34,18 @@ pub fn blocking_pilot(alloc: Global, line: &Line, k: u32) -> Result<Formula, Mem
     ensures { (parts : List Tree) → IfOk result (λ f. tree_of parts f
         ≡ blocking_pilot_tree line.now k) }
 {
+    let waited = coordinated(alloc, line, k);
+    let blocked = any_received(alloc, line, k);
+    and(alloc, waited, not(alloc, blocked))
+}
+
+/// Zone 2 that has waited for a blocking signal.
+pub fn coordinated(alloc: Global, line: &Line, k: u32) -> Result<Formula, Memory>
+    requires { k < terminal_count line.now }
+    ensures { (parts : List Tree) → IfOk result (λ f. tree_of parts f
+        ≡ coordinated_tree line.now k) }
+{
     let coordination = terminal_time(line, k, Setting::BlockCoord);
     let zone2 = element_formula(alloc, line, k, Element::Z2);
-    let ahead = timer(alloc, zone2, coordination, Time::Zero);
-    let blocked = any_received(alloc, line, k);
-    and(alloc, ahead, not(alloc, blocked))
+    timer(alloc, zone2, coordination, Time::Zero)
 }

@@ -38,7 +38,8 @@ fn late(alloc: Global, line: &Line, k: u32, j: u32) -> Result<Formula, Memory>
     timer(alloc, Ok(lost), window, Time::Zero)
 }
 
-fn unblocked(alloc: Global, line: &Line, k: u32, j: u32) -> Result<Formula, Memory>
+/// The channel to `k` from `j` is lost, and its window is open.
+pub fn unblocked(alloc: Global, line: &Line, k: u32, j: u32) -> Result<Formula, Memory>
     ensures { (parts : List Tree) → IfOk result (λ f. tree_of parts f
         ≡ unblocked_tree line.now k j) }
 {
@@ -49,7 +50,8 @@ fn unblocked(alloc: Global, line: &Line, k: u32, j: u32) -> Result<Formula, Memo
     and(alloc, opened, not(alloc, closed))
 }
 
-fn locked_out(alloc: Global, line: &Line, k: u32, j: u32) -> Result<Formula, Memory>
+/// Its window closed, and the guard tone has not come back for long enough since.
+pub fn locked_out(alloc: Global, line: &Line, k: u32, j: u32) -> Result<Formula, Memory>
     ensures { (parts : List Tree) → IfOk result (λ f. tree_of parts f
         ≡ locked_out_tree line.now k j) }
 {

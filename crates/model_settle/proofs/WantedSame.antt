@@ -3,31 +3,29 @@
 use Rattle.std.proofs.Common.{◌≡◌, ◌+◌, ℕ, Bool, true, false, refl, sym, ◌∙◌, ap, subst, List, []}
 use Rattle.std.proofs.Common.{◌∷◌, ◌&&◌, ⊎_elim}
 use Rattle.std.proofs.lemmas.Bool.{cases_Bool}
-use Rattle.std.specs.Prelude.{IsTrue, cond, Option, None, Some, unwrap_or}
+use Rattle.std.specs.Prelude.{cond, map, get_or, Option, None, Some, unwrap_or}
 use Rattle.model_history.specs.Rails.{Ends}
-use Rattle.model_line.specs.declared.line.Scheme.TheVariants.{Pott, Putt, Dcb, Dcub, Dtt}
 use Rattle.model_line.specs.declared.line.Setting.TheVariants.{EchoPickup, EchoPulse}
-use Rattle.model_line.specs.{declared.line.Line.Line, declared.line.Scheme.Scheme}
+use Rattle.model_line.specs.declared.line.Line.{Line}
 use Rattle.model_line.specs.declared.line.Owner.TheVariants as owner
 use Rattle.model_line.specs.declared.script.Script.{Script}
-use Rattle.model_line.specs.{SetBounds.SameButParams, Terminals.flags_fit}
+use Rattle.model_line.specs.SetBounds.{SameButParams}
 use Rattle.model_line.specs.{SameCountLaws.made_alike}
 use Rattle.model_line.specs.Settings.{line_settings, setting_number}
-use Rattle.model_line.specs.SettingFlagLaws.{none_weak}
 use Rattle.model_logic.specs.{Elements.is_weak, IntervalLaws.TreesRestOnNoInterval}
-use Rattle.model_logic.specs.Elements.{zone2, setting_of}
+use Rattle.model_logic.specs.Elements.{setting_of}
 use Rattle.model_logic.specs.{Boxes.IsSameBox, BoxLaws.same_world, Names.Names, Names.HasTime}
 use Rattle.model_logic.specs.Choice.{Box, ends_by, pair_world_of}
-use Rattle.model_logic.specs.Logic.{key_by, key_tree}
-use Rattle.model_logic.specs.Permissive.{permission_by, permission, terminal_setting, quiet}
-use Rattle.model_logic.specs.Permissive.{reversal_guard, echo_wanted, echo, permissive_key}
-use Rattle.model_logic.specs.{Received.all_received, Unblocking.all_open}
+use Rattle.model_logic.specs.Logic.{key_tree}
+use Rattle.model_logic.specs.Permissive.{permission, terminal_setting, quiet}
+use Rattle.model_logic.specs.Permissive.{echo_wanted, echo}
 use Rattle.model_logic.specs.declared.time.Time.{Time}
 use Rattle.model_logic.specs.declared.time.Time.TheVariants.{Zero, Param}
 use Rattle.model_logic.specs.Tree.{Tree, Const, Not, And, Or, Timer}
 use Rattle.model_logic.specs.SameTree.{same_tree}
 use Rattle.model_logic.specs.SameTreeLaws.{tree-same}
 use Rattle.model_settle.specs.Assumed.{Assumption, Throughout, Interrupted, wanted, pulse_over}
+use Rattle.model_settle.specs.EchoLaws.{echoes_or_strong}
 use Rattle.model_settle.specs.Assumed.{least_pulse, is_among, level_by, first_of, assumed_level}
 
 -- where it stands in a key tree
@@ -35,12 +33,10 @@ wanted_in : Tree → Tree
 wanted_in (Or a (And x rest)) = x
 wanted_in _ = Const false
 
-wanted_by : Scheme → Tree → Tree
-wanted_by Pott key = wanted_in key
-wanted_by Dcub key = wanted_in key
-wanted_by Putt key = Const false
-wanted_by Dcb key = Const false
-wanted_by Dtt key = Const false
+-- of a terminal that is not weak nothing is looked for
+abbrev wanted_by : Bool → Tree → Tree
+wanted_by true key = wanted_in key
+wanted_by false key = Const false
 
 part_is : (weak : Bool) (a timer rest : Tree)
     → wanted_in (Or a (cond weak (And (cond weak timer (Const false)) rest) (Const false)))
@@ -50,10 +46,11 @@ part_is true a timer rest = refl
 part_is false a timer rest = refl
 
 module _ (line : Line) (k : ℕ) where
-  in_key : (perm : Tree) → echo_wanted line k perm ≡ wanted_in (permissive_key line k perm)
-  unfolding permissive_key echo echo_wanted
-  in_key perm =
-      sym (part_is (is_weak line k) (And (zone2 line k) (Not (reversal_guard line k)))
+  in_key : (ahead perm : Tree)
+      → echo_wanted line k perm ≡ wanted_in (Or ahead (echo line k perm))
+  unfolding echo echo_wanted
+  in_key ahead perm =
+      sym (part_is (is_weak line k) ahead
       (Timer (And perm (quiet line k)) (terminal_setting line k EchoPickup) Zero)
       (Not (Timer (echo_wanted line k perm) (terminal_setting line k EchoPulse) Zero)))
 
@@ -63,24 +60,27 @@ module _ (line : Line) (k : ℕ) where
       ap (λ (b : Bool). cond b (Timer (And perm (quiet line k)) (terminal_setting line k EchoPickup)
       Zero) (Const false)) e
 
-  by_scheme : (s : Scheme) → IsTrue (flags_fit s line.terminals.items)
-      → echo_wanted line k (permission_by s line k) ≡ wanted_by s (key_by s line k)
-  unfolding wanted_by
-  by_scheme Pott fit = in_key (all_received line k)
-  by_scheme Dcub fit = in_key (all_open line k)
-  by_scheme Putt fit = without_weak (Const false) (none_weak line.terminals.items k fit)
-  by_scheme Dcb fit = without_weak (Const false) (none_weak line.terminals.items k fit)
-  by_scheme Dtt fit = without_weak (Const false) (none_weak line.terminals.items k fit)
+  by_flag : (weak : Bool) → is_weak line k ≡ weak
+      → wanted line k ≡ wanted_by weak (key_tree line k)
+  by_flag true weak =
+      ⊎_elim
+      (λ key. in_key key.0 (permission line k) ∙ ap wanted_in (sym key.1))
+      (λ strong. absurd (let e : true ≡ false = sym weak ∙ strong in cc))
+      (echoes_or_strong line k)
+  by_flag false strong = without_weak (permission line k) strong
 
-  wanted_is : wanted line k ≡ wanted_by line.scheme (key_tree line k)
-  unfolding key_tree permission
-  wanted_is = by_scheme line.scheme line.flags_by_scheme
+  wanted_is : wanted line k ≡ wanted_by (is_weak line k) (key_tree line k)
+  wanted_is = by_flag (is_weak line k) refl
 
 module _ (trees : TreesRestOnNoInterval) (line other : Line) (same : SameButParams line other) where
+  weak_same : (k : ℕ) → is_weak other k ≡ is_weak line k
+  weak_same k =
+      made_alike line other same (λ s ts cs. get_or (map (λ t. t.weak) ts) k false)
+
   pub wanted_same : (k : ℕ) → wanted other k ≡ wanted line k
   wanted_same k =
-      wanted_is other k ∙ ap (λ (s : Scheme). wanted_by s (key_tree other k)) same.scheme
-      ∙ ap (wanted_by line.scheme) (trees.keys line other k same) ∙ sym (wanted_is line k)
+      wanted_is other k ∙ ap (λ (b : Bool). wanted_by b (key_tree other k)) (weak_same k)
+      ∙ ap (wanted_by (is_weak line k)) (trees.keys line other k same) ∙ sym (wanted_is line k)
 
   setting_same : (k : ℕ) → terminal_setting other k EchoPulse ≡ terminal_setting line k EchoPulse
   unfolding terminal_setting setting_of

@@ -5,6 +5,7 @@ pub mod CaseTrees
 pub mod CaseLaws
 pub mod Sides
 pub mod Demands
+pub mod EchoLaws
 pub mod Worst
 pub mod Known
 pub mod Choices

@@ -6,6 +6,10 @@ use Rattle.model_line.specs.declared.line.Setting.TheVariants.{Z2Dropout, RvPick
 use Rattle.model_line.specs.declared.line.Setting.TheVariants.{ReversalPickup, ReversalDropout}
 use Rattle.model_line.specs.declared.line.Setting.TheVariants.{BlockCarry, BlockCoord}
 use Rattle.model_line.specs.declared.line.Setting.TheVariants.{TransferSecurity, Delay}
+use Rattle.model_line.specs.declared.line.Setting.TheVariants.{UvPickup, UvDropout, EchoBlock}
+use Rattle.model_line.specs.declared.line.Setting.TheVariants.{EchoPickup, EchoPulse}
+use Rattle.model_line.specs.declared.line.Setting.TheVariants.{UnblockPickup, UnblockWindow}
+use Rattle.model_line.specs.declared.line.Setting.TheVariants.{UnblockRestore}
 use Rattle.model_line.specs.{declared.line.Line.Line, declared.line.Scheme.Scheme}
 use Rattle.model_line.specs.{declared.line.Setting.Setting, declared.script.Script.Script}
 use Rattle.model_line.specs.{Settings.line_settings, Parameters.terminal_count, Channels.from_of}
@@ -50,7 +54,17 @@ end_for rail ReversalDropout = dropout_end (turned rail)
 end_for rail BlockCarry = dropout_end (turned rail)
 end_for rail BlockCoord = pickup_end rail
 end_for rail TransferSecurity = pickup_end rail
-end_for rail _ = Least
+-- not asked for: undervoltage and echo, which only a weak end reads, windows, which no such line has,
+-- and delays, which the worst choice takes tick by tick
+end_for rail UvPickup = Least
+end_for rail UvDropout = Least
+end_for rail EchoBlock = Least
+end_for rail EchoPickup = Least
+end_for rail EchoPulse = Least
+end_for rail UnblockPickup = Least
+end_for rail UnblockWindow = Least
+end_for rail UnblockRestore = Least
+end_for rail Delay = Least
 
 -- the setting that parameter i is
 abbrev pub setting_at : Line → ℕ → Setting

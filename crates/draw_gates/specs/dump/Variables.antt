@@ -12,10 +12,11 @@ use Rattle.model_line.specs.NamesByNumber.{element_text}
 use Rattle.net_gates.specs.declared.gate.Gate.{Gate}
 use Rattle.net_gates.specs.declared.gate.Gate.TheVariants as gate
 use Rattle.net_gates.specs.NetOf.{NetOf, key_of, trip_of}
-use Rattle.draw_gates.specs.declared.roles.role.Role.TheVariants.{Seen, Timed, Lost, Raw, Received}
-use Rattle.draw_gates.specs.declared.roles.role.Role.TheVariants.{Window, Lockout, Guard, Coordination}
-use Rattle.draw_gates.specs.declared.roles.role.Role.TheVariants.{Echo, Permission, AnyReceived}
-use Rattle.draw_gates.specs.{declared.roles.role.Role.Role, roles.Lookup.role_among, roles.Roles.roles_at}
+use Rattle.model_plain.specs.declared.role.Role.TheVariants.{Seen, Timed, Lost, Raw, Received}
+use Rattle.model_plain.specs.declared.role.Role.TheVariants.{Window, Lockout, Guard, Coordination}
+use Rattle.model_plain.specs.declared.role.Role.TheVariants.{Echo, Permission, AnyReceived}
+use Rattle.model_plain.specs.{declared.role.Role.Role, Roles.roles_at}
+use Rattle.draw_gates.specs.roles.Lookup.{role_among}
 use Rattle.model_history.specs.Elements.{some_below}
 
 -- the identifier code of gate i: two characters from `!` to `~`

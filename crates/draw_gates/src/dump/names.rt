@@ -2,12 +2,12 @@
 
 ghost use Rattle.std.specs.Prelude.{◌≡◌, ◌++◌, IfOk, OnOk};
 ghost use Rattle.model_line.specs.ParamNames.{name_at};
-ghost use Rattle.draw_gates.specs.roles.Roles.{receiver as receiver_of, sender as sender_of};
+ghost use Rattle.model_plain.specs.Roles.{receiver as receiver_of, sender as sender_of};
 ghost use Rattle.draw_gates.specs.dump.Variables.{kind_text, channel_text, step_text, role_text};
 
 use crate::dump::put::{put, put_number};
-use crate::roles::{Role, receiver, sender};
 use model_line::{Line, Memory, element_word};
+use model_plain::{Role, receiver, sender};
 use net_gates::Gate;
 use std::alloc::Global;
 

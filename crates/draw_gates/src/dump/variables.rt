@@ -3,7 +3,8 @@
 ghost use Rattle.std.specs.Prelude.{◌≡◌, ◌<◌, ◌++◌, length, is_some, IfOk, OnOk};
 ghost use Rattle.model_history.specs.Each.{each_below};
 ghost use Rattle.model_line.specs.{ParamNames.name_at, Parameters.terminal_count};
-ghost use Rattle.draw_gates.specs.{roles.Lookup.role_among, roles.Roles.roles_at as roles_of};
+ghost use Rattle.draw_gates.specs.roles.Lookup.{role_among};
+ghost use Rattle.model_plain.specs.Roles.{roles_at as roles_of};
 ghost use Rattle.draw_gates.specs.dump.Variables.{code_of, variable_head, variable_text, scope_text};
 ghost use Rattle.draw_gates.specs.dump.Variables.{step_text, role_text, named_variable, variable_at};
 ghost use Rattle.draw_gates.specs.dump.Variables.{is_named as is_named_gate, step_variable, variable_of};
@@ -12,8 +13,9 @@ ghost use Rattle.draw_gates.specs.dump.Variables.{terminal_scope, declarations};
 use crate::dump::identifier::put_identifier;
 use crate::dump::names::{name_of_role, name_of_step, word_and_terminal};
 use crate::dump::put::put;
-use crate::roles::{Role, role_of_gate, roles_at};
+use crate::roles::role_of_gate;
 use model_line::{Line, Memory};
+use model_plain::{Role, named_parts};
 use net_gates::{Compiled, GateId};
 use std::alloc::Global;
 
@@ -149,8 +151,8 @@ fn role_at(alloc: Global, compiled: &Compiled<'_>, k: u32, i: u32) -> Result<Opt
         role ≡ role_among compiled.now.line.now compiled.now.net.now.gates i
         (roles_of compiled.now.line.now k)) }
 {
-    let roles = roles_at(alloc, compiled.line, k)?;
-    Ok(role_of_gate(compiled.line, compiled.net, GateId(i), roles.as_slice()))
+    let parts = named_parts(alloc, compiled.line, k)?;
+    Ok(role_of_gate(compiled.net, GateId(i), parts.as_slice()))
 }
 
 // Appends a gate under the name of its role.

@@ -1,9 +1,9 @@
 //! The gates of a net by their kinds, and the trees of their arguments.
 
-ghost use Rattle.std.specs.Prelude.{◌≡◌, ◌<◌, length, IfSome, false, Some, None, if◌then◌else◌};
+ghost use Rattle.std.specs.Prelude.{◌≡◌, ◌<◌, length, IfSome, Some, None, if◌then◌else◌};
 ghost use Rattle.model_logic.specs.Tree.{Tree};
 ghost use Rattle.model_logic.specs.Tree as tree;
-ghost use Rattle.model_logic.specs.SameTree.{same_tree};
+ghost use Rattle.model_logic.specs.SameTree.{same_tree, same_value};
 ghost use Rattle.net_gates.specs.{Formulas.formula_of, Formulas.kind_over, Gates.HasArguments};
 ghost use Rattle.draw_gates.specs.roles.Parts.{is_one, are_two};
 
@@ -21,16 +21,23 @@ pub fn gate_at(net: &Net, id: GateId) -> Gate
     *net.gate(id)
 }
 
-/// Whether a gate is never on.
+/// Whether a gate is on always, or never.
 #[tactic(auto, unfolding(model_logic::specs::SameTree::same_tree))]
-pub fn is_never(net: &Net, id: GateId) -> bool
+pub fn is_const(net: &Net, id: GateId, always: bool) -> bool
     requires { id.0 < length net.now.gates }
-    ensures { result ≡ same_tree (formula_of net.now.gates id.0) (tree.Const false) }
+    ensures { result ≡ same_tree (formula_of net.now.gates id.0) (tree.Const always) }
 {
     match gate_at(net, id) {
-        Gate::Const(value) => !value,
+        Gate::Const(value) => is_same(value, always),
         _ => false,
     }
+}
+
+// Whether both are on, or neither.
+fn is_same(one: bool, other: bool) -> bool
+    ensures { result ≡ same_value one other }
+{
+    if one { other } else { !other }
 }
 
 /// Whether a gate is what the script shows at a place.

@@ -1,56 +1,61 @@
-//! Whether a gate has a role.
+//! Whether a gate stands for the tree of a formula.
 
-ghost use Rattle.std.specs.Prelude.{◌≡◌, ◌<◌, length};
-ghost use Rattle.draw_gates.specs.{roles.Lookup.has_role, roles.Roles.IsRoleOf};
-ghost use Rattle.draw_gates.specs.roles.Roles.{receiver as receiver_of, sender as sender_of};
+ghost use Rattle.std.specs.Prelude.{◌≡◌, ◌<◌, length, IfSome};
+ghost use Rattle.model_logic.specs.SameTree.{same_tree};
+ghost use Rattle.model_plain.specs.Formulas.{own_tree};
+ghost use Rattle.net_gates.specs.Formulas.{formula_of};
+ghost use Rattle.draw_gates.specs.roles.Parts.{is_one, are_two};
 
-use crate::roles::gates::{is_lost, is_raw, is_seen};
-use crate::roles::heard::{is_locked_out, is_received, is_unblocked};
-use crate::roles::joined::{is_any_received, is_permission};
-use crate::roles::own::{is_coordinated, is_echo, is_guard, is_seen_timed};
-use crate::roles::role::Role;
-use model_line::Line;
+use crate::roles::gates::{
+    both_of, denied, either_of, is_const, is_lost, is_raw, is_seen, sealed_by, timed_by,
+};
+use model_plain::Formula;
 use net_gates::{GateId, Net};
 
-/// Whether a gate stands for the tree of a role.
-#[tactic(auto, unfolding(crate::specs::roles::Roles::tree_of))]
-pub fn stands_for(line: &Line, net: &Net, id: GateId, role: Role) -> bool
-    requires gate { id.0 < length net.now.gates }
-    requires role { IsRoleOf line.now role }
-    ensures { result ≡ has_role line.now net.now.gates role id.0 }
+/// Whether a gate stands for the tree of a formula that names no parts; one that it names counts as
+/// never on.
+#[cycle(stands)]
+pub fn stands_for(net: &Net, id: GateId, formula: &Formula) -> bool
+    requires { id.0 < length net.now.gates }
+    ensures { result ≡ same_tree (formula_of net.now.gates id.0) (own_tree formula.now) }
 {
-    match role {
-        Role::Seen(place) => is_seen(net, id, place),
-        Role::Timed(place) => is_seen_timed(line, net, id, place.terminal, place.element),
-        Role::Lost(c) => is_lost(net, id, c),
-        Role::Raw(c) => is_raw(net, id, c),
-        Role::Received(c) => is_received(line, net, id, receiver(line, c), sender(line, c)),
-        Role::Window(c) => is_unblocked(line, net, id, receiver(line, c), sender(line, c)),
-        Role::Lockout(c) => is_locked_out(line, net, id, receiver(line, c), sender(line, c)),
-        Role::Guard(k) => is_guard(line, net, id, k),
-        Role::Coordination(k) => is_coordinated(line, net, id, k),
-        Role::Echo(k) => is_echo(line, net, id, k),
-        Role::Permission(k) => is_permission(line, net, id, k),
-        Role::AnyReceived(k) => is_any_received(line, net, id, k),
+    match formula {
+        Formula::Part(_) => is_const(net, id, false),
+        Formula::Const(value) => is_const(net, id, *value),
+        Formula::Seen(place) => is_seen(net, id, *place),
+        Formula::Loss(channel) => is_lost(net, id, *channel),
+        Formula::Raw(channel) => is_raw(net, id, *channel),
+        Formula::Not(x) => one_stands(net, denied(net, id), x),
+        Formula::And(x, y) => both_stand(net, both_of(net, id), x, y),
+        Formula::Or(x, y) => both_stand(net, either_of(net, id), x, y),
+        Formula::Timer(x, pickup, dropout) => {
+            one_stands(net, timed_by(net, id, *pickup, *dropout), x)
+        }
+        Formula::Seal(set, hold) => both_stand(net, sealed_by(net, id), set, hold),
     }
 }
 
-/// The terminal at which a channel ends; the first where there is no such channel.
-pub fn receiver(line: &Line, channel: u32) -> u32
-    ensures { result ≡ receiver_of line.now channel }
+// Whether there is such a gate, and it stands for the tree.
+#[cycle(stands)]
+fn one_stands(net: &Net, gate: Option<GateId>, x: &Formula) -> bool
+    requires { IfSome gate (λ a. a.0 < length net.now.gates) }
+    ensures { result ≡ is_one net.now.gates (own_tree x.now) gate }
 {
-    match line.channels.as_slice().get(channel as usize) {
-        Some(channel) => channel.to,
-        None => 0,
+    match gate {
+        Some(a) => stands_for(net, a, x),
+        None => false,
     }
 }
 
-/// The terminal from which it comes.
-pub fn sender(line: &Line, channel: u32) -> u32
-    ensures { result ≡ sender_of line.now channel }
+// Whether there are two such gates, and they stand for the trees.
+#[cycle(stands)]
+fn both_stand(net: &Net, gates: Option<(GateId, GateId)>, x: &Formula, y: &Formula) -> bool
+    requires { IfSome gates (λ (a, b). (a.0 < length net.now.gates)
+        × (b.0 < length net.now.gates)) }
+    ensures { result ≡ are_two net.now.gates (own_tree x.now) (own_tree y.now) gates }
 {
-    match line.channels.as_slice().get(channel as usize) {
-        Some(channel) => channel.from,
-        None => 0,
+    match gates {
+        Some((a, b)) => stands_for(net, a, x) && stands_for(net, b, y),
+        None => false,
     }
 }

@@ -1,12 +1,14 @@
 -- The rows of a line are of what it has.
-use Rattle.std.proofs.Common.{◌≡◌, ◌<◌, ◌++◌, ◌∷◌, [], ℕ, Bool, true, false, List, length, refl}
+use Rattle.std.proofs.Common.{◌≡◌, ◌<◌, ◌++◌, ◌∷◌, [], ℕ, Bool, true, false, List, length, refl, ap, ◌∙◌}
 use Rattle.std.specs.Prelude.{◌↔◌, Option, Some, None, IsTrue, IsFalse}
 use Rattle.std.specs.List.{flat_map}
 use Rattle.net_gates.specs.declared.gate.Gate.{Gate}
 use Rattle.run_waves.specs.waves.FirstTick.{first_on}
-use Rattle.draw_gates.specs.{declared.roles.role.Role.Role, roles.Lookup.gate_of, roles.Lookup.has_role}
-use Rattle.draw_gates.specs.roles.Roles.{explains, roles_at}
-use Rattle.draw_run.specs.diagram.Traces.{logic_row, logic_of, logic_at}
+use Rattle.draw_gates.specs.roles.Lookup.{gate_of, has_role}
+use Rattle.model_plain.specs.declared.role.Role.{Role}
+use Rattle.model_plain.specs.declared.role.NamedPart.{NamedPart}
+use Rattle.model_plain.specs.Roles.{explains, roles_at, roles_of, AreNamedParts}
+use Rattle.draw_run.specs.diagram.Traces.{logic_row, logic_of, logic_of_part, logic_at}
 use Rattle.std.proofs.lemmas.List.Elements.{All-nil, All-cons, All-append}
 use Rattle.std.specs.Prelude.{◌==◌, if◌then◌else◌}
 use Rattle.std.specs.List.{All}
@@ -19,6 +21,17 @@ use Rattle.draw_run.specs.declared.diagram.trace.Trace.{Trace}
 use Rattle.draw_run.specs.declared.diagram.trace.Trace.TheVariants.{Lost, Logic, Key, Trip}
 use Rattle.draw_run.specs.diagram.Traces.{IsTraceOf, loss_at, seen_at, seen_by, traces_at}
 use Rattle.draw_run.specs.diagram.Traces.{traces_of}
+
+module _ (line : Line) (gates : List Gate) where
+  -- the rows of named parts are those of their roles
+  pub rows_of_parts : (roles : List Role) (parts : List NamedPart) → AreNamedParts line roles parts
+      → flat_map (logic_of_part line gates) parts ≡ flat_map (logic_of line gates) roles
+  rows_of_parts roles parts are =
+      each_row parts ∙ ap (flat_map (logic_of line gates)) are.are where
+        each_row : (ps : List NamedPart) → flat_map (logic_of_part line gates) ps
+            ≡ flat_map (logic_of line gates) (roles_of ps)
+        each_row [] = refl
+        each_row (p ∷ ps) = ap (λ rows. logic_of line gates p.role ++ rows) (each_row ps)
 
 module _ (line : Line) (gates : List Gate)
     (least : (u : ℕ → Bool) (n t : ℕ)

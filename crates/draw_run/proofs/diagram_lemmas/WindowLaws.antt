@@ -7,8 +7,8 @@ use Rattle.std.specs.List.{All, flat_map}
 use Rattle.model_line.specs.declared.line.Line.{Line}
 use Rattle.model_line.specs.Parameters.{channel_count, delay_param}
 use Rattle.model_timing.specs.declared.step.Step.{Step}
-use Rattle.draw_gates.specs.declared.roles.role.Role.{Role}
-use Rattle.draw_gates.specs.declared.roles.role.Role.TheVariants as role
+use Rattle.model_plain.specs.declared.role.Role.{Role}
+use Rattle.model_plain.specs.declared.role.Role.TheVariants as role
 use Rattle.draw_run.specs.diagram.DelaySteps.{delay_steps, marks_of, role_marks, tick_of_step}
 use Rattle.draw_shapes.specs.declared.rows.Rows.{Rows}
 use Rattle.draw_run.specs.declared.diagram.trace.Trace.{Trace}

@@ -4,7 +4,7 @@ use Rattle.std.specs.List.{Contains}
 use Rattle.model_line.specs.declared.line.Line.{Line}
 use Rattle.model_line.specs.Parameters.{channel_count, delay_param}
 use Rattle.model_timing.specs.declared.step.Step.{Step}
-use Rattle.draw_gates.specs.declared.roles.role.Role.TheVariants.{Received}
+use Rattle.model_plain.specs.declared.role.Role.TheVariants.{Received}
 use Rattle.draw_run.specs.diagram.DelaySteps.{marks_of}
 use Rattle.draw_run.specs.declared.diagram.trace.Trace.TheVariants.{Logic}
 

@@ -4,8 +4,8 @@ use Rattle.std.specs.List.{flat_map}
 use Rattle.model_line.specs.{declared.line.Line.Line, Parameters.delay_param}
 use Rattle.model_line.specs.Parameters.{channel_count}
 use Rattle.model_timing.specs.declared.step.Step.{Step}
-use Rattle.draw_gates.specs.declared.roles.role.Role.{Role}
-use Rattle.draw_gates.specs.declared.roles.role.Role.TheVariants as role
+use Rattle.model_plain.specs.declared.role.Role.{Role}
+use Rattle.model_plain.specs.declared.role.Role.TheVariants as role
 use Rattle.draw_run.specs.declared.diagram.trace.Trace.{Trace}
 use Rattle.draw_run.specs.declared.diagram.trace.Trace.TheVariants.{Seen, Lost, Logic, Key, Trip}
 

@@ -13,8 +13,9 @@ use Rattle.model_logic.specs.Histories.{History, PairHistory}
 use Rattle.model_logic.specs.PairMean.{PairSignals}
 use Rattle.net_gates.specs.declared.gate.Gate.{Gate}
 use Rattle.run_step.specs.GatePairs.{GateSignals}
-use Rattle.draw_gates.specs.{declared.roles.role.Role.Role, roles.Lookup.gate_of}
-use Rattle.draw_gates.specs.roles.Roles.{explains, roles_at}
+use Rattle.draw_gates.specs.roles.Lookup.{gate_of}
+use Rattle.model_plain.specs.{declared.role.Role.Role, declared.role.NamedPart.NamedPart}
+use Rattle.model_plain.specs.Roles.{explains, roles_at}
 use Rattle.draw_run.specs.declared.diagram.trace.Trace.{Trace}
 use Rattle.draw_run.specs.declared.diagram.trace.Trace.TheVariants.{Seen, Lost, Logic, Key, Trip}
 
@@ -38,6 +39,10 @@ logic_row false role gate = []
 
 abbrev pub logic_of : Line → List Gate → Role → List Trace
 logic_of line gates role = logic_row (explains role) role (gate_of line gates role)
+
+-- that of a named part
+abbrev pub logic_of_part : Line → List Gate → NamedPart → List Trace
+logic_of_part line gates part = logic_of line gates part.role
 
 -- what terminal k receives and makes of it, each a gate of the net by its role
 abbrev pub logic_at : Line → List Gate → ℕ → List Trace

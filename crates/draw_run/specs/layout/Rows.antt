@@ -17,9 +17,9 @@ use Rattle.draw_shapes.specs.declared.class.Class.{Class}
 use Rattle.draw_shapes.specs.declared.class.Class.TheVariants as class
 use Rattle.draw_shapes.specs.Seen.{SeenFigure, SeenShape}
 use Rattle.draw_shapes.specs.Seen as seen
-use Rattle.draw_gates.specs.declared.roles.role.Role.{Role}
-use Rattle.draw_gates.specs.declared.roles.role.Role.TheVariants as role
-use Rattle.draw_gates.specs.roles.Roles.{receiver, sender}
+use Rattle.model_plain.specs.declared.role.Role.{Role}
+use Rattle.model_plain.specs.declared.role.Role.TheVariants as role
+use Rattle.model_plain.specs.Roles.{receiver, sender}
 use Rattle.draw_run.specs.layout.Scale.{place_of}
 
 -- ---- its words

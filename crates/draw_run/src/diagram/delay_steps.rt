@@ -7,8 +7,8 @@ ghost use Rattle.draw_run.specs.diagram.DelaySteps.{tick_of_step};
 ghost use Rattle.draw_run.specs.diagram.DelayStepLaws.{MarksAreSteps};
 
 use crate::diagram::trace::Trace;
-use draw_gates::roles::Role;
 use model_line::{Line, Memory};
+use model_plain::Role;
 use model_timing::Step;
 use run_signal::Tick;
 use std::alloc::Global;

@@ -3,14 +3,15 @@
 ghost use Rattle.std.specs.Prelude.{◌≡◌, ◌++◌, ◌<◌, OnOk, IfOk, length};
 ghost use Rattle.std.specs.List.{All, flat_map};
 ghost use Rattle.model_history.specs.Each.{each_below};
-ghost use Rattle.draw_gates.specs.roles.Roles.{IsRoleOf};
-ghost use Rattle.draw_run.specs.diagram.Traces.{logic_at, logic_of, logic_row};
+ghost use Rattle.model_plain.specs.Roles.{HasItsTree};
+ghost use Rattle.draw_run.specs.diagram.Traces.{logic_at, logic_of_part, logic_row};
 ghost use Rattle.model_line.specs.Parameters.{terminal_count, channel_count};
 ghost use Rattle.draw_run.specs.diagram.Traces.{traces_of, traces_at, seen_at, loss_at};
 ghost use Rattle.draw_run.specs.diagram.Traces.{IsTraceOf};
 
-use draw_gates::roles::{Role, find_gate, roles_at};
+use draw_gates::roles::find_gate;
 use model_line::{Element, Line, Memory, Place};
+use model_plain::{NamedPart, Role, named_parts};
 use net_gates::Compiled;
 use run_waves::waves::the_first_tick_is_the_least;
 use std::alloc::Global;
@@ -108,33 +109,34 @@ fn push_logic(
     ensures { OnOk result (all.new.items ≡ all.old.items
         ++ logic_at compiled.now.line.now compiled.now.net.now.gates k) }
 {
-    let roles = roles_at(alloc, compiled.line, k)?;
-    push_roles(all, compiled, roles.as_slice())
+    let parts = named_parts(alloc, compiled.line, k)?;
+    push_parts(all, compiled, parts.as_slice())
 }
 
-fn push_roles(all: &mut Vec<Trace>, compiled: &Compiled<'_>, roles: &[Role]) -> Result<(), Memory>
-    requires { All (IsRoleOf compiled.now.line.now) roles.now }
+fn push_parts(
+    all: &mut Vec<Trace>,
+    compiled: &Compiled<'_>,
+    parts: &[NamedPart],
+) -> Result<(), Memory>
+    requires { All (HasItsTree compiled.now.line.now) parts.now }
     ensures { OnOk result (all.new.items
         ≡ all.old.items ++ flat_map
-        (logic_of compiled.now.line.now compiled.now.net.now.gates) roles.now) }
+        (logic_of_part compiled.now.line.now compiled.now.net.now.gates) parts.now) }
 {
-    for role in roles {
-        push_role(all, compiled, *role)?;
+    for part in parts {
+        push_part(all, compiled, part)?;
     }
     Ok(())
 }
 
-fn push_role(all: &mut Vec<Trace>, compiled: &Compiled<'_>, role: Role) -> Result<(), Memory>
-    requires { IsRoleOf compiled.now.line.now role }
+#[tactic(auto, unfolding(model_plain::specs::Roles::HasItsTree))]
+fn push_part(all: &mut Vec<Trace>, compiled: &Compiled<'_>, part: &NamedPart) -> Result<(), Memory>
+    requires { HasItsTree compiled.now.line.now part.now }
     ensures { OnOk result (all.new.items ≡ all.old.items
-        ++ logic_of compiled.now.line.now compiled.now.net.now.gates role) }
+        ++ logic_of_part compiled.now.line.now compiled.now.net.now.gates part.now) }
 {
-    push_gate(
-        all,
-        role.explains(),
-        role,
-        find_gate(compiled.line, compiled.net, role),
-    )
+    let gate = find_gate(compiled.net, &part.formula);
+    push_gate(all, part.role.explains(), part.role, gate)
 }
 
 fn push_gate(

@@ -15,9 +15,9 @@ use crate::diagram::{Row, Stretch, Trace, is_off};
 use crate::layout::bar::bar_of;
 use crate::layout::scale::{RIGHT, Scale, x_of};
 use crate::layout::words::Words;
-use draw_gates::roles::{Role, receiver};
 use draw_shapes::{Class, Figure, Shape, put_line, put_rectangle, put_text};
 use model_line::{Line, Memory, element_word, name_of_terminal};
+use model_plain::{Role, receiver};
 use run_signal::Tern;
 use std::alloc::Global;
 

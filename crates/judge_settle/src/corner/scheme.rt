@@ -60,6 +60,14 @@ pub fn end_of(rail: Rail, setting: Setting) -> End
         Setting::BlockCarry => rail.turned().dropout_end(),
         Setting::BlockCoord => rail.pickup_end(),
         Setting::TransferSecurity => rail.pickup_end(),
-        _ => End::Least,
+        Setting::UvPickup
+        | Setting::UvDropout
+        | Setting::EchoBlock
+        | Setting::EchoPickup
+        | Setting::EchoPulse
+        | Setting::UnblockPickup
+        | Setting::UnblockWindow
+        | Setting::UnblockRestore
+        | Setting::Delay => End::Least,
     }
 }

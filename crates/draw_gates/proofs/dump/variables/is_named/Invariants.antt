@@ -1,7 +1,8 @@
 use Rattle.std.proofs.Common.{◌≡◌}
 use Rattle.std.specs.Prelude.{is_some}
 use Rattle.model_history.specs.Elements.{some_below}
-use Rattle.draw_gates.specs.{roles.Lookup.role_among, roles.Roles.roles_at}
+use Rattle.model_plain.specs.Roles.{roles_at}
+use Rattle.draw_gates.specs.roles.Lookup.{role_among}
 use Rattle.draw_gates.proofs.dump.variables.is_named.Given as goal
 
 abbrev pub invariant-loop-k : goal.invariant-loop-k

@@ -1,8 +1,7 @@
 use Rattle.std.proofs.Common.{◌≡◌, drop}
-use Rattle.draw_gates.specs.roles.Lookup.{role_among}
+use Rattle.draw_gates.specs.roles.Lookup.{role_by}
 use Rattle.draw_gates.proofs.roles.lookup.role_of_gate.Given as goal
 
-abbrev pub invariant-loop-role : goal.invariant-loop-role
-invariant-loop-role l =
-    role_among l.line l.net.gates l.id.0 (drop l.role-index l.roles)
-    ≡ role_among l.line l.net.gates l.id.0 l.roles
+abbrev pub invariant-loop-part : goal.invariant-loop-part
+invariant-loop-part l =
+    role_by l.net.gates l.id.0 (drop l.part-index l.parts) ≡ role_by l.net.gates l.id.0 l.parts
