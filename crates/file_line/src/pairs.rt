@@ -15,7 +15,12 @@ fn name(terminals: &[Terminal], place: u32) -> Name
     terminals[place as usize].name
 }
 
-fn joined(terminals: &[Terminal], channels: &[Channel], from: u32, to: u32) -> Result<(), DocumentFault>
+fn joined(
+    terminals: &[Terminal],
+    channels: &[Channel],
+    from: u32,
+    to: u32,
+) -> Result<(), DocumentFault>
     requires from { from < length terminals.now }
     requires to { to < length terminals.now }
     ensures { result ≡ pair_joined terminals.now channels.now from to }

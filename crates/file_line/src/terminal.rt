@@ -60,11 +60,7 @@ pub fn new_name(path: Path, before: &[Terminal], text: &str) -> Result<Name, Doc
 }
 
 #[tactic(auto, unfolding(crate::specs::TerminalTables::name_at))]
-fn name(
-    places: &TablePlaces<'_>,
-    before: &[Terminal],
-    table: &Table,
-) -> Result<Name, DocumentFault>
+fn name(places: &TablePlaces<'_>, before: &[Terminal], table: &Table) -> Result<Name, DocumentFault>
     ensures { result ≡ name_at (places_of places.now) before.now (table_view table.now) }
 {
     let text = places.text("name", table)?;
