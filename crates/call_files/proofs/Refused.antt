@@ -5,7 +5,7 @@ use Rattle.base_memory.specs.declared.stopped.Stopped.{Stopped}
 use Rattle.base_memory.specs.declared.stopped.Stopped.TheVariants as stopped
 use Rattle.model_line.specs.{declared.line.Line.Line}
 use Rattle.file_line.specs.{LineFiles.line_of, Lines.line_values}
-use Rattle.file_line.specs.declared.fault.LineFault.{LineFault}
+use Rattle.file_document.specs.declared.fault.DocumentFault.{DocumentFault}
 use Rattle.file_tables.specs.script.Scripts.{scripts_of}
 use Rattle.file_tables.specs.declared.script.fault.ScriptFault.{ScriptFault}
 use Rattle.call_files.specs.Stops.{stop_by}
@@ -13,7 +13,7 @@ use Rattle.call_files.specs.Study.{ReadsStudy}
 use Rattle.call_files.specs.declared.refusal.Refusal.TheVariants as refusal
 
 -- a line file that is refused, before scripts
-pub line_refused : (line_bytes scripts_bytes : List ℕ) (why : Stopped LineFault)
+pub line_refused : (line_bytes scripts_bytes : List ℕ) (why : Stopped DocumentFault)
     → Fails why (line_of line_bytes)
     → ReadsStudy line_bytes scripts_bytes (Err (stop_by refusal.Line why))
 line_refused line_bytes scripts_bytes (stopped.Fault fault) f = rw f refl

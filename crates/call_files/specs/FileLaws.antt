@@ -5,7 +5,7 @@ use Rattle.std.proofs.Common.{Result, Ok, length, unwrap_or, refl, inl, inr}
 use Rattle.std.proofs.lemmas.Bool.{le-ltb}
 use Rattle.std.specs.List.{All}
 use Rattle.file_line.specs.Lines.{LineValues}
-use Rattle.file_line.specs.declared.fault.LineFault.{LineFault}
+use Rattle.file_document.specs.declared.fault.DocumentFault.{DocumentFault}
 use Rattle.base_text.specs.store.Store.{SameCounts}
 use Rattle.model_line.specs.declared.line.Line.{Line}
 use Rattle.model_line.specs.declared.script.Script.{Script}
@@ -66,7 +66,7 @@ pub timings_read : (l : Line) (said : Result (List NamedValues) TimingFault)
 timings_read l said timings refused holds is inside h = rw is (inside, h)
 
 -- what holds of the first refusal, or of what is read, holds of each that is wider
-pub line_wider : (said : Result LineValues LineFault) (R S : Refusal → Type 0) (H P : Line → Type 0)
+pub line_wider : (said : Result LineValues DocumentFault) (R S : Refusal → Type 0) (H P : Line → Type 0)
     → ((why : Refusal) → R why → S why) → ((l : Line) → H l → P l)
     → of_line said R H → of_line said S P
 line_wider (Ok values) R S H P refused holds h = (h.0, h.1, holds h.0 h.2)

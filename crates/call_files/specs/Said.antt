@@ -4,7 +4,8 @@ use Rattle.std.specs.Prelude.{◌≡◌, ℕ, List, Option, None, Some, Result, 
 use Rattle.std.specs.List.{All}
 use Rattle.model_line.specs.{declared.line.Line.Line, declared.script.Script.Script, Fits.Fits}
 use Rattle.file_line.specs.LineFiles.{line_of}
-use Rattle.file_line.specs.{Lines.LineValues, Lines.line_values, declared.fault.LineFault.LineFault}
+use Rattle.file_line.specs.Lines.{LineValues, line_values}
+use Rattle.file_document.specs.declared.fault.DocumentFault.{DocumentFault}
 use Rattle.file_tables.specs.script.Values.{ScriptValues, values_of}
 use Rattle.file_tables.specs.{script.Scripts.scripts_of, declared.script.fault.ScriptFault.ScriptFault}
 use Rattle.model_timing.specs.{Inside.IsTimingInside}
@@ -16,7 +17,7 @@ use Rattle.call_files.specs.declared.refusal.Refusal.{Refusal}
 use Rattle.call_files.specs.declared.refusal.Refusal.TheVariants as refusal
 
 -- what holds of the line that a line file gives, or of the refusal of its first fault
-abbrev pub of_line : Result LineValues LineFault → (Refusal → Type 0) → (Line → Type 0) → Type 0
+abbrev pub of_line : Result LineValues DocumentFault → (Refusal → Type 0) → (Line → Type 0) → Type 0
 of_line (Ok values) refused holds = (line : Line) × (line_values line ≡ values) × holds line
 of_line (Err why) refused holds = refused (refusal.Line why)
 

@@ -4,7 +4,7 @@ ghost use Rattle.call_files.specs.Refusals.{detail_of, name_of, subject_of, line
 ghost use Rattle.call_files.specs.Refusals.{record_detail};
 
 use crate::stop::File;
-use file_line::{LineFault, Path};
+use file_document::{DocumentFault, Path};
 use file_tables::script::ScriptFault;
 use file_tables::timing::TimingFault;
 use judge_match::matching::SeenFault;
@@ -15,7 +15,7 @@ use model_line::Name;
 pub enum Refusal {
     /// It is longer than its limit.
     TooLong(File),
-    Line(LineFault),
+    Line(DocumentFault),
     Scripts(ScriptFault),
     Timings(TimingFault),
     Record(SeenFault),
@@ -84,18 +84,24 @@ impl Refusal {
     }
 }
 
-fn detail_of_line(fault: &LineFault) -> Detail
+fn detail_of_line(fault: &DocumentFault) -> Detail
     ensures { result ≡ line_detail fault.now }
 {
     match fault {
-        LineFault::NotToml => Detail::Nothing,
-        LineFault::Unknown(path)
-        | LineFault::Missing(path)
-        | LineFault::WrongKind(path)
-        | LineFault::Range(path)
-        | LineFault::BadName(path)
-        | LineFault::Twice(path) => Detail::Path(*path),
-        LineFault::Channels(from, to) => Detail::Channel(*from, *to),
+        DocumentFault::NotToml => Detail::Nothing,
+        DocumentFault::Unknown(path)
+        | DocumentFault::Missing(path)
+        | DocumentFault::WrongKind(path)
+        | DocumentFault::Range(path)
+        | DocumentFault::BadName(path)
+        | DocumentFault::Twice(path)
+        | DocumentFault::BadTime(path, _)
+        | DocumentFault::Swept(path)
+        | DocumentFault::NoInstant(path)
+        | DocumentFault::TooMany(path)
+        | DocumentFault::BadDate(path)
+        | DocumentFault::OneFile(path) => Detail::Path(*path),
+        DocumentFault::Channels(from, to) => Detail::Channel(*from, *to),
     }
 }
 

@@ -7,7 +7,7 @@ use crate::refusal::Refusal;
 use base_memory::{Memory, Stopped};
 use base_text::store::PutFailed;
 use call_answer::Done;
-use file_line::LineFault;
+use file_document::DocumentFault;
 use file_tables::script::ScriptFault;
 use file_tables::timing::TimingFault;
 use judge_match::matching::SeenFault;
@@ -103,10 +103,10 @@ impl From<Memory> for Stop {
     }
 }
 
-impl From<Stopped<LineFault>> for Stop {
+impl From<Stopped<DocumentFault>> for Stop {
     ghost from_gives = { λ why stop. stop ≡ stop_by refusal.Line why };
 
-    fn from(why: Stopped<LineFault>) -> Self {
+    fn from(why: Stopped<DocumentFault>) -> Self {
         match why {
             Stopped::Fault(fault) => Stop::Refused(Refusal::Line(fault)),
             Stopped::Memory => Stop::Memory,

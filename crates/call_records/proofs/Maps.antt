@@ -11,7 +11,7 @@ use Rattle.model_line.specs.declared.line.Line.{Line}
 use Rattle.model_line.specs.declared.script.Kind.{Kind}
 use Rattle.model_line.specs.declared.script.Kind.TheVariants.{Internal, External}
 use Rattle.model_line.specs.{Fits.deadline_fits, PlainNames.is_plain_name}
-use Rattle.file_line.specs.Keys.{document_of}
+use Rattle.file_document.specs.Keys.{document_of}
 use Rattle.file_document.specs.Keys.{all_known, array_at, count_of, counted, number_at, number_in, opened}
 use Rattle.file_document.specs.Keys.{text_at, value_at}
 use Rattle.file_document.specs.Words.{plain_name}

@@ -2,9 +2,9 @@
 use Rattle.std.specs.Prelude.{◌++◌, ◌∷◌, ℕ, List, [], Option, None, Some, Result, Ok, Err, codes}
 use Rattle.std.specs.Prelude.{if◌then◌else◌}
 use Rattle.model_line.specs.declared.line.Line.{Line}
-use Rattle.file_line.specs.{LineFiles.line_of, Lines.LineValues, declared.fault.LineFault.LineFault}
-use Rattle.file_records.specs.{map.DataNames.data_name, map.DataNames.is_one_file, map.Maps.MapValues, map.Maps.map_of, map.Recorders.RecorderValues}
+use Rattle.file_line.specs.{LineFiles.line_of, Lines.LineValues}
 use Rattle.file_document.specs.declared.fault.DocumentFault.{DocumentFault}
+use Rattle.file_records.specs.{map.DataNames.data_name, map.DataNames.is_one_file, map.Maps.MapValues, map.Maps.map_of, map.Recorders.RecorderValues}
 use Rattle.file_records.specs.declared.map.source.Signal.{Signal}
 use Rattle.file_records.specs.{tracks.Told.first_untold}
 use Rattle.call_records.specs.{Beside.beside, Lines.Refusal}
@@ -92,7 +92,7 @@ abbrev pub with_line : Work → List ℕ → Line → Course
 with_line work map_name line =
     reads (map_file map_name) (λ bytes. after_map (asked_with work map_name bytes) line (map_of line bytes))
 
-abbrev pub after_line : Request → List ℕ → Result LineValues LineFault → Course
+abbrev pub after_line : Request → List ℕ → Result LineValues DocumentFault → Course
 after_line r bytes (Ok values) = makes values (with_line r.work r.map)
 after_line r bytes (Err why) = refused (line_refusal r.line bytes why)
 

@@ -2,7 +2,6 @@
 use Rattle.std.specs.Prelude.{◌∷◌, ℕ, List, [], codes}
 use Rattle.model_line.specs.declared.line.Line.{Line}
 use Rattle.model_line.specs.NamesByNumber.{terminal_name}
-use Rattle.file_line.specs.{declared.fault.LineFault.LineFault}
 use Rattle.file_document.specs.declared.fault.DocumentFault.{DocumentFault}
 use Rattle.file_records.specs.declared.map.source.Signal.{Signal}
 use Rattle.file_records.specs.declared.map.source.Signal.TheVariants as signal
@@ -14,7 +13,7 @@ use Rattle.call_records.specs.Lines.{Refusal, placed, worded}
 abbrev pub too_long : List ℕ → Refusal
 too_long name = placed name []
 
-abbrev pub line_refusal : List ℕ → List ℕ → LineFault → Refusal
+abbrev pub line_refusal : List ℕ → List ℕ → DocumentFault → Refusal
 line_refusal name bytes why = placed name bytes
 
 abbrev pub map_refusal : List ℕ → List ℕ → DocumentFault → Refusal

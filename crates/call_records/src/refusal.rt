@@ -13,7 +13,6 @@ use call_refused::places::place_of_key;
 use call_refused::told::{push_place, push_within};
 use call_refused::{refused_line, refused_map};
 use file_document::DocumentFault;
-use file_line::LineFault;
 use file_records::map::Signal;
 use file_records::recorded::NoScript;
 use model_line::{Line, name_of_terminal};
@@ -30,7 +29,7 @@ pub fn too_long(alloc: Global, name: &str, limit: u32) -> Halt
 }
 
 /// The line file is refused.
-pub fn line_halt(alloc: Global, name: &str, bytes: &[u8], fault: &LineFault) -> Halt
+pub fn line_halt(alloc: Global, name: &str, bytes: &[u8], fault: &DocumentFault) -> Halt
     ensures { Refuses (line_refusal name.now bytes.now fault.now) result }
 {
     match refused_line(alloc, name, bytes, fault) {

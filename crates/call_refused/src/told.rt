@@ -1,13 +1,12 @@
 //! One line of a fault.
 //!
 //! - `one_line`: the line of a place and of words; `document`: that of a key of a TOML document.
-//! - `line`, `study`: of a line file, of a study (`line_path`) and of a map; `sweep`: of a study whose
+//! - `line`, `study`: of a line file, of a study and of a map; `sweep`: of a study whose
 //!   faults come to no scripts; `records`, `record`: of scripts and timings, and of keys and trips;
 //!   `text`: of a text whose line is known, and of a file that is too long.
 
 mod document;
 mod line;
-mod line_path;
 mod one_line;
 mod record;
 mod records;

@@ -1,18 +1,29 @@
 -- The keys of a table and the values under them.
 use Rattle.std.specs.Prelude.{◌&&◌, ◌+◌, ℕ, List, Bool, false, Option, None, Some, Result, Ok}
 use Rattle.std.specs.Prelude.{Err, pos, negsuc, if◌then◌else◌, nat_le}
-use Rattle.toml.specs.Data.{Data, string, integer, boolean, array, table, Members, Items, no_items}
-use Rattle.toml.specs.Data.{item}
-use Rattle.toml.specs.Data.{get_member}
+use Rattle.std.specs.Str.{bytes_eq, is_utf8}
+use Rattle.std.specs.List.{list_any}
+use Rattle.toml.specs.Data.{Data, string, integer, boolean, array, table, Members, no_members}
+use Rattle.toml.specs.Data.{member, Items, no_items, item, get_member}
+use Rattle.toml.specs.Parse.{parse_document}
 use Rattle.base_memory.specs.Gives.{◌>>=◌}
-use Rattle.file_line.specs.Keys.{first_unknown}
 use Rattle.file_document.specs.declared.fault.DocumentFault.{DocumentFault}
 use Rattle.file_document.specs.declared.fault.DocumentFault.TheVariants as fault
 use Rattle.file_document.specs.Paths.{under}
 
+-- the table that the bytes stand for, where they are a TOML document
+abbrev pub document_of : List ℕ → Option Members
+document_of bytes = if is_utf8 bytes then parse_document bytes else None
+
 abbrev pub opened : Option Members → Result Members DocumentFault
 opened None = Err fault.NotToml
 opened (Some ms) = Ok ms
+
+-- the first key of a table that is none of these; a table's keys ascend by their bytes
+abbrev pub first_unknown : List (List ℕ) → Members → Option (List ℕ)
+first_unknown known no_members = None
+first_unknown known (member key d rest) =
+    if list_any (λ name. bytes_eq name key) known then first_unknown known rest else Some key
 
 abbrev pub unknown_fault : List ℕ → Option (List ℕ) → Result (Unit {0}) DocumentFault
 unknown_fault path None = Ok tt

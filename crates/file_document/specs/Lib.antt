@@ -1,5 +1,7 @@
 pub mod PathBytes
 pub mod Paths
 pub mod Keys
-pub mod FaultWords
+pub mod Faults
 pub mod Words
+pub mod LeastUnknown
+pub mod DocumentLaws

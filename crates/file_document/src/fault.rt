@@ -1,15 +1,13 @@
 //! Why a document is refused.
 
 ghost use Rattle.std.specs.Prelude.{◌≡◌};
-ghost use Rattle.file_document.specs.FaultWords.{words_of_time};
 
 use crate::path::Path;
 use crate::time_fault::TimeFault;
 use base_memory::Stopped;
-use std::fmt;
+use model_line::Name;
 
-/// The first fault of a study or of a map of recorders, with its place. A place in a study that
-/// begins with `line` is one of the line file that it comes to, as `line.terminal[0].z1.pickup`.
+/// The first fault of a line file, of a study or of a map of recorders, with its place.
 #[derive(Clone, Copy, Drop)]
 pub enum DocumentFault {
     /// The bytes are no TOML document.
@@ -25,8 +23,10 @@ pub enum DocumentFault {
     /// A name that is not plain, or the name of what there is not: of a terminal, an element, a
     /// channel, a kind or a file.
     BadName(Path),
-    /// A name that stands before.
+    /// A name, or a pair of terminals, that stands before.
     Twice(Path),
+    /// No channel leads from the first terminal to the second.
+    Channels(Name, Name),
     /// The text of a time is refused.
     BadTime(Path, TimeFault),
     /// A sweep, where only a fault's own times may be swept.
@@ -42,9 +42,9 @@ pub enum DocumentFault {
 }
 
 impl DocumentFault {
-    ghost use Rattle.file_document.specs.FaultWords.{words_of, place_of};
+    ghost use Rattle.file_document.specs.Faults.{fault_name, place_of};
 
-    /// The place in the document; none where it is none.
+    /// The place in the document, as it is written there; none where the fault has none.
     pub fn place(&self) -> Option<Path>
         ensures { result ≡ place_of self.now }
     {
@@ -61,55 +61,30 @@ impl DocumentFault {
             | DocumentFault::TooMany(path)
             | DocumentFault::BadDate(path)
             | DocumentFault::OneFile(path) => Some(*path),
-            DocumentFault::NotToml => None,
+            DocumentFault::NotToml | DocumentFault::Channels(_, _) => None,
         }
     }
 
-    /// What is wrong there, in a few words.
-    pub fn words(&self) -> &'static str
-        ensures { result.now ≡ words_of self.now }
+    /// The fault's printed name.
+    pub fn name(&self) -> &'static str
+        ensures { result.now ≡ fault_name self.now }
     {
         match self {
-            DocumentFault::NotToml => "no TOML document",
-            DocumentFault::Unknown(_) => "this key does not belong there",
-            DocumentFault::Missing(_) => "this key is missing",
-            DocumentFault::WrongKind(_) => "a value of another type is needed",
-            DocumentFault::Range(_) => "outside the limits",
-            DocumentFault::BadName(_) => "no such name",
-            DocumentFault::Twice(_) => "this name stands before",
-            DocumentFault::BadTime(_, why) => time_words(*why),
-            DocumentFault::Swept(_) => "only the times of a fault are swept",
-            DocumentFault::NoInstant(_) => "one time is needed, no interval",
-            DocumentFault::TooMany(_) => "too many values",
-            DocumentFault::BadDate(_) => "no instant, as 2026-03-05T12:00:00.1",
-            DocumentFault::OneFile(_) => "a record in one file (.cff) is not read",
+            DocumentFault::NotToml => "NotToml",
+            DocumentFault::Unknown(_) => "Unknown",
+            DocumentFault::Missing(_) => "Missing",
+            DocumentFault::WrongKind(_) => "Kind",
+            DocumentFault::Range(_) => "Range",
+            DocumentFault::BadName(_) => "BadName",
+            DocumentFault::Twice(_) => "Twice",
+            DocumentFault::Channels(_, _) => "Channels",
+            DocumentFault::BadTime(_, _) => "BadTime",
+            DocumentFault::Swept(_) => "Swept",
+            DocumentFault::NoInstant(_) => "NoInstant",
+            DocumentFault::TooMany(_) => "TooMany",
+            DocumentFault::BadDate(_) => "BadDate",
+            DocumentFault::OneFile(_) => "OneFile",
         }
-    }
-}
-
-impl fmt::Display for DocumentFault {
-    fn fmt<W: fmt::Write>(&self, f: &mut fmt::Formatter<W>) -> fmt::Result {
-        if let Some(place) = self.place() {
-            write!(f, "{place}: ")?;
-        }
-        f.write_str(self.words())
-    }
-}
-
-// What is wrong with the text of a time.
-fn time_words(fault: TimeFault) -> &'static str
-    ensures { result.now ≡ words_of_time fault }
-{
-    match fault {
-        TimeFault::NoValue(_) => "a tolerance has no time before it",
-        TimeFault::NoNumber(_) => "no number, as 8 or 1.25",
-        TimeFault::TooManyDigits(_) => "a number has more than nine digits",
-        TimeFault::NoUnit(_) => "a unit is missing: us, ms, s or cycles",
-        TimeFault::UnknownUnit(_) => "no unit: us, ms, s and cycles are",
-        TimeFault::NoFrequency(_) => "cycles need frequency_hz",
-        TimeFault::Order(_) => "the second end is below the first",
-        TimeFault::NoStep(_) => "the step is 0",
-        TimeFault::Surplus(_) => "something stands behind the time",
     }
 }
 

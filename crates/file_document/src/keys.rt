@@ -4,9 +4,10 @@ ghost use Rattle.std.specs.Prelude.{◌≡◌, ◌≤◌, ◌++◌, IfOk, map, o
 ghost use Rattle.std.specs.Str.{bytes_eq};
 ghost use Rattle.std.specs.List.{list_any};
 ghost use Rattle.toml.specs.{Data.get_member, View.view, View.table_view, View.items_view};
-ghost use Rattle.file_line.specs.Keys.{document_of, first_unknown};
 ghost use Rattle.base_memory.specs.Gives.{Gives, seen};
-ghost use Rattle.file_document.specs.Keys.{opened, all_known, value_at, number_in, number_at};
+ghost use Rattle.model_line.specs.Settings.{time_key};
+ghost use Rattle.file_document.specs.Keys.{document_of, opened, first_unknown, all_known, required};
+ghost use Rattle.file_document.specs.Keys.{value_at, number_in, number_at};
 ghost use Rattle.file_document.specs.Keys.{number_or_none, text_in, text_at, flag_or_false};
 ghost use Rattle.file_document.specs.Keys.{array_in, array_at, table_in, table_or_none, member_of};
 ghost use Rattle.file_document.specs.Keys.{array_or_none, none_unknown, counted};
@@ -14,7 +15,7 @@ ghost use Rattle.file_document.specs.Keys.{array_or_none, none_unknown, counted}
 use crate::fault::DocumentFault;
 use crate::path::Path;
 use base_memory::Stopped;
-use model_line::Name;
+use model_line::{Name, Setting};
 use std::alloc::Global;
 use toml::{Table, Value};
 
@@ -57,12 +58,35 @@ fn is_name(names: &[Name], key: &str) -> bool
     names.iter().any(|name| name.bytes() == key.as_bytes())
 }
 
-fn unknown_key<'a>(table: &'a Table, known: &[&str], names: &[Name]) -> Option<&'a str>
+fn is_key_of(settings: &[Setting], key: &str) -> bool
+    ensures { result ≡ list_any (λ setting. bytes_eq (time_key setting) key.now) settings.now }
+{
+    settings.iter().any(|setting| setting.key() == key)
+}
+
+fn is_known(settings: &[Setting], known: &[&str], names: &[Name], key: &str) -> bool
+    ensures { result
+        ≡ list_any (λ name. bytes_eq name key.now)
+        (map time_key settings.now ++ (map (λ name. name.now) known.now ++ names.now)) }
+{
+    let timed = is_key_of(settings, key);
+    timed || is_among(known, names, key)
+}
+
+/// The first key of a table, by its bytes, that is no setting's, none of these keys and no name.
+pub fn unknown_key<'a>(
+    table: &'a Table,
+    settings: &[Setting],
+    known: &[&str],
+    names: &[Name],
+) -> Option<&'a str>
     ensures { option_map (λ key. key.now) result
-        ≡ first_unknown (map (λ name. name.now) known.now ++ names.now) (table_view table.now) }
+        ≡ first_unknown
+        (map time_key settings.now ++ (map (λ name. name.now) known.now ++ names.now))
+        (table_view table.now) }
 {
     for (key, _value) in table {
-        if !is_among(known, names, key.as_str()) {
+        if !is_known(settings, known, names, key.as_str()) {
             return Some(key.as_str());
         }
     }
@@ -75,9 +99,31 @@ pub fn only(path: Path, known: &[&str], names: &[Name], table: &Table) -> Result
     ensures { result ≡ all_known path (map (λ name. name.now) known.now ++ names.now)
         (table_view table.now) }
 {
-    match unknown_key(table, known, names) {
+    match unknown_key(table, &[], known, names) {
         Some(key) => Err(DocumentFault::Unknown(path.key(key.as_bytes()))),
         None => Ok(()),
+    }
+}
+
+/// Refuses a key of the table at the path that is not one of these settings'.
+#[tactic(auto, unfolding(crate::specs::Keys::all_known))]
+pub fn only_settings(path: Path, settings: &[Setting], table: &Table) -> Result<(), DocumentFault>
+    ensures { result ≡ all_known path (map time_key settings.now) (table_view table.now) }
+{
+    match unknown_key(table, settings, &[], &[]) {
+        Some(key) => Err(DocumentFault::Unknown(path.key(key.as_bytes()))),
+        None => Ok(()),
+    }
+}
+
+/// The value that has to stand at the path.
+pub fn required<'a>(path: Path, value: Option<&'a Value>) -> Result<&'a Value, DocumentFault>
+    ensures { seen (λ v. view v.now) result
+        ≡ required path (option_map (λ v. view v.now) value.entry) }
+{
+    match value {
+        Some(value) => Ok(value),
+        None => Err(DocumentFault::Missing(path)),
     }
 }
 
@@ -86,10 +132,7 @@ pub fn only(path: Path, known: &[&str], names: &[Name], table: &Table) -> Result
 pub fn value<'a>(path: Path, key: &str, table: &'a Table) -> Result<&'a Value, DocumentFault>
     ensures { seen (λ v. view v.now) result ≡ value_at path key.now (table_view table.now) }
 {
-    match find(table, key) {
-        Some(value) => Ok(value),
-        None => Err(DocumentFault::Missing(path.key(key.as_bytes()))),
-    }
+    required(path.key(key.as_bytes()), find(table, key))
 }
 
 /// A whole number in these bounds.

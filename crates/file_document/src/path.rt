@@ -1,8 +1,7 @@
 //! Where in a document something stands.
 
-ghost use Rattle.std.specs.Prelude.{◌≡◌, ◌≤◌, [], length};
-ghost use Rattle.file_document.specs.Paths.{pushed, pushed_all, under, numbered};
-ghost use Rattle.file_line.specs.Paths.{shown_byte};
+ghost use Rattle.std.specs.Prelude.{◌≡◌, ◌≤◌, [], length, take};
+ghost use Rattle.file_document.specs.Paths.{shown_byte, pushed, pushed_all, under, numbered};
 
 use itoa::Buffer;
 use std::fmt;
@@ -50,7 +49,7 @@ impl Path {
         }
     }
 
-    /// A key of the table at this path.
+    /// A key of the table at this path: its first 64 bytes.
     #[tactic(auto, unfolding(crate::specs::Paths::under))]
     pub fn key(self, key: &[u8]) -> Path
         ensures { result ≡ under self key.now }
@@ -59,7 +58,7 @@ impl Path {
         if path.len > 0 {
             path.push(b'.');
         }
-        path.push_all(key);
+        path.push_all(first(key, 64));
         path
     }
 
@@ -92,6 +91,13 @@ impl Path {
             self.len += 1;
         }
     }
+}
+
+// The first n bytes, or all where there are fewer.
+fn first(bytes: &[u8], n: usize) -> &[u8]
+    ensures { result.now ≡ take n bytes.now }
+{
+    if bytes.len() <= n { bytes } else { &bytes[..n] }
 }
 
 // A byte as a path shows it.

@@ -13,7 +13,7 @@ use Rattle.model_line.specs.Settings.{time_key, receiver_settings, channel_setti
 use Rattle.model_line.specs.Settings.{settings_of_terminals}
 use Rattle.model_line.specs.FirstPositionLaws.{is_some-position, position_from-first, none_before}
 use Rattle.model_line.specs.FirstPositionLaws.{list_any-take_none}
-use Rattle.model_line.specs.ParamNames.{name_at, key_path}
+use Rattle.model_line.specs.ParamNames.{name_at}
 use Rattle.model_line.specs.Intervals.{leasts, delay_number_of}
 use Rattle.model_line.specs.{declared.line.Scheme.TheVariants.Dcub, declared.line.Scheme.Scheme}
 use Rattle.model_line.specs.{declared.line.Line.Line, declared.line.Terminal.Terminal}
@@ -27,8 +27,9 @@ use Rattle.file_line.specs.ChannelTables.{channel_at, channels_at}
 use Rattle.file_line.specs.Canonical.{table_of, time_data, setting_interval, setting_pair}
 use Rattle.file_line.specs.Canonical.{put_times}
 use Rattle.file_line.specs.Canonical.{channel_members, channels_data}
-use Rattle.file_line.specs.{Paths.item_path, Times.time_at, Times.group_key}
-use Rattle.file_line.specs.{Keys.all_known, Keys.text_at, Lines.LineValues, Lines.line_values}
+use Rattle.file_line.specs.Places.{Places, places_in, only_keys, key_text}
+use Rattle.file_line.specs.{Times.time_at, Times.time_there, Times.group_key}
+use Rattle.file_line.specs.Lines.{LineValues, line_values}
 use Rattle.file_line.proofs.TimesBack.{time_back, value, required_back, receiver_whole}
 use Rattle.file_line.proofs.ParamPlaces.{intervals, length-intervals, take_next, times_at_place}
 use Rattle.file_line.proofs.ParamPlaces.{ArePlaced, placed_parts, in_place, placed_from}
@@ -64,8 +65,8 @@ module _ (unit : ℕ) (line : Line) (some : 0 < unit) (o : Owner) (from to : Lis
       (table_of
       ((codes "from", string from) ∷ (codes "to", string to) ∷ setting_pair unit line o Delay ∷ []))
 
-  pub record Holds (path : List ℕ) (s : Scheme) : Type 0 where
-    pub known : all_known path (channel_keys s) (members s) ≡ Ok tt
+  pub record Holds (places : Places) (s : Scheme) : Type 0 where
+    pub known : only_keys places (channel_keys s) (members s) ≡ Ok tt
     pub from_is : get_member (codes "from") (members s) ≡ Some (string from)
     pub to_is : get_member (codes "to") (members s) ≡ Some (string to)
     pub delay_is :
@@ -75,11 +76,11 @@ module _ (unit : ℕ) (line : Line) (some : 0 < unit) (o : Owner) (from to : Lis
         get_member (group_key (receiver_settings s)) (members s)
         ≡ value unit line o some (receiver_settings s)
 
-  pub holds : (path : List ℕ) (s : Scheme) → Holds path s
-  unfolding all_known
-  holds path Dcub =
+  pub holds : (places : Places) (s : Scheme) → Holds places s
+  unfolding only_keys
+  holds places Dcub =
       record { known = refl; from_is = refl; to_is = refl; delay_is = refl; receiver_is = refl }
-  holds path _ =
+  holds places _ =
       record { known = refl; from_is = refl; to_is = refl; delay_is = refl; receiver_is = refl }
 
 -- each setting of a channel stands where it is counted
@@ -105,14 +106,14 @@ called_back line k lt =
     ∙ ap Some zero_first)
 
 module _
-    (laws : LineLaws) (unit : ℕ) (line : Line) (some : 0 < unit) (path : List ℕ) (c : ℕ) (h : Channel)
+    (laws : LineLaws) (unit : ℕ) (line : Line) (some : 0 < unit) (places : Places) (c : ℕ) (h : Channel)
     (lt : c < length line.channels.items) (is : h ≡ get_or line.channels.items c h) where
   pub ends_back :
       (ms : Members)
       → get_member (codes "from") ms ≡ Some (string (name_at line.terminals.items h.from))
       → get_member (codes "to") ms ≡ Some (string (name_at line.terminals.items h.to))
-      → ends_at path line.terminals.items (take c line.channels.items) ms ≡ Ok h
-  unfolding ends_at from_at to_at text_at
+      → ends_at places line.terminals.items (take c line.channels.items) ms ≡ Ok h
+  unfolding ends_at from_at to_at key_text
   ends_back ms from_held to_held =
       let from = from_is line.channels.items c h lt is in
       let to = to_is line.channels.items c h lt is in
@@ -179,24 +180,24 @@ module _
 
   -- the channel is read back
   pub channel_back :
-      channel_at unit path (table (channel_members unit line c h)) (read_channels line c)
+      channel_at unit places (table (channel_members unit line c h)) (read_channels line c)
       ≡ Ok (read_channels line (c + 1))
-  unfolding channel_at time_at
+  unfolding channel_at time_there
   channel_back =
       let o : Owner = owner.Channel c in
       let ts : List Terminal = line.terminals.items in
       let cs : List Channel = line.channels.items in
       let ms : Members = channel_members unit line c h in
       let j : ℕ = terminal_count line + c * each_count line in
-      let held = holds unit line some o (name_at ts h.from) (name_at ts h.to) path line.scheme in
+      let held = holds unit line some o (name_at ts h.from) (name_at ts h.to) places line.scheme in
       let ends = ends_back ms held.from_is held.to_is in
-      let time = time_back (key_path path (time_key Delay)) unit 1 (setting_interval line o Delay)
+      let time = time_back (places.key (time_key Delay)) unit 1 (setting_interval line o Delay)
       some delay_time in
       let fits = all_within in
       let each = each_is in
       let next : take j (intervals line) ++ setting_interval line o Delay ∷ []
       ≡ take (j + 1) (intervals line) = rw placed.0 (take_next line j (omega arith)) in
-      let besides = required_back unit line o some path ms (j + 1) (receiver_settings line.scheme)
+      let besides = required_back unit line o some places ms (j + 1) (receiver_settings line.scheme)
       (receiver_whole unit line o some line.scheme)
       (placed_parts line o (j + 1) (receiver_settings line.scheme) [] placed.1).0 (omega arith)
       held.receiver_is in
@@ -209,12 +210,12 @@ module _
 -- all channels are read back
 pub channels_back : LineLaws →
     (unit : ℕ) (line : Line) → 0 < unit
-    → channels_at unit (items_of (channels_data unit line)) (read_channels line 0)
+    → channels_at [] unit (items_of (channels_data unit line)) (read_channels line 0)
     ≡ Ok (read_channels line (length line.channels.items))
 channels_back laws unit line some =
-    items_back (channel_at unit) (codes "channel") (channel_members unit line)
+    items_back (channel_at unit) (places_in (codes "channel") []) (channel_members unit line)
     line.channels.items (read_channels line)
-    (λ c h. channel_back laws unit line some (item_path (codes "channel") c) c h)
+    (λ c h. channel_back laws unit line some (places_in (codes "channel") [] c) c h)
 
 -- when all terminals are read
 pub between_back :

@@ -12,7 +12,8 @@ use Rattle.model_line.specs.{declared.line.Channel.Channel, declared.bounds.Boun
 use Rattle.model_line.specs.{declared.line.Setting.TheVariants.Delay, declared.line.Scheme.Scheme}
 use Rattle.model_line.specs.{Making.least_ends}
 use Rattle.model_line.specs.{FirstPositionLaws.position_within}
-use Rattle.file_line.specs.Keys.{all_known, table_in, text_at}
+use Rattle.file_document.specs.Keys.{table_in}
+use Rattle.file_line.specs.Places.{Places, only_keys, key_text}
 use Rattle.file_line.specs.ChannelTables.{channel_keys, terminal_called, sender}
 use Rattle.file_line.specs.ChannelTables.{receiver, from_at, to_at, ends_at}
 use Rattle.file_line.specs.ChannelTables.{channel_at}
@@ -50,17 +51,17 @@ other_ok path from (Some n) k e =
 
 -- what the ends that are read keep
 pub ends_at-ok :
-    (path : List ℕ) (ts : List Terminal) (before : List Channel) (ms : Members) (x : Channel)
-    → ends_at path ts before ms ≡ Ok x → AreNewEnds ts before x
+    (places : Places) (ts : List Terminal) (before : List Channel) (ms : Members) (x : Channel)
+    → ends_at places ts before ms ≡ Ok x → AreNewEnds ts before x
 unfolding ends_at from_at to_at
-ends_at-ok path ts before ms x e =
-    let record { value = from; was = from_is; rest = e1 } = passed (from_at path ts ms) _ x e in
-    let record { value = to; was = to_is; rest = e2 } = passed (to_at path ts from ms) _ x e1 in
+ends_at-ok places ts before ms x e =
+    let record { value = from; was = from_is; rest = e1 } = passed (from_at places ts ms) _ x e in
+    let record { value = to; was = to_is; rest = e2 } = passed (to_at places ts from ms) _ x e1 in
     let (new, made) = refusal_passed (list_any (is_pair from to) before) _ _ x e2 in
     let record { value = name; was = name_is; rest = from_ok } =
-    passed (text_at path (codes "from") ms) _ from from_is in
+    passed (key_text places (codes "from") ms) _ from from_is in
     let record { value = other; was = other_is; rest = to_ok } =
-    passed (text_at path (codes "to") ms) _ to to_is in
+    passed (key_text places (codes "to") ms) _ to to_is in
     let from_called = sender_ok _ (terminal_called ts name) from from_ok in
     let to_called = other_ok _ from (terminal_called ts other) to to_ok in
     let same : record { from = from; to = to } ≡ x = cc in
@@ -89,15 +90,15 @@ pub record IsOneMoreChannel (line more : LineValues) : Type 0 where
 
 -- the delay, and what a channel has besides
 receiver_ok :
-    (s : Scheme) (path : List ℕ) (unit : ℕ) (ms : Members) (old : List Bounds) (delay : Bounds)
+    (s : Scheme) (places : Places) (unit : ℕ) (ms : Members) (old : List Bounds) (delay : Bounds)
     (new : List Bounds) → 0 < unit → IsTime 1 delay
-    → required_times path (receiver_settings s) unit ms (old ++ delay ∷ []) ≡ Ok new
+    → required_times places (receiver_settings s) unit ms (old ++ delay ∷ []) ≡ Ok new
     → Grew (length (channel_settings s)) old new
     × (1 ≤ get_or (least_ends new) (length old) 0)
-receiver_ok s path unit ms old delay new some time e =
+receiver_ok s places unit ms old delay new some time e =
     let n : ℕ = length (receiver_settings s) in
     let more : Grew n (old ++ delay ∷ []) new =
-    required_ok path (receiver_settings s) unit ms (old ++ delay ∷ []) new some e in
+    required_ok places (receiver_settings s) unit ms (old ++ delay ∷ []) new some e in
     let count : 1 + n ≡ length (channel_settings s) =
     omega (arith, length-append (receiver_settings s) []) in
     let first : get_or (least_ends new) (length old) 0 ≡ delay.least =
@@ -110,27 +111,27 @@ receiver_ok s path unit ms old delay new some time e =
     )
 
 pub channel_at-ok :
-    (unit : ℕ) (path : List ℕ) (d : Data) (line more : LineValues) → 0 < unit
-    → channel_at unit path d line ≡ Ok more → IsOneMoreChannel line more
+    (unit : ℕ) (places : Places) (d : Data) (line more : LineValues) → 0 < unit
+    → channel_at unit places d line ≡ Ok more → IsOneMoreChannel line more
 unfolding channel_at
-channel_at-ok unit path d line more some e =
-    let record { value = ms; was = ms_is; rest = e1 } = passed (table_in path d) _ more e in
+channel_at-ok unit places d line more some e =
+    let record { value = ms; was = ms_is; rest = e1 } = passed (table_in places.table d) _ more e in
     let record { value = known; was = known_is; rest = e2 } =
-    passed (all_known path (channel_keys line.scheme) ms) _ more e1 in
+    passed (only_keys places (channel_keys line.scheme) ms) _ more e1 in
     let record { value = x; was = x_is; rest = e3 } =
-    passed (ends_at path line.terminals line.channels ms) _ more e2 in
+    passed (ends_at places line.terminals line.channels ms) _ more e2 in
     let record { value = delay; was = delay_is; rest = e4 } =
-    passed (time_at path (time_key Delay) unit 1 ms) _ more e3 in
+    passed (time_at places (time_key Delay) unit 1 ms) _ more e3 in
     let record { value = whole; was = whole_is; rest = e5 } =
-    passed (required_times path (receiver_settings line.scheme) unit ms
+    passed (required_times places (receiver_settings line.scheme) unit ms
     (line.intervals ++ delay ∷ [])) _ more e4 in
-    let time = time_ok path (time_key Delay) unit 1 ms delay some delay_is in
+    let time = time_ok places (time_key Delay) unit 1 ms delay some delay_is in
     let grown =
-    receiver_ok line.scheme path unit ms line.intervals delay whole some time whole_is in
+    receiver_ok line.scheme places unit ms line.intervals delay whole some time whole_is in
     record {
       channel = x;
       intervals = whole;
-      ends = ends_at-ok path line.terminals line.channels ms x x_is;
+      ends = ends_at-ok places line.terminals line.channels ms x x_is;
       grew = grown.0;
       delay = grown.1;
       is = same_ok _ _ e5;

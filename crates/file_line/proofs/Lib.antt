@@ -1,5 +1,4 @@
 pub mod TimesSteps
-pub mod TerminalCounts
 pub mod ItemSteps
 pub mod TableSteps
 pub mod ChannelPairs
@@ -19,4 +18,3 @@ pub mod ChannelEnds
 pub mod ChannelBack
 pub mod LineBack
 pub mod Dates
-pub mod LeastKeys

@@ -25,6 +25,7 @@ use Rattle.model_line.specs.{declared.line.Line.Line, PlainNames.is_plain_name}
 use Rattle.model_line.specs.{Channels.AreChannelsBelow, Laws.SettingsAreCounted}
 use Rattle.model_line.specs.declared.line.Owner.TheVariants as owner
 use Rattle.model_line.specs.DelayOrderLaws.{some_settings}
+use Rattle.file_line.specs.Places.{Places, places_in}
 use Rattle.file_line.specs.Lines.{LineValues, intervals_of, line_values}
 use Rattle.file_line.specs.TerminalTables.{terminal_at, terminals_at}
 use Rattle.file_line.specs.{ChannelTables.channel_at, ChannelTables.channels_at, LineFiles.whole}
@@ -169,11 +170,11 @@ start_kept v none nothing =
     }
 
 pub terminals_kept :
-    (unit : ℕ) (ds : Items) (line more : LineValues) → 0 < unit
-    → terminals_at unit ds line ≡ Ok more → TerminalsKept line → TerminalsKept more
-terminals_kept unit ds line more some =
-    items_kept (terminal_at unit) (codes "terminal") TerminalsKept
-    (λ path d old new is kept. terminal_kept old new kept (terminal_at-ok unit path d old new some is))
+    (told : List Places) (unit : ℕ) (ds : Items) (line more : LineValues) → 0 < unit
+    → terminals_at told unit ds line ≡ Ok more → TerminalsKept line → TerminalsKept more
+terminals_kept told unit ds line more some =
+    items_kept (terminal_at unit) (places_in (codes "terminal") told) TerminalsKept
+    (λ places d old new is kept. terminal_kept old new kept (terminal_at-ok unit places d old new some is))
     0 ds line more
 
 delays_more :
@@ -225,11 +226,11 @@ channel_kept line more kept one =
     })
 
 pub channels_kept :
-    (unit : ℕ) (ds : Items) (line more : LineValues) → 0 < unit
-    → channels_at unit ds line ≡ Ok more → ChannelsKept line → ChannelsKept more
-channels_kept unit ds line more some =
-    items_kept (channel_at unit) (codes "channel") ChannelsKept
-    (λ path d old new is kept. channel_kept old new kept (channel_at-ok unit path d old new some is))
+    (told : List Places) (unit : ℕ) (ds : Items) (line more : LineValues) → 0 < unit
+    → channels_at told unit ds line ≡ Ok more → ChannelsKept line → ChannelsKept more
+channels_kept told unit ds line more some =
+    items_kept (channel_at unit) (places_in (codes "channel") told) ChannelsKept
+    (λ places d old new is kept. channel_kept old new kept (channel_at-ok unit places d old new some is))
     0 ds line more
 
 -- when the terminals are read, no channel is

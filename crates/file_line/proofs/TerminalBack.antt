@@ -26,7 +26,8 @@ use Rattle.file_line.specs.TerminalTables.{no_times, name_at, elements_times}
 use Rattle.file_line.specs.TerminalTables.{permissive_times, scheme_times}
 use Rattle.file_line.specs.TerminalTables.{terminal_named, terminal_at, terminals_at}
 use Rattle.file_line.specs.Canonical.{terminal_members, terminals_data}
-use Rattle.file_line.specs.{Paths.item_path, Keys.text_at, Lines.LineValues}
+use Rattle.file_line.specs.Places.{Places, places_in, key_text}
+use Rattle.file_line.specs.Lines.{LineValues}
 use Rattle.file_line.proofs.TimesBack.{value, as_many, required_back, optional_back, flagged_back}
 use Rattle.file_line.proofs.TimesBack.{zone1_whole, zone2_whole, reverse_whole}
 use Rattle.file_line.proofs.TimesBack.{undervoltage_whole, guard_whole, weak_whole, scheme_whole}
@@ -95,15 +96,15 @@ terminal_in_place s true false = refl
 terminal_in_place s false true = refl
 terminal_in_place s false false = refl
 
-module _ (unit : ℕ) (line : Line) (some : 0 < unit) (o : Owner) (path : List ℕ) (ms : Members) where
+module _ (unit : ℕ) (line : Line) (some : 0 < unit) (o : Owner) (places : Places) (ms : Members) where
   -- the elements are read back, and what stands behind them is placed
   elements_back :
       (s : Scheme) (g w : Bool) (n : ℕ) (name : List ℕ) (rest : List Setting)
       → ArePlaced line o n
       (zone1_settings ++ (zone2_settings ++ (reverse_settings ++ (undervoltage_settings ++ rest))))
       → n + 2 + 2 + 2 + 2 ≤ length line.params.items → ms ≡ members unit line some o name s g w
-      → Holds unit line some o name path s g w
-      → (elements_times path unit ms (take n (intervals line))
+      → Holds unit line some o name places s g w
+      → (elements_times places unit ms (take n (intervals line))
       ≡ Ok (take (n + 2 + 2 + 2 + 2) (intervals line)))
       × ArePlaced line o (n + 2 + 2 + 2 + 2) rest
   unfolding elements_times
@@ -115,13 +116,13 @@ module _ (unit : ℕ) (line : Line) (some : 0 < unit) (o : Owner) (path : List �
       let two = placed_parts line o (n + 2 + 2) reverse_settings (undervoltage_settings ++ rest)
       last.1 in
       let one = placed_parts line o (n + 2 + 2 + 2) undervoltage_settings rest two.1 in
-      let z1 = optional_back unit line o some path ms n no_times zone1_settings
+      let z1 = optional_back unit line o some places ms n no_times zone1_settings
       (zone1_whole unit line o some) more.0 (omega arith) (rw is held.zone1_is) in
-      let z2 = optional_back unit line o some path ms (n + 2) no_times zone2_settings
+      let z2 = optional_back unit line o some places ms (n + 2) no_times zone2_settings
       (zone2_whole unit line o some) last.0 (omega arith) (rw is held.zone2_is) in
-      let rv = optional_back unit line o some path ms (n + 2 + 2) no_times reverse_settings
+      let rv = optional_back unit line o some places ms (n + 2 + 2) no_times reverse_settings
       (reverse_whole unit line o some) two.0 (omega arith) (rw is held.reverse_is) in
-      let uv = optional_back unit line o some path ms (n + 2 + 2 + 2) no_times
+      let uv = optional_back unit line o some places ms (n + 2 + 2 + 2) no_times
       undervoltage_settings (undervoltage_whole unit line o some) one.0 fits
       (rw is held.undervoltage_is) in
       (rw (z1, z2, rv) uv, one.1)
@@ -130,17 +131,17 @@ module _ (unit : ℕ) (line : Line) (some : 0 < unit) (o : Owner) (path : List �
       (s : Scheme) (g w : Bool) (j : ℕ) (name : List ℕ) (rest : List Setting)
       → ArePlaced line o j (guard_settings g ++ (weak_settings w ++ rest))
       → j + length (guard_settings g) + length (weak_settings w) ≤ length line.params.items
-      → ms ≡ members unit line some o name s g w → Holds unit line some o name path s g w
-      → permissive_times path unit ms (take j (intervals line))
+      → ms ≡ members unit line some o name s g w → Holds unit line some o name places s g w
+      → permissive_times places unit ms (take j (intervals line))
       ≡ Ok (take (j + length (guard_settings g) + length (weak_settings w)) (intervals line))
   unfolding permissive_times
   permissive_back s g w j name rest placed fits is held =
       let more = placed_parts line o j (guard_settings g) (weak_settings w ++ rest) placed in
       let last = placed_parts line o (j + length (guard_settings g)) (weak_settings w) rest more.1
       in
-      let guard = flagged_back unit line o some path ms j guard_settings
+      let guard = flagged_back unit line o some places ms j guard_settings
       (guard_whole unit line o some) refl refl g more.0 (omega arith) (rw is held.guard_is) in
-      let weak = flagged_back unit line o some path ms (j + length (guard_settings g))
+      let weak = flagged_back unit line o some places ms (j + length (guard_settings g))
       weak_settings (weak_whole unit line o some) refl refl w last.0 fits (rw is held.weak_is) in
       rw guard weak
 
@@ -149,11 +150,11 @@ module _ (unit : ℕ) (line : Line) (some : 0 < unit) (o : Owner) (path : List �
       (s : Scheme) (j : ℕ) (name : List ℕ) → ArePlaced line o j (scheme_settings s ++ [])
       → j + length (scheme_settings s) ≤ length line.params.items
       → ms ≡ members unit line some o name s false false
-      → Holds unit line some o name path s false false
-      → required_times path (scheme_settings s) unit ms (take j (intervals line))
+      → Holds unit line some o name places s false false
+      → required_times places (scheme_settings s) unit ms (take j (intervals line))
       ≡ Ok (take (j + 0 + 0 + length (scheme_settings s)) (intervals line))
   own_back s j name placed fits is held =
-      required_back unit line o some path ms j (scheme_settings s) (scheme_whole unit line o some s)
+      required_back unit line o some places ms j (scheme_settings s) (scheme_whole unit line o some s)
       (placed_parts line o j (scheme_settings s) [] placed).0 fits (rw is held.scheme_is)
       ∙ as_many line (j + length (scheme_settings s)) (j + 0 + 0 + length (scheme_settings s))
       (omega arith)
@@ -163,8 +164,8 @@ module _ (unit : ℕ) (line : Line) (some : 0 < unit) (o : Owner) (path : List �
       → ArePlaced line o j (guard_settings g ++ (weak_settings w ++ (scheme_settings s ++ [])))
       → j + length (guard_settings g) + length (weak_settings w) + length (scheme_settings s)
       ≤ length line.params.items
-      → ms ≡ members unit line some o name s g w → Holds unit line some o name path s g w
-      → scheme_times s path unit ms (take j (intervals line))
+      → ms ≡ members unit line some o name s g w → Holds unit line some o name places s g w
+      → scheme_times s places unit ms (take j (intervals line))
       ≡ Ok (take
       (j + length (guard_settings g) + length (weak_settings w) + length (scheme_settings s))
       (intervals line))
@@ -196,12 +197,12 @@ guard_stands unit line o some false = refl
 
 -- terminal k is read back
 terminal_back : LineLaws →
-    (unit : ℕ) (line : Line) (path : List ℕ) (k : ℕ) (t : Terminal) → 0 < unit
+    (unit : ℕ) (line : Line) (places : Places) (k : ℕ) (t : Terminal) → 0 < unit
     → k < length line.terminals.items → t ≡ get_or line.terminals.items k t
-    → terminal_at unit path (table (terminal_members unit line k t)) (read_terminals line k)
+    → terminal_at unit places (table (terminal_members unit line k t)) (read_terminals line k)
     ≡ Ok (read_terminals line (k + 1))
-unfolding terminal_at name_at text_at
-terminal_back laws unit line path k t some lt is =
+unfolding terminal_at name_at key_text
+terminal_back laws unit line places k t some lt is =
     let ts : List Terminal = line.terminals.items in
     let s : Scheme = line.scheme in
     let o : Owner = owner.Terminal k in
@@ -211,7 +212,7 @@ terminal_back laws unit line path k t some lt is =
     rw is (passes (λ u. is_plain_name u.name) ts k t lt line.plain_names) in
     let flags : has_flags s || not (t.weak || t.guard) ≡ true =
     flags_at (has_flags s) ts k t lt is line.flags_by_scheme in
-    let held = holds unit line some o t.name path s t.guard t.weak flags in
+    let held = holds unit line some o t.name places s t.guard t.weak flags in
     let first : n + 0 ≡ n = omega arith in
     let placed : ArePlaced line o n (terminal_settings s t) =
     subst (λ i. ArePlaced line o i (terminal_settings s t)) first
@@ -232,10 +233,10 @@ terminal_back laws unit line path k t some lt is =
     let sum : n + 2 + 2 + 2 + 2 + length (guard_settings t.guard)
     + length (weak_settings t.weak) + length (scheme_settings s) ≡ before line (k + 1) =
     omega arith in
-    let elements = elements_back unit line some o path ms s t.guard t.weak n t.name
+    let elements = elements_back unit line some o places ms s t.guard t.weak n t.name
     (guard_settings t.guard ++ (weak_settings t.weak ++ (scheme_settings s ++ []))) placed
     (omega arith) refl held in
-    let besides = scheme_back unit line some o path ms s t.guard t.weak (n + 2 + 2 + 2 + 2) t.name
+    let besides = scheme_back unit line some o places ms s t.guard t.weak (n + 2 + 2 + 2 + 2) t.name
     flags elements.1 (omega arith) refl held in
     let flag = each_flag (has_flags s) t.weak t.guard flags in
     let weak_is : has_flags s && is_some (get_member (group_key (weak_settings true)) ms)
@@ -272,9 +273,9 @@ terminal_back laws unit line path k t some lt is =
 -- all terminals are read back
 pub terminals_back : LineLaws →
     (unit : ℕ) (line : Line) → 0 < unit
-    → terminals_at unit (items_of (terminals_data unit line)) (read_terminals line 0)
+    → terminals_at [] unit (items_of (terminals_data unit line)) (read_terminals line 0)
     ≡ Ok (read_terminals line (length line.terminals.items))
 terminals_back laws unit line some =
-    items_back (terminal_at unit) (codes "terminal") (terminal_members unit line)
+    items_back (terminal_at unit) (places_in (codes "terminal") []) (terminal_members unit line)
     line.terminals.items (read_terminals line)
-    (λ k t. terminal_back laws unit line (item_path (codes "terminal") k) k t some)
+    (λ k t. terminal_back laws unit line (places_in (codes "terminal") [] k) k t some)

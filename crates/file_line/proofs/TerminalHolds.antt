@@ -9,7 +9,8 @@ use Rattle.model_line.specs.Settings.{scheme_settings, groups_with}
 use Rattle.model_line.specs.{declared.line.Line.Line, Terminals.has_flags}
 use Rattle.model_line.specs.{declared.line.Scheme.Scheme, declared.line.Owner.Owner}
 use Rattle.file_line.specs.Canonical.{table_of, put_groups}
-use Rattle.file_line.specs.{Keys.all_known, TerminalTables.terminal_keys, Times.group_key}
+use Rattle.file_line.specs.Places.{Places, only_keys}
+use Rattle.file_line.specs.{TerminalTables.terminal_keys, Times.group_key}
 use Rattle.file_line.proofs.TimesBack.{value}
 
 module _ (unit : ℕ) (line : Line) (some : 0 < unit) (o : Owner) (name : List ℕ) where
@@ -18,8 +19,8 @@ module _ (unit : ℕ) (line : Line) (some : 0 < unit) (o : Owner) (name : List �
   members s g w =
       put_groups unit line o (groups_with s g w) (table_of ((codes "name", string name) ∷ []))
 
-  pub record Holds (path : List ℕ) (s : Scheme) (g w : Bool) : Type 0 where
-    pub known : all_known path (terminal_keys s) (members s g w) ≡ Ok tt
+  pub record Holds (places : Places) (s : Scheme) (g w : Bool) : Type 0 where
+    pub known : only_keys places (terminal_keys s) (members s g w) ≡ Ok tt
     pub name_is : get_member (codes "name") (members s g w) ≡ Some (string name)
     pub zone1_is :
         get_member (group_key zone1_settings) (members s g w)
@@ -45,30 +46,30 @@ module _ (unit : ℕ) (line : Line) (some : 0 < unit) (o : Owner) (name : List �
 
   -- what is found under each key, by the scheme and the flags that it lets
   all_found :
-      (path : List ℕ) (s : Scheme) (g w : Bool) → has_flags s || not (w || g) ≡ true
-      → (all_known path (terminal_keys s) (members s g w) ≡ Ok tt)
+      (places : Places) (s : Scheme) (g w : Bool) → has_flags s || not (w || g) ≡ true
+      → (only_keys places (terminal_keys s) (members s g w) ≡ Ok tt)
       × (map (λ key. get_member key (members s g w))
       (codes "name" ∷ map group_key (groups_with s true true))
       ≡ Some (string name) ∷ map (value unit line o some) (groups_with s g w))
-  unfolding all_known
-  all_found path Pott true true h = (refl, refl)
-  all_found path Pott true false h = (refl, refl)
-  all_found path Pott false true h = (refl, refl)
-  all_found path Pott false false h = (refl, refl)
-  all_found path Dcub true true h = (refl, refl)
-  all_found path Dcub true false h = (refl, refl)
-  all_found path Dcub false true h = (refl, refl)
-  all_found path Dcub false false h = (refl, refl)
-  all_found path s false false h = (refl, refl)
-  all_found path s true true h = absurd (cc)
-  all_found path s true false h = absurd (cc)
-  all_found path s false true h = absurd (cc)
+  unfolding only_keys
+  all_found places Pott true true h = (refl, refl)
+  all_found places Pott true false h = (refl, refl)
+  all_found places Pott false true h = (refl, refl)
+  all_found places Pott false false h = (refl, refl)
+  all_found places Dcub true true h = (refl, refl)
+  all_found places Dcub true false h = (refl, refl)
+  all_found places Dcub false true h = (refl, refl)
+  all_found places Dcub false false h = (refl, refl)
+  all_found places s false false h = (refl, refl)
+  all_found places s true true h = absurd (cc)
+  all_found places s true false h = absurd (cc)
+  all_found places s false true h = absurd (cc)
 
   pub holds :
-      (path : List ℕ) (s : Scheme) (g w : Bool) → has_flags s || not (w || g) ≡ true
-      → Holds path s g w
-  holds path s g w h =
-      let all = all_found path s g w h in
+      (places : Places) (s : Scheme) (g w : Bool) → has_flags s || not (w || g) ≡ true
+      → Holds places s g w
+  holds places s g w h =
+      let all = all_found places s g w h in
       record {
         known = all.0;
         name_is = ap (λ l. get_or l 0 None) all.1;

@@ -18,7 +18,9 @@ use Rattle.model_line.specs.{declared.bounds.Bounds.Bounds, declared.line.Termin
 use Rattle.file_line.specs.TerminalTables.{terminal_keys, name_at, no_times, element_times}
 use Rattle.file_line.specs.TerminalTables.{elements_times, permissive_times, scheme_times}
 use Rattle.file_line.specs.TerminalTables.{terminal_named, terminal_at}
-use Rattle.file_line.specs.{Keys.all_known, Keys.table_in, Keys.text_at, Lines.LineValues}
+use Rattle.file_document.specs.Keys.{table_in}
+use Rattle.file_line.specs.Places.{Places, only_keys, key_text}
+use Rattle.file_line.specs.Lines.{LineValues}
 use Rattle.file_line.specs.Times.{group_key}
 use Rattle.base_memory.specs.CheckLaws.{passed, refusal_passed, same_ok}
 use Rattle.file_line.proofs.TimeLaws.{IsTime, AreTimes, Grew, grew_more, grew_as}
@@ -32,16 +34,16 @@ no_times_are =
 
 -- the four elements have eight intervals
 elements_ok :
-    (path : List ℕ) (unit : ℕ) (ms : Members) (done more : List Bounds) → 0 < unit
-    → elements_times path unit ms done ≡ Ok more → Grew 8 done more
+    (places : Places) (unit : ℕ) (ms : Members) (done more : List Bounds) → 0 < unit
+    → elements_times places unit ms done ≡ Ok more → Grew 8 done more
 unfolding elements_times
-elements_ok path unit ms done more some e =
+elements_ok places unit ms done more some e =
     let record { value = z1; was = z1_is; rest = e1 } =
-    passed (element_times path zone1_settings unit ms done) _ more e in
+    passed (element_times places zone1_settings unit ms done) _ more e in
     let record { value = z2; was = z2_is; rest = e2 } =
-    passed (element_times path zone2_settings unit ms z1) _ more e1 in
+    passed (element_times places zone2_settings unit ms z1) _ more e1 in
     let record { value = rv; was = rv_is; rest = e3 } =
-    passed (element_times path reverse_settings unit ms z2) _ more e2 in
+    passed (element_times places reverse_settings unit ms z2) _ more e2 in
     grew_more 6 2 done rv more
     (grew_more 4 2 done z2 rv
     (grew_more 2 2 done z1 z2 (one zone1_settings refl done z1 z1_is)
@@ -50,9 +52,9 @@ elements_ok path unit ms done more some e =
   where
     one :
         (xs : List Setting) → length xs ≡ 2 → (old new : List Bounds)
-        → element_times path xs unit ms old ≡ Ok new → Grew 2 old new
+        → element_times places xs unit ms old ≡ Ok new → Grew 2 old new
     one xs two old new is =
-        optional_ok 2 no_times path xs unit ms old new some no_times_are (λ _. refl) (λ _. two) is
+        optional_ok 2 no_times places xs unit ms old new some no_times_are (λ _. refl) (λ _. two) is
 
 guard_count :
     (o : Option Data) → ((o ≡ None → 0 ≡ length (guard_settings (is_some o)))
@@ -67,12 +69,12 @@ weak_count None = (λ _. refl, λ h. absurd (cc))
 weak_count (Some d) = (λ h. absurd (cc), λ _. refl)
 
 permissive_ok :
-    (path : List ℕ) (unit : ℕ) (ms : Members) (done more : List Bounds) → 0 < unit
-    → permissive_times path unit ms done ≡ Ok more
+    (places : Places) (unit : ℕ) (ms : Members) (done more : List Bounds) → 0 < unit
+    → permissive_times places unit ms done ≡ Ok more
     → Grew (length (guard_settings (is_some (get_member (group_key (guard_settings true)) ms)))
     + length (weak_settings (is_some (get_member (group_key (weak_settings true)) ms)))) done more
 unfolding permissive_times
-permissive_ok path unit ms done more some e =
+permissive_ok places unit ms done more some e =
     let reversal : Option Data = get_member (group_key (guard_settings true)) ms in
     let echo : Option Data = get_member (group_key (weak_settings true)) ms in
     let record { value = mid; was = mid_is; rest = e1 } = passed _ _ more e in
@@ -80,9 +82,9 @@ permissive_ok path unit ms done more some e =
     let w = weak_count echo in
     grew_more (length (guard_settings (is_some reversal))) (length (weak_settings (is_some echo)))
     done mid more
-    (optional_ok (length (guard_settings (is_some reversal))) [] path (guard_settings true)
+    (optional_ok (length (guard_settings (is_some reversal))) [] places (guard_settings true)
     unit ms done mid some tt g.0 g.1 mid_is)
-    (optional_ok (length (weak_settings (is_some echo))) [] path (weak_settings true) unit ms
+    (optional_ok (length (weak_settings (is_some echo))) [] places (weak_settings true) unit ms
     mid more some tt w.0 w.1 e1)
 
 -- how many settings a terminal has besides those of its elements
@@ -91,19 +93,19 @@ own_count s t =
     length (guard_settings t.guard) + length (weak_settings t.weak) + length (scheme_settings s)
 
 scheme_ok :
-    (s : Scheme) (path : List ℕ) (unit : ℕ) (ms : Members) (name : List ℕ) (done more : List Bounds)
-    → 0 < unit → scheme_times s path unit ms done ≡ Ok more
+    (s : Scheme) (places : Places) (unit : ℕ) (ms : Members) (name : List ℕ) (done more : List Bounds)
+    → 0 < unit → scheme_times s places unit ms done ≡ Ok more
     → Grew (own_count s (terminal_named s ms name)) done more
-scheme_ok Pott path unit ms name done more some e =
-    grew_as _ _ done more (omega arith) (permissive_ok path unit ms done more some e)
-scheme_ok Dcub path unit ms name done more some e =
-    grew_as _ _ done more (omega arith) (permissive_ok path unit ms done more some e)
-scheme_ok Putt path unit ms name done more some e =
-    required_ok path (scheme_settings Putt) unit ms done more some e
-scheme_ok Dcb path unit ms name done more some e =
-    required_ok path (scheme_settings Dcb) unit ms done more some e
-scheme_ok Dtt path unit ms name done more some e =
-    required_ok path (scheme_settings Dtt) unit ms done more some e
+scheme_ok Pott places unit ms name done more some e =
+    grew_as _ _ done more (omega arith) (permissive_ok places unit ms done more some e)
+scheme_ok Dcub places unit ms name done more some e =
+    grew_as _ _ done more (omega arith) (permissive_ok places unit ms done more some e)
+scheme_ok Putt places unit ms name done more some e =
+    required_ok places (scheme_settings Putt) unit ms done more some e
+scheme_ok Dcb places unit ms name done more some e =
+    required_ok places (scheme_settings Dcb) unit ms done more some e
+scheme_ok Dtt places unit ms name done more some e =
+    required_ok places (scheme_settings Dtt) unit ms done more some e
 
 pub own_settings_count :
     (s : Scheme) (t : Terminal) → 8 + own_count s t ≡ length (terminal_settings s t)
@@ -127,13 +129,13 @@ pub record IsOneMoreTerminal (line more : LineValues) : Type 0 where
       record line { terminals = line.terminals ++ terminal ∷ []; intervals = intervals } ≡ more
 
 name_ok :
-    (path : List ℕ) (before : List Terminal) (ms : Members) (name : List ℕ)
-    → name_at path before ms ≡ Ok name
+    (places : Places) (before : List Terminal) (ms : Members) (name : List ℕ)
+    → name_at places before ms ≡ Ok name
     → (is_plain_name name ≡ true) × (list_any (λ t. bytes_eq t.name name) before ≡ false)
 unfolding name_at
-name_ok path before ms name e =
+name_ok places before ms name e =
     let record { value = text; was = text_is; rest = e1 } =
-    passed (text_at path (codes "name") ms) _ name e in
+    passed (key_text places (codes "name") ms) _ name e in
     let (plain, e2) = refusal_passed (not (is_plain_name text)) _ _ name e1 in
     let (new, e3) = refusal_passed (list_any (λ t. bytes_eq t.name text) before) (Ok text) _ name e2 in
     let same : text ≡ name = same_ok text name e3 in
@@ -151,21 +153,21 @@ named_flags Dcub ms name = refl
 named_flags Dtt ms name = refl
 
 pub terminal_at-ok :
-    (unit : ℕ) (path : List ℕ) (d : Data) (line more : LineValues) → 0 < unit
-    → terminal_at unit path d line ≡ Ok more → IsOneMoreTerminal line more
+    (unit : ℕ) (places : Places) (d : Data) (line more : LineValues) → 0 < unit
+    → terminal_at unit places d line ≡ Ok more → IsOneMoreTerminal line more
 unfolding terminal_at
-terminal_at-ok unit path d line more some e =
-    let record { value = ms; was = ms_is; rest = e1 } = passed (table_in path d) _ more e in
+terminal_at-ok unit places d line more some e =
+    let record { value = ms; was = ms_is; rest = e1 } = passed (table_in places.table d) _ more e in
     let record { value = known; was = known_is; rest = e2 } =
-    passed (all_known path (terminal_keys line.scheme) ms) _ more e1 in
+    passed (only_keys places (terminal_keys line.scheme) ms) _ more e1 in
     let record { value = name; was = name_is; rest = e3 } =
-    passed (name_at path line.terminals ms) _ more e2 in
+    passed (name_at places line.terminals ms) _ more e2 in
     let record { value = elements; was = elements_are; rest = e4 } =
-    passed (elements_times path unit ms line.intervals) _ more e3 in
+    passed (elements_times places unit ms line.intervals) _ more e3 in
     let record { value = whole; was = whole_is; rest = e5 } =
-    passed (scheme_times line.scheme path unit ms elements) _ more e4 in
+    passed (scheme_times line.scheme places unit ms elements) _ more e4 in
     let t : Terminal = terminal_named line.scheme ms name in
-    let named = name_ok path line.terminals ms name name_is in
+    let named = name_ok places line.terminals ms name name_is in
     record {
       terminal = t;
       intervals = whole;
@@ -175,7 +177,7 @@ terminal_at-ok unit path d line more some e =
       grew =
           grew_as _ _ line.intervals whole (own_settings_count line.scheme t)
           (grew_more 8 (own_count line.scheme t) line.intervals elements whole
-          (elements_ok path unit ms line.intervals elements some elements_are)
-          (scheme_ok line.scheme path unit ms name elements whole some whole_is));
+          (elements_ok places unit ms line.intervals elements some elements_are)
+          (scheme_ok line.scheme places unit ms name elements whole some whole_is));
       is = same_ok _ more e5;
     }

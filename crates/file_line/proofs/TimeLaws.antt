@@ -10,12 +10,12 @@ use Rattle.std.specs.Prelude.{IsTrue, is_some, map}
 use Rattle.toml.specs.Data.{Data, string, integer, float, boolean, datetime, array, table, Members}
 use Rattle.toml.specs.Data.{Items, no_items, item, as_integer, get_member}
 use Rattle.model_line.specs.Settings.{table_key, time_key}
-use Rattle.model_line.specs.ParamNames.{key_path}
 use Rattle.model_line.specs.{declared.bounds.Bounds.Bounds, declared.line.Setting.Setting}
-use Rattle.file_line.specs.Times.{in_ticks, interval_in, two_ends, ends_in, time_in, time_at}
+use Rattle.file_line.specs.Times.{in_ticks, interval_in, two_ends, ends_in, time_in, time_at, time_there}
 use Rattle.file_line.specs.Times.{times_at, times_in, group_key, required_times, times_or}
 use Rattle.file_line.specs.Times.{optional_times}
-use Rattle.file_line.specs.{Keys.all_known, Keys.value_at, Keys.table_in}
+use Rattle.file_document.specs.{Keys.all_known, Keys.required, Keys.table_in}
+use Rattle.file_line.specs.Places.{Places, in_table, key_value}
 use Rattle.base_memory.specs.CheckLaws.{passed, test_passed, same_ok}
 
 -- an interval of times, the least of which is not below `fewest`
@@ -128,27 +128,27 @@ time_in_ok path unit fewest (table ms) t some e = absurd (cc)
 
 -- a time that is read
 pub time_ok :
-    (path key : List ℕ) (unit fewest : ℕ) (ms : Members) (t : Bounds) → 0 < unit
-    → time_at path key unit fewest ms ≡ Ok t → IsTime fewest t
-unfolding time_at
-time_ok path key unit fewest ms t some e =
-    let record { value = d; was = d_is; rest = made } = passed (value_at path key ms) _ t e in
-    time_in_ok (key_path path key) unit fewest d t some made
+    (places : Places) (key : List ℕ) (unit fewest : ℕ) (ms : Members) (t : Bounds) → 0 < unit
+    → time_at places key unit fewest ms ≡ Ok t → IsTime fewest t
+unfolding time_there
+time_ok places key unit fewest ms t some e =
+    let record { value = d; was = d_is; rest = made } = passed (required (places.key key) (get_member key ms)) _ t e in
+    time_in_ok (places.key key) unit fewest d t some made
 
 -- times that are read
 times_ok :
-    (path : List ℕ) (xs : List Setting) (unit : ℕ) (ms : Members) (done more : List Bounds)
-    → 0 < unit → times_at path xs unit ms done ≡ Ok more → Grew (length xs) done more
+    (places : Places) (xs : List Setting) (unit : ℕ) (ms : Members) (done more : List Bounds)
+    → 0 < unit → times_at places xs unit ms done ≡ Ok more → Grew (length xs) done more
 unfolding times_at
-times_ok path [] unit ms done more some e =
+times_ok places [] unit ms done more some e =
     subst (λ x. Grew 0 done x) (same_ok done more e) (grew_none done)
-times_ok path (x ∷ xs) unit ms done more some e =
+times_ok places (x ∷ xs) unit ms done more some e =
     let record { value = t; was = t_is; rest = rest } =
-    passed (time_at path (time_key x) unit 0 ms) _ more e in
-    let one = grew_one done t (time_ok path (time_key x) unit 0 ms t some t_is) in
+    passed (time_at places (time_key x) unit 0 ms) _ more e in
+    let one = grew_one done t (time_ok places (time_key x) unit 0 ms t some t_is) in
     grew_as (1 + length xs) (length (x ∷ xs)) done more (omega arith)
     (grew_more 1 (length xs) done (done ++ t ∷ []) more one
-    (times_ok path xs unit ms (done ++ t ∷ []) more some rest))
+    (times_ok places xs unit ms (done ++ t ∷ []) more some rest))
 
 times_in_ok :
     (path : List ℕ) (xs : List Setting) (unit : ℕ) (d : Data) (done more : List Bounds)
@@ -158,19 +158,19 @@ times_in_ok path xs unit d done more some e =
     let record { value = ms; was = ms_is; rest = e1 } = passed (table_in path d) _ more e in
     let record { value = known; was = known_is; rest = e2 } =
     passed (all_known path (map time_key xs) ms) _ more e1 in
-    times_ok path xs unit ms done more some e2
+    times_ok (in_table path) xs unit ms done more some e2
 
 -- those of a required table
 pub required_ok :
-    (path : List ℕ) (xs : List Setting) (unit : ℕ) (ms : Members) (done more : List Bounds)
-    → 0 < unit → required_times path xs unit ms done ≡ Ok more → Grew (length xs) done more
+    (places : Places) (xs : List Setting) (unit : ℕ) (ms : Members) (done more : List Bounds)
+    → 0 < unit → required_times places xs unit ms done ≡ Ok more → Grew (length xs) done more
 unfolding required_times
-required_ok path [] unit ms done more some e =
+required_ok places [] unit ms done more some e =
     subst (λ x. Grew 0 done x) (same_ok done more e) (grew_none done)
-required_ok path (x ∷ xs) unit ms done more some e =
+required_ok places (x ∷ xs) unit ms done more some e =
     let record { value = d; was = d_is; rest = made } =
-    passed (value_at path (table_key x) ms) _ more e in
-    times_in_ok (key_path path (table_key x)) (x ∷ xs) unit d done more some made
+    passed (key_value places (table_key x) ms) _ more e in
+    times_in_ok (places.key (table_key x)) (x ∷ xs) unit d done more some made
 
 times_or_ok :
     (n : ℕ) (absent : List Bounds) (path : List ℕ) (xs : List Setting) (unit : ℕ)
@@ -184,12 +184,12 @@ times_or_ok n absent path xs unit (Some d) done more some times none there e =
 
 -- those of a table that may be absent
 pub optional_ok :
-    (n : ℕ) (absent : List Bounds) (path : List ℕ) (xs : List Setting) (unit : ℕ) (ms : Members)
+    (n : ℕ) (absent : List Bounds) (places : Places) (xs : List Setting) (unit : ℕ) (ms : Members)
     (done more : List Bounds) → 0 < unit → AreTimes absent
     → (get_member (group_key xs) ms ≡ None → length absent ≡ n)
     → (IsTrue (is_some (get_member (group_key xs) ms)) → length xs ≡ n)
-    → optional_times absent path xs unit ms done ≡ Ok more → Grew n done more
+    → optional_times absent places xs unit ms done ≡ Ok more → Grew n done more
 unfolding optional_times
-optional_ok n absent path xs unit ms done more some times none there e =
-    times_or_ok n absent (key_path path (group_key xs)) xs unit (get_member (group_key xs) ms) done
+optional_ok n absent places xs unit ms done more some times none there e =
+    times_or_ok n absent (places.key (group_key xs)) xs unit (get_member (group_key xs) ms) done
     more some times none there e

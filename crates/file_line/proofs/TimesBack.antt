@@ -12,11 +12,12 @@ use Rattle.model_line.specs.Settings.{time_key, zone1_settings, zone2_settings, 
 use Rattle.model_line.specs.Settings.{undervoltage_settings, guard_settings, weak_settings}
 use Rattle.model_line.specs.Settings.{scheme_settings, receiver_settings, table_key}
 use Rattle.model_line.specs.declared.line.Scheme.TheVariants.{Dcb, Dcub, Dtt}
-use Rattle.model_line.specs.{declared.line.Scheme.Scheme, ParamNames.key_path}
+use Rattle.model_line.specs.{declared.line.Scheme.Scheme}
+use Rattle.file_line.specs.Places.{Places, in_table}
 use Rattle.model_line.specs.{declared.bounds.Bounds.Bounds, declared.line.Setting.Setting}
 use Rattle.model_line.specs.{declared.line.Line.Line, declared.line.Owner.Owner}
-use Rattle.file_line.specs.Keys.{all_known, first_unknown}
-use Rattle.file_line.specs.Times.{time_in, time_at, times_at, times_in, group_key, required_times}
+use Rattle.file_document.specs.Keys.{all_known, first_unknown}
+use Rattle.file_line.specs.Times.{time_in, time_there, time_at, times_at, times_in, group_key, required_times}
 use Rattle.file_line.specs.Times.{optional_times}
 use Rattle.file_line.specs.Canonical.{table_of, time_data, setting_interval, setting_pair}
 use Rattle.file_line.specs.Canonical.{times_data}
@@ -61,19 +62,19 @@ module _ (unit : ℕ) (line : Line) (o : Owner) (some : 0 < unit) where
       × AreHeld ms xs
 
   times_back :
-      (path : List ℕ) (ms : Members) (xs : List Setting) (j : ℕ) → AreHeld ms xs
+      (places : Places) (ms : Members) (xs : List Setting) (j : ℕ) → AreHeld ms xs
       → ArePlaced line o j xs → j + length xs ≤ length line.params.items
-      → times_at path xs unit ms (take j (intervals line))
+      → times_at places xs unit ms (take j (intervals line))
       ≡ Ok (take (j + length xs) (intervals line))
-  unfolding times_at time_at
-  times_back path ms [] j held placed fits = as_many line j (j + 0) (omega arith)
-  times_back path ms (x ∷ xs) j held placed fits =
+  unfolding times_at time_there
+  times_back places ms [] j held placed fits = as_many line j (j + 0) (omega arith)
+  times_back places ms (x ∷ xs) j held placed fits =
       let here = times_at_place line j (omega arith) in
-      let time = time_back (key_path path (time_key x)) unit 0 (setting_interval line o x) some
+      let time = time_back (places.key (time_key x)) unit 0 (setting_interval line o x) some
       (rw placed.0 here) in
       let next = take_next line j (omega arith) in
       rw (held.0, time, placed.0, next)
-      (times_back path ms xs (j + 1) held.1 placed.1 (omega arith)
+      (times_back places ms xs (j + 1) held.1 placed.1 (omega arith)
       ∙ as_many line (j + 1 + length xs) (j + length (x ∷ xs)) (omega arith))
 
   -- the table that is printed for a group has its settings and no others
@@ -118,33 +119,33 @@ module _ (unit : ℕ) (line : Line) (o : Owner) (some : 0 < unit) where
   unfolding times_in times_data all_known
   group_back path j xs whole placed fits =
       rw whole.known
-      (times_back path (table_of (map (setting_pair unit line o) xs)) xs j whole.held placed fits)
+      (times_back (in_table path) (table_of (map (setting_pair unit line o) xs)) xs j whole.held placed fits)
 
-  module _ (path : List ℕ) (ms : Members) (j : ℕ) where
+  module _ (places : Places) (ms : Members) (j : ℕ) where
     pub required_back :
         (xs : List Setting) → IsWhole xs → ArePlaced line o j xs
         → j + length xs ≤ length line.params.items → get_member (group_key xs) ms ≡ value xs
-        → required_times path xs unit ms (take j (intervals line))
+        → required_times places xs unit ms (take j (intervals line))
         ≡ Ok (take (j + length xs) (intervals line))
     unfolding required_times
     required_back [] whole placed fits held = as_many line j (j + 0) (omega arith)
     required_back (x ∷ xs) whole placed fits held =
-        rw held (group_back (key_path path (table_key x)) j (x ∷ xs) whole placed fits)
+        rw held (group_back (places.key (table_key x)) j (x ∷ xs) whole placed fits)
 
     pub optional_back :
         (absent : List Bounds) (xs : List Setting) → IsWhole xs → ArePlaced line o j xs
         → j + length xs ≤ length line.params.items
         → get_member (group_key xs) ms ≡ Some (times_data unit line o xs)
-        → optional_times absent path xs unit ms (take j (intervals line))
+        → optional_times absent places xs unit ms (take j (intervals line))
         ≡ Ok (take (j + length xs) (intervals line))
     unfolding optional_times
     optional_back absent xs whole placed fits held =
-        rw held (group_back (key_path path (group_key xs)) j xs whole placed fits)
+        rw held (group_back (places.key (group_key xs)) j xs whole placed fits)
 
     -- where it is absent, nothing is read
     absent_back :
         (xs : List Setting) → get_member (group_key xs) ms ≡ None
-        → optional_times [] path xs unit ms (take j (intervals line))
+        → optional_times [] places xs unit ms (take j (intervals line))
         ≡ Ok (take (j + 0) (intervals line))
     unfolding optional_times
     absent_back xs held =
@@ -157,7 +158,7 @@ module _ (unit : ℕ) (line : Line) (o : Owner) (some : 0 < unit) where
         → (flag : Bool) → ArePlaced line o j (settings flag)
         → j + length (settings flag) ≤ length line.params.items
         → get_member (group_key (settings true)) ms ≡ value (settings flag)
-        → optional_times [] path (settings true) unit ms (take j (intervals line))
+        → optional_times [] places (settings true) unit ms (take j (intervals line))
         ≡ Ok (take (j + length (settings flag)) (intervals line))
     flagged_back settings whole none some_are true placed fits held =
         optional_back [] (settings true) whole placed fits (held ∙ some_are)

@@ -1,14 +1,9 @@
-pub mod Paths
-pub mod PathBytes
-pub mod Faults
-pub mod Keys
+pub mod Places
 pub mod Times
 pub mod Lines
 pub mod TerminalTables
 pub mod ChannelTables
 pub mod LineFiles
 pub mod Canonical
-pub mod LeastUnknown
 pub mod Owners
-pub mod DocumentLaws
 pub mod PutLaws

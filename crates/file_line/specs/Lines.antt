@@ -9,10 +9,12 @@ use Rattle.model_line.specs.declared.line.Scheme.TheVariants.{Pott, Putt, Dcb, D
 use Rattle.model_line.specs.{declared.bounds.Bounds.Bounds, declared.line.Line.Line}
 use Rattle.model_line.specs.{declared.line.Scheme.Scheme, declared.line.Param.Param}
 use Rattle.model_line.specs.{declared.line.Terminal.Terminal, declared.line.Channel.Channel}
-use Rattle.file_line.specs.{declared.draft.Draft.Draft, declared.fault.LineFault.LineFault}
-use Rattle.file_line.specs.declared.fault.LineFault.TheVariants as fault
-use Rattle.file_line.specs.{Paths.item_path}
-use Rattle.file_line.specs.Keys.{number_at, text_at, flag_or_false, array_at}
+use Rattle.file_line.specs.{declared.draft.Draft.Draft}
+use Rattle.file_document.specs.declared.fault.DocumentFault.{DocumentFault}
+use Rattle.file_document.specs.declared.fault.DocumentFault.TheVariants as fault
+use Rattle.file_document.specs.Paths.{under}
+use Rattle.file_line.specs.Places.{Places}
+use Rattle.file_document.specs.Keys.{number_at, text_at, flag_or_false, array_at, counted}
 
 -- The values of a line, or of the part of it that was read: the intervals are those of its
 -- parameters, in order.
@@ -25,15 +27,15 @@ pub record LineValues : Type 0 where
   pub channels : List Channel
   pub intervals : List Bounds
 
--- The line with what the items of an array say, one after another, each read from its own place;
+-- The line with what the items of an array say, one after another, each read with its own places;
 -- the first of them has the number i.
 unfoldable pub items_at :
-    (List ℕ → Data → LineValues → Result LineValues LineFault)
-    → List ℕ → ℕ → Items → LineValues → Result LineValues LineFault
-items_at read array i no_items line = Ok line
-items_at read array i (item d ds) line = do
-  more ← read (item_path array i) d line
-  items_at read array (i + 1) ds more
+    (Places → Data → LineValues → Result LineValues DocumentFault)
+    → (ℕ → Places) → ℕ → Items → LineValues → Result LineValues DocumentFault
+items_at read stands i no_items line = Ok line
+items_at read stands i (item d ds) line = do
+  more ← read (stands i) d line
+  items_at read stands (i + 1) ds more
 
 -- what the reader holds of a line
 abbrev pub values_of : Draft → LineValues
@@ -75,22 +77,22 @@ scheme_named text =
     else if bytes_eq text (codes "dtt") then Some Dtt
     else None
 
-abbrev pub scheme_or_fault : Option Scheme → Result Scheme LineFault
-scheme_or_fault None = Err (fault.Range (codes "scheme"))
+abbrev pub scheme_or_fault : Option Scheme → Result Scheme DocumentFault
+scheme_or_fault None = Err (fault.Range (under [] (codes "scheme")))
 scheme_or_fault (Some scheme) = Ok scheme
 
 -- the scheme
-unfoldable pub scheme_of : Members → Result Scheme LineFault
+unfoldable pub scheme_of : Members → Result Scheme DocumentFault
 scheme_of ms = do
   text ← text_at [] (codes "scheme") ms
   scheme_or_fault (scheme_named text)
 
 -- whether zone 1 trips by itself
-unfoldable pub zone1_trip_of : Members → Result Bool LineFault
-zone1_trip_of ms = flag_or_false (codes "zone1_trip") (get_member (codes "zone1_trip") ms)
+unfoldable pub zone1_trip_of : Members → Result Bool DocumentFault
+zone1_trip_of ms = flag_or_false (under [] (codes "zone1_trip")) (get_member (codes "zone1_trip") ms)
 
 -- the values that stand at the top of the file
-unfoldable pub head_of : Members → Result LineValues LineFault
+unfoldable pub head_of : Members → Result LineValues DocumentFault
 head_of ms = do
   tick_us ← number_at [] (codes "tick_us") 1 1000000 ms
   horizon ← number_at [] (codes "horizon") 1 4000 ms
@@ -106,18 +108,12 @@ head_of ms = do
     intervals = [];
   })
 
--- two or three items
-abbrev pub two_or_three : Items → Result Items LineFault
-two_or_three (item a (item b no_items)) = Ok (item a (item b no_items))
-two_or_three (item a (item b (item c no_items))) = Ok (item a (item b (item c no_items)))
-two_or_three _ = Err (fault.Range (codes "terminal"))
-
--- the array of terminals
-unfoldable pub terminal_items : Members → Result Items LineFault
+-- the array of terminals: two or three
+unfoldable pub terminal_items : Members → Result Items DocumentFault
 terminal_items ms = do
   ds ← array_at [] (codes "terminal") ms
-  two_or_three ds
+  counted (under [] (codes "terminal")) 2 3 ds
 
 -- the array of channels
-abbrev pub channel_items : Members → Result Items LineFault
+abbrev pub channel_items : Members → Result Items DocumentFault
 channel_items ms = array_at [] (codes "channel") ms

@@ -4,12 +4,11 @@ ghost use Rattle.std.specs.Prelude.{◌≡◌, ◌≤◌, [], IfOk, length};
 ghost use Rattle.toml.specs.View.{table_view, items_view};
 ghost use Rattle.base_memory.specs.Gives.{seen};
 ghost use Rattle.file_line.specs.Lines.{values_of, scheme_named, scheme_of, zone1_trip_of, head_of};
-ghost use Rattle.file_line.specs.Lines.{two_or_three, terminal_items, channel_items};
+ghost use Rattle.file_line.specs.Lines.{terminal_items, channel_items};
 
 use crate::draft::Draft;
-use crate::fault::LineFault;
-use crate::keys::{find, flag, items, number, text};
-use crate::path::Path;
+use file_document::keys::{counted, find, flag, items, number, text};
+use file_document::{DocumentFault, Path};
 use model_line::Scheme;
 use std::alloc::Global;
 use toml::{Table, Value};
@@ -28,25 +27,25 @@ fn named(text: &str) -> Option<Scheme>
 }
 
 #[tactic(auto, unfolding(crate::specs::Lines::scheme_of))]
-fn scheme(table: &Table) -> Result<Scheme, LineFault>
+fn scheme(table: &Table) -> Result<Scheme, DocumentFault>
     ensures { result ≡ scheme_of (table_view table.now) }
 {
     match named(text(Path::root(), "scheme", table)?) {
         Some(scheme) => Ok(scheme),
-        None => Err(LineFault::Range(Path::root().key("scheme"))),
+        None => Err(DocumentFault::Range(Path::root().key(b"scheme"))),
     }
 }
 
 #[tactic(auto, unfolding(crate::specs::Lines::zone1_trip_of))]
-fn zone1_trip(table: &Table) -> Result<bool, LineFault>
+fn zone1_trip(table: &Table) -> Result<bool, DocumentFault>
     ensures { result ≡ zone1_trip_of (table_view table.now) }
 {
-    flag(Path::root().key("zone1_trip"), find(table, "zone1_trip"))
+    flag(Path::root().key(b"zone1_trip"), find(table, "zone1_trip"))
 }
 
 /// The line with the values that stand at the top of the file.
 #[tactic(auto, unfolding(crate::specs::Lines::head_of))]
-pub fn head(alloc: Global, table: &Table) -> Result<Draft, LineFault>
+pub fn head(alloc: Global, table: &Table) -> Result<Draft, DocumentFault>
     ensures values { seen values_of result ≡ head_of (table_view table.now) }
     ensures empty { IfOk result
         (λ d. (d.terminals.items ≡ []) × (d.channels.items ≡ []) × (d.intervals.items ≡ [])) }
@@ -68,28 +67,16 @@ pub fn head(alloc: Global, table: &Table) -> Result<Draft, LineFault>
 
 /// The tables of the terminals: two or three.
 #[tactic(auto, unfolding(crate::specs::Lines::terminal_items))]
-pub fn terminal_tables(table: &Table) -> Result<&[Value], LineFault>
+pub fn terminal_tables(table: &Table) -> Result<&[Value], DocumentFault>
     ensures items { seen (λ vs. items_view vs.now) result ≡ terminal_items (table_view table.now) }
     ensures count { IfOk result (λ vs. (2 ≤ length vs.now) × (length vs.now ≤ 3)) }
 {
-    few(items(Path::root(), "terminal", table)?)
-}
-
-fn few(items: &[Value]) -> Result<&[Value], LineFault>
-    ensures items { seen (λ vs. items_view vs.now) result ≡ two_or_three (items_view items.now) }
-    ensures count { IfOk result (λ vs. (2 ≤ length vs.now) × (length vs.now ≤ 3)) }
-{
-    if items.len() < 2 {
-        return Err(LineFault::Range(Path::root().key("terminal")));
-    }
-    if items.len() > 3 {
-        return Err(LineFault::Range(Path::root().key("terminal")));
-    }
-    Ok(items)
+    let path = Path::root().key(b"terminal");
+    counted(path, 2, 3, items(Path::root(), "terminal", table)?)
 }
 
 /// The tables of the channels.
-pub fn channel_tables(table: &Table) -> Result<&[Value], LineFault>
+pub fn channel_tables(table: &Table) -> Result<&[Value], DocumentFault>
     ensures { seen (λ vs. items_view vs.now) result ≡ channel_items (table_view table.now) }
 {
     items(Path::root(), "channel", table)

@@ -5,7 +5,7 @@ ghost use Rattle.model_line.specs.ParamNames.{name_at};
 ghost use Rattle.file_line.specs.LineFiles.{two_pairs, three_pairs, pair_joined, all_joined, whole};
 
 use crate::channel::has_pair;
-use crate::fault::LineFault;
+use file_document::DocumentFault;
 use model_line::{Channel, Name, Terminal};
 
 fn name(terminals: &[Terminal], place: u32) -> Name
@@ -15,7 +15,12 @@ fn name(terminals: &[Terminal], place: u32) -> Name
     terminals[place as usize].name
 }
 
-fn joined(terminals: &[Terminal], channels: &[Channel], from: u32, to: u32) -> Result<(), LineFault>
+fn joined(
+    terminals: &[Terminal],
+    channels: &[Channel],
+    from: u32,
+    to: u32,
+) -> Result<(), DocumentFault>
     requires from { from < length terminals.now }
     requires to { to < length terminals.now }
     ensures { result ≡ pair_joined terminals.now channels.now from to }
@@ -23,11 +28,11 @@ fn joined(terminals: &[Terminal], channels: &[Channel], from: u32, to: u32) -> R
     if has_pair(channels, from, to) {
         Ok(())
     } else {
-        Err(LineFault::Channels(name(terminals, from), name(terminals, to)))
+        Err(DocumentFault::Channels(name(terminals, from), name(terminals, to)))
     }
 }
 
-fn two_joined(terminals: &[Terminal], channels: &[Channel]) -> Result<(), LineFault>
+fn two_joined(terminals: &[Terminal], channels: &[Channel]) -> Result<(), DocumentFault>
     requires { length terminals.now ≡ 2 }
     ensures { result ≡ all_joined terminals.now channels.now two_pairs }
 {
@@ -36,7 +41,7 @@ fn two_joined(terminals: &[Terminal], channels: &[Channel]) -> Result<(), LineFa
     Ok(())
 }
 
-fn three_joined(terminals: &[Terminal], channels: &[Channel]) -> Result<(), LineFault>
+fn three_joined(terminals: &[Terminal], channels: &[Channel]) -> Result<(), DocumentFault>
     requires { length terminals.now ≡ 3 }
     ensures { result ≡ all_joined terminals.now channels.now three_pairs }
 {
@@ -51,7 +56,7 @@ fn three_joined(terminals: &[Terminal], channels: &[Channel]) -> Result<(), Line
 
 /// Refuses the first pair of terminals, by sender and then by receiver, that has no channel.
 #[tactic(auto, unfolding(crate::specs::LineFiles::whole))]
-pub fn all_joined(terminals: &[Terminal], channels: &[Channel]) -> Result<(), LineFault>
+pub fn all_joined(terminals: &[Terminal], channels: &[Channel]) -> Result<(), DocumentFault>
     requires some { 2 ≤ length terminals.now }
     requires few { length terminals.now ≤ 3 }
     ensures { result ≡ whole terminals.now channels.now }

@@ -3,7 +3,8 @@
 ghost use Rattle.std.specs.Prelude.{◌≡◌, ◌≤◌, false, Some, Ok, IfOk};
 ghost use Rattle.toml.specs.Text.{IsDocumentText};
 ghost use Rattle.file_line.specs.Canonical.{canonical_in, canonical};
-ghost use Rattle.file_line.specs.{Keys.document_of, Lines.line_values, LineFiles.line_of};
+ghost use Rattle.file_document.specs.Keys.{document_of};
+ghost use Rattle.file_line.specs.{Lines.line_values, LineFiles.line_of};
 
 use crate::canonical;
 use model_line::{Line, Memory};

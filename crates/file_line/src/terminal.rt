@@ -1,6 +1,7 @@
 //! The table of a terminal.
 
-ghost use Rattle.std.specs.Prelude.{◌≡◌, ◌<◌, ◌≤◌, ◌+◌, OnOk, map, length};
+ghost use Rattle.std.specs.Prelude.{◌≡◌, ◌<◌, ◌≤◌, ◌+◌, IfOk, OnOk, true, codes, map, length};
+ghost use Rattle.model_line.specs.PlainNames.{is_plain_name};
 ghost use Rattle.std.specs.Str.{bytes_eq};
 ghost use Rattle.std.specs.List.{list_any};
 ghost use Rattle.toml.specs.View.{view, table_view, items_view};
@@ -8,19 +9,21 @@ ghost use Rattle.base_memory.specs.Gives.{Becomes};
 ghost use Rattle.file_line.specs.TerminalTables.{terminal_keys, name_in, name_at, element_times};
 ghost use Rattle.file_line.specs.TerminalTables.{elements_times, permissive_times, scheme_times};
 ghost use Rattle.file_line.specs.TerminalTables.{terminal_named, terminal_at, terminals_at};
-ghost use Rattle.file_line.specs.{Lines.values_of};
+ghost use Rattle.file_line.specs.{Lines.values_of, Places.places_of, Places.places_in};
+ghost use Rattle.toml.specs.Data.{no_members};
 
 use crate::draft::Draft;
-use crate::fault::LineFault;
-use crate::keys::{find, only, table_of, text};
-use crate::path::Path;
+use crate::places::{TablePlaces, in_item};
 use crate::times::{TableTimes, group_key};
 use base_memory::Stopped;
+use file_document::keys::{find, table_of};
+use file_document::{DocumentFault, Path};
 use model_line::{
     Bounds, Name, REVERSE_SETTINGS, Scheme, Setting, Terminal, UNDERVOLTAGE_SETTINGS,
     ZONE1_SETTINGS, ZONE2_SETTINGS, guard_settings, is_plain, may_have_flags, scheme_settings,
     weak_settings,
 };
+use std::alloc::Global;
 use toml::{Table, Value};
 
 fn keys(scheme: Scheme) -> &'static [&'static str]
@@ -42,82 +45,89 @@ fn is_taken(before: &[Terminal], name: &str) -> bool
         .any(|terminal| terminal.name.bytes() == name.as_bytes())
 }
 
-fn new_name(path: Path, before: &[Terminal], text: &str) -> Result<Name, LineFault>
-    ensures { result ≡ name_in path before.now text.now }
+/// A plain name that no terminal before has.
+pub fn new_name(path: Path, before: &[Terminal], text: &str) -> Result<Name, DocumentFault>
+    ensures is { result ≡ name_in path before.now text.now }
+    ensures plain { IfOk result (λ n. is_plain_name n ≡ true) }
 {
     if !is_plain(text.as_bytes()) {
-        return Err(LineFault::BadName(path));
+        return Err(DocumentFault::BadName(path));
     }
     if is_taken(before, text) {
-        return Err(LineFault::Twice(path));
+        return Err(DocumentFault::Twice(path));
     }
     Ok(Name::plain(text.as_bytes()))
 }
 
 #[tactic(auto, unfolding(crate::specs::TerminalTables::name_at))]
-fn name(path: Path, before: &[Terminal], table: &Table) -> Result<Name, LineFault>
-    requires { length path ≤ 11 }
-    ensures { result ≡ name_at path before.now (table_view table.now) }
+fn name(places: &TablePlaces<'_>, before: &[Terminal], table: &Table) -> Result<Name, DocumentFault>
+    ensures { result ≡ name_at (places_of places.now) before.now (table_view table.now) }
 {
-    let text = text(path, "name", table)?;
-    new_name(path.key("name"), before, text)
+    let text = places.text("name", table)?;
+    new_name(places.key("name"), before, text)
 }
 
 fn element(
     times: &TableTimes,
+    places: &TablePlaces<'_>,
     settings: &[Setting],
     intervals: &mut Vec<Bounds>,
-) -> Result<(), Stopped<LineFault>>
-    requires { length times.now.path ≤ 11 }
+) -> Result<(), Stopped<DocumentFault>>
     ensures { Becomes result intervals.new.items
-        (element_times times.now.path settings.now times.now.unit (table_view times.now.table.now)
+        (element_times (places_of places.now) settings.now times.now.unit (table_view times.now.table.now)
         intervals.old.items) }
 {
     let none = Bounds {
         least: 0,
         greatest: 0,
     };
-    times.optional(&[none, none], settings, intervals)
+    times.optional(places, &[none, none], settings, intervals)
 }
 
 #[tactic(auto, unfolding(crate::specs::TerminalTables::elements_times))]
-fn elements(times: &TableTimes, intervals: &mut Vec<Bounds>) -> Result<(), Stopped<LineFault>>
-    requires { length times.now.path ≤ 11 }
+fn elements(
+    times: &TableTimes,
+    places: &TablePlaces<'_>,
+    intervals: &mut Vec<Bounds>,
+) -> Result<(), Stopped<DocumentFault>>
     ensures { Becomes result intervals.new.items
-        (elements_times times.now.path times.now.unit (table_view times.now.table.now)
+        (elements_times (places_of places.now) times.now.unit (table_view times.now.table.now)
         intervals.old.items) }
 {
-    element(times, ZONE1_SETTINGS, intervals)?;
-    element(times, ZONE2_SETTINGS, intervals)?;
-    element(times, REVERSE_SETTINGS, intervals)?;
-    element(times, UNDERVOLTAGE_SETTINGS, intervals)
+    element(times, places, ZONE1_SETTINGS, intervals)?;
+    element(times, places, ZONE2_SETTINGS, intervals)?;
+    element(times, places, REVERSE_SETTINGS, intervals)?;
+    element(times, places, UNDERVOLTAGE_SETTINGS, intervals)
 }
 
 #[tactic(auto, unfolding(crate::specs::TerminalTables::permissive_times))]
-fn permissive(times: &TableTimes, intervals: &mut Vec<Bounds>) -> Result<(), Stopped<LineFault>>
-    requires { length times.now.path ≤ 11 }
+fn permissive(
+    times: &TableTimes,
+    places: &TablePlaces<'_>,
+    intervals: &mut Vec<Bounds>,
+) -> Result<(), Stopped<DocumentFault>>
     ensures { Becomes result intervals.new.items
-        (permissive_times times.now.path times.now.unit (table_view times.now.table.now)
+        (permissive_times (places_of places.now) times.now.unit (table_view times.now.table.now)
         intervals.old.items) }
 {
-    times.optional(&[], guard_settings(true), intervals)?;
-    times.optional(&[], weak_settings(true), intervals)
+    times.optional(places, &[], guard_settings(true), intervals)?;
+    times.optional(places, &[], weak_settings(true), intervals)
 }
 
 fn by_scheme(
     scheme: Scheme,
     times: &TableTimes,
+    places: &TablePlaces<'_>,
     intervals: &mut Vec<Bounds>,
-) -> Result<(), Stopped<LineFault>>
-    requires { length times.now.path ≤ 11 }
+) -> Result<(), Stopped<DocumentFault>>
     ensures { Becomes result intervals.new.items
-        (scheme_times scheme times.now.path times.now.unit (table_view times.now.table.now)
+        (scheme_times scheme (places_of places.now) times.now.unit (table_view times.now.table.now)
         intervals.old.items) }
 {
     if may_have_flags(scheme) {
-        permissive(times, intervals)
+        permissive(times, places, intervals)
     } else {
-        times.required(scheme_settings(scheme), intervals)
+        times.required(places, scheme_settings(scheme), intervals)
     }
 }
 
@@ -131,44 +141,72 @@ fn named(scheme: Scheme, table: &Table, name: Name) -> Terminal
     }
 }
 
-/// The line with one more terminal, from the table at the path.
+/// The line with one more terminal, from a table whose keys stand there.
 #[tactic(auto, unfolding(crate::specs::TerminalTables::terminal_at))]
 pub fn terminal(
     unit: u32,
-    path: Path,
+    places: &TablePlaces<'_>,
     value: &Value,
     line: &mut Draft,
-) -> Result<(), Stopped<LineFault>>
+) -> Result<(), Stopped<DocumentFault>>
     requires some { 0 < unit }
     requires few { unit ≤ 1000000 }
-    requires path { length path ≤ 11 }
     ensures { Becomes result (values_of line.new)
-        (terminal_at unit path (view value.now) (values_of line.old)) }
+        (terminal_at unit (places_of places.now) (view value.now) (values_of line.old)) }
 {
-    let table = table_of(path, value)?;
-    only(path, keys(line.scheme), table)?;
-    let name = name(path, &line.terminals, table)?;
-    let times = TableTimes { unit, path, table };
-    elements(&times, &mut line.intervals)?;
-    by_scheme(line.scheme, &times, &mut line.intervals)?;
+    let table = table_of(places.path, value)?;
+    places.only(keys(line.scheme), table)?;
+    let name = name(places, &line.terminals, table)?;
+    let times = TableTimes { unit, table };
+    elements(&times, places, &mut line.intervals)?;
+    by_scheme(line.scheme, &times, places, &mut line.intervals)?;
     line.terminals.push(named(line.scheme, table, name))?;
     Ok(())
 }
 
-/// The line with these terminals.
-pub fn terminals(unit: u32, values: &[Value], line: &mut Draft) -> Result<(), Stopped<LineFault>>
+// The line with one more terminal, that of item i.
+fn item(
+    told: &[TablePlaces<'_>],
+    none: &Table,
+    unit: u32,
+    i: usize,
+    value: &Value,
+    line: &mut Draft,
+) -> Result<(), Stopped<DocumentFault>>
     requires some { 0 < unit }
     requires few { unit ≤ 1000000 }
-    requires three { length values.now ≤ 3 }
+    requires none { table_view none.now ≡ no_members }
+    ensures { Becomes result (values_of line.new)
+        (terminal_at unit (places_in (codes "terminal") (map places_of told.now) i)
+        (view value.now) (values_of line.old)) }
+{
+    match told.get(i) {
+        Some(places) => terminal(unit, places, value, line),
+        None => terminal(unit, &in_item(none, "terminal", i), value, line),
+    }
+}
+
+/// The line with these terminals, the keys of whose tables stand there.
+pub fn terminals(
+    alloc: Global,
+    told: &[TablePlaces<'_>],
+    unit: u32,
+    values: &[Value],
+    line: &mut Draft,
+) -> Result<(), Stopped<DocumentFault>>
+    requires some { 0 < unit }
+    requires few { unit ≤ 1000000 }
     ensures values { Becomes result (values_of line.new)
-        (terminals_at unit (items_view values.now) (values_of line.old)) }
+        (terminals_at (map places_of told.now) unit (items_view values.now)
+        (values_of line.old)) }
     ensures count { OnOk result
         (length line.new.terminals.items
         ≡ length line.old.terminals.items + length values.now) }
     ensures channels { OnOk result (line.new.channels.items ≡ line.old.channels.items) }
 {
+    let none = Table::new(alloc);
     for (i, value) in values.iter().enumerate() {
-        terminal(unit, Path::item("terminal", i), value, line)?;
+        item(told, &none, unit, i, value, line)?;
     }
     Ok(())
 }

@@ -1,11 +1,12 @@
 //! Studies: a line and its faults in one TOML file, with times in milliseconds, tolerances and
 //! swept times, read to a line and faults in ticks.
 //!
-//! `specs/study/Studies.antt` says what a study says. Its line is that of a line file, whose table stands
-//! in `specs/study/LineTables.antt`.
+//! `specs/study/Studies.antt` says what a study says. Its line is that of a table, which stands in
+//! `specs/study/LineTables.antt` with the places of its keys in the study.
 
 mod faults;
 mod line;
+mod places;
 mod print;
 mod read;
 mod settings;

@@ -5,7 +5,7 @@ use Rattle.std.proofs.Common.{subst}
 use Rattle.std.specs.List.{All}
 use Rattle.model_line.specs.{declared.line.Line.Line, declared.script.Script.Script, Fits.Fits}
 use Rattle.file_line.specs.{LineFiles.line_of, Lines.LineValues, Lines.line_values}
-use Rattle.file_line.specs.declared.fault.LineFault.{LineFault}
+use Rattle.file_document.specs.declared.fault.DocumentFault.{DocumentFault}
 use Rattle.file_tables.specs.{script.Scripts.scripts_of, script.Values.ScriptValues, script.Values.values_of}
 use Rattle.file_tables.specs.declared.script.fault.ScriptFault.{ScriptFault}
 use Rattle.file_tables.specs.declared.timing.fault.TimingFault.{TimingFault}
@@ -23,7 +23,7 @@ module _ {G : Type 0} (R S : Refusal → Type 0) (refused : (why : Refusal) → 
   where
     pub both_lines : (H K : Line → Type 0)
         → ((a b : Line) → line_values b ≡ line_values a → H a → K b → G)
-        → (said : Result LineValues LineFault) → of_line said R H → of_line said S K → G
+        → (said : Result LineValues DocumentFault) → of_line said R H → of_line said S K → G
     both_lines H K both (Ok values) p q = both p.0 q.0 (q.1 ∙ sym p.1) p.2 q.2
     both_lines H K both (Err why) p q = refused (refusal.Line why) p q
 

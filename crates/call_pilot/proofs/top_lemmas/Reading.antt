@@ -8,7 +8,7 @@ use Rattle.file_line.specs.{LineFiles.line_of, Lines.LineValues, Lines.line_valu
 use Rattle.base_memory.specs.Gives.{Fails}
 use Rattle.base_memory.specs.declared.stopped.Stopped.{Stopped}
 use Rattle.base_memory.specs.declared.stopped.Stopped.TheVariants as stopped
-use Rattle.file_line.specs.declared.fault.LineFault.{LineFault}
+use Rattle.file_document.specs.declared.fault.DocumentFault.{DocumentFault}
 use Rattle.file_tables.specs.script.Scripts.{scripts_of}
 use Rattle.call_engine.specs.Calls.{Calls}
 use Rattle.model_timing.specs.Inside.{IsTimingInside}
@@ -37,7 +37,7 @@ use Rattle.call_answer.specs.SinkLaws.{keeps_same}
 -- ---- what holds of what was read
 
 -- a line that was read
-pub line_read : (said : Result LineValues LineFault) (l : Line) (refused : Refusal → Type 0)
+pub line_read : (said : Result LineValues DocumentFault) (l : Line) (refused : Refusal → Type 0)
     (holds : Line → Type 0)
     → said ≡ Ok (line_values l) → holds l → of_line said refused holds
 line_read said l refused holds is h = rw is (l, refl, h)
@@ -101,15 +101,15 @@ module _ {K : Type 0} (view : K → SinkView) where
   no_memory allowed s = (refl, inl (keeps_same (view s).written))
 
   -- a line file that is refused, by a command over it alone
-  pub line_stops : (said : Result LineValues LineFault) (next : Line → CallAnswers) (s : K)
-      (why : Stopped LineFault) → Fails why said
+  pub line_stops : (said : Result LineValues DocumentFault) (next : Line → CallAnswers) (s : K)
+      (why : Stopped DocumentFault) → Fails why said
       → Works view (λ t text message. of_line said (λ why. refuses why t text message)
       (λ l. next l t text message)) s s (Err (stop_by refusal.Line why))
   line_stops said next s (stopped.Fault fault) f = rw f ((refl, refl, refl), refl)
   line_stops said next s stopped.Memory f = no_memory _ s
 
   -- a work over the line that was read
-  pub works_of_line : (said : Result LineValues LineFault) (next : Line → CallAnswers) (l : Line)
+  pub works_of_line : (said : Result LineValues DocumentFault) (next : Line → CallAnswers) (l : Line)
       (old new : K) (r : Result Status Stop) → said ≡ Ok (line_values l)
       → Works view (next l) old new r
       → Works view (λ t text message. of_line said (λ why. refuses why t text message)

@@ -21,7 +21,7 @@ use Rattle.std.specs.Io.KnownBytes.{Appends, Keeps}
 use Rattle.std.specs.List.{All}
 use Rattle.model_line.specs.{declared.line.Line.Line, declared.script.Script.Script, Fits.Fits}
 use Rattle.file_line.specs.{LineFiles.line_of, Lines.LineValues, Lines.line_values}
-use Rattle.file_line.specs.declared.fault.LineFault.{LineFault}
+use Rattle.file_document.specs.declared.fault.DocumentFault.{DocumentFault}
 use Rattle.file_tables.specs.script.Scripts.{scripts_of}
 use Rattle.file_tables.specs.script.Values.{ScriptValues, values_of}
 use Rattle.file_tables.specs.declared.script.fault.ScriptFault.{ScriptFault}
@@ -145,7 +145,7 @@ front_of_nothing (b ∷ put) rest same = absurd (cc)
 
 module _ {X : Type 0} (refused : Refusal → Type 0) (not_refused : (why : Refusal) → refused why → X)
   where
-    pub line_said : (r : Result LineValues LineFault) (holds : Line → Type 0)
+    pub line_said : (r : Result LineValues DocumentFault) (holds : Line → Type 0)
         → of_line r refused holds
         → ((line : Line) → r ≡ Ok (line_values line) → holds line → X) → X
     line_said (Ok values) holds is then = then is.0 (ap Ok (sym is.1)) is.2

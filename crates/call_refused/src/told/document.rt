@@ -56,6 +56,8 @@ pub fn unknown_key(
     let mut write = Vec::new(alloc);
     if key == b"zone1_trip".as_slice() {
         push_pieces(&mut write, &[b"it at the top, before the first table"])?;
+    } else if is_one_of(keys, key) {
+        push_pieces(&mut write, &[b"a scheme that has it, or take it out"])?;
     } else if let Some(near) = nearest(keys, key) {
         push_pieces(&mut write, &[b"`", near.as_bytes(), b"`"])?;
     } else {
@@ -64,6 +66,16 @@ pub fn unknown_key(
     }
     let more: [&[u8]; 3] = [path, b"`: this key does not belong here; write ", &write];
     told(alloc, name, bytes, at, "`", &more)
+}
+
+// Whether the table has the key in some scheme.
+fn is_one_of(keys: &[&str], key: &[u8]) -> bool {
+    for own in keys {
+        if own.as_bytes() == key {
+            return true;
+        }
+    }
+    false
 }
 
 // Appends the keys, with a comma between two.

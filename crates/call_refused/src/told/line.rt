@@ -9,7 +9,7 @@ use crate::words::lines::line_said;
 use crate::words::near::line_keys;
 use base_memory::Memory;
 use base_text::pieces::text_of;
-use file_line::{LineFault, Path};
+use file_document::DocumentFault;
 use model_line::Name;
 use std::alloc::Global;
 
@@ -18,19 +18,16 @@ pub fn refused_line(
     alloc: Global,
     name: &str,
     bytes: &[u8],
-    fault: &LineFault,
+    fault: &DocumentFault,
 ) -> Result<Vec<u8>, Memory>
     ensures { IfOk result (λ text. IsToldAt name.now bytes.now text.items) }
 {
-    match fault {
-        LineFault::NotToml => refused_toml(alloc, name, bytes),
-        LineFault::Channels(from, to) => no_channel(alloc, name, bytes, from, to),
-        LineFault::Unknown(path)
-        | LineFault::Missing(path)
-        | LineFault::WrongKind(path)
-        | LineFault::Range(path)
-        | LineFault::BadName(path)
-        | LineFault::Twice(path) => refused_key(alloc, name, bytes, fault, path),
+    match fault.place() {
+        Some(path) => refused_key(alloc, name, bytes, fault, path.bytes()),
+        None => match fault {
+            DocumentFault::Channels(from, to) => no_channel(alloc, name, bytes, from, to),
+            _ => refused_toml(alloc, name, bytes),
+        },
     }
 }
 
@@ -38,15 +35,14 @@ fn refused_key(
     alloc: Global,
     name: &str,
     bytes: &[u8],
-    fault: &LineFault,
-    path: &Path,
+    fault: &DocumentFault,
+    path: &[u8],
 ) -> Result<Vec<u8>, Memory>
     ensures { IfOk result (λ text. IsToldAt name.now bytes.now text.items) }
 {
-    let path = path.bytes();
     let at = place_of_key(alloc, bytes, path)?;
     match fault {
-        LineFault::Unknown(_) => unknown_key(alloc, name, bytes, at, path, line_keys(path), ""),
+        DocumentFault::Unknown(_) => unknown_key(alloc, name, bytes, at, path, line_keys(path), ""),
         _ => at_key(alloc, name, bytes, at, path, line_said(fault, path)),
     }
 }
@@ -63,6 +59,6 @@ fn no_channel(
 {
     let at = place_of_key(alloc, bytes, b"channel[0]")?;
     let path = text_of(alloc, &[from.bytes(), b">", to.bytes()])?;
-    let said = line_said(&LineFault::Channels(*from, *to), b"channel");
+    let said = line_said(&DocumentFault::Channels(*from, *to), b"channel");
     at_key(alloc, name, bytes, at, &path, said)
 }

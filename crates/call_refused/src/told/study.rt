@@ -5,7 +5,6 @@ ghost use Rattle.call_refused.specs.told.Told.{IsToldAt};
 
 use crate::places::place_of_key;
 use crate::told::document::{at_key, refused_toml, unknown_key};
-use crate::told::line_path::study_path;
 use crate::words::maps::{map_keys, map_others, map_said};
 use crate::words::near::study_keys;
 use crate::words::studies::study_said;
@@ -26,10 +25,7 @@ pub fn refused_study(
     ensures { IfOk result (λ text. IsToldAt name.now bytes.now text.items) }
 {
     match fault.place() {
-        Some(path) => {
-            let own = study_path(alloc, bytes, path.bytes())?;
-            refused_key(alloc, name, bytes, fault, &own)
-        }
+        Some(path) => refused_key(alloc, name, bytes, fault, path.bytes()),
         None => refused_toml(alloc, name, bytes),
     }
 }

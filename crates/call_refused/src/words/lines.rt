@@ -2,23 +2,19 @@
 
 use crate::words::rules::line_rule;
 use crate::words::said::{Said, missing, words};
-use file_line::LineFault;
+use file_document::DocumentFault;
 
 /// What is wrong at this path, and what to write.
-pub fn line_said(fault: &LineFault, path: &[u8]) -> Said<'static> {
+pub fn line_said(fault: &DocumentFault, path: &[u8]) -> Said<'static> {
     let rule = line_rule(path);
     match fault {
-        LineFault::Missing(_) => missing(rule.what, rule.write),
-        LineFault::Twice(_) => twice_said(path),
-        LineFault::Channels(_, _) => words(
+        DocumentFault::Missing(_) => missing(rule.what, rule.write),
+        DocumentFault::Twice(_) => twice_said(path),
+        DocumentFault::Channels(_, _) => words(
             "each ordered pair of terminals needs a channel",
             "a table [[channel]] with from, to and delay",
         ),
-        LineFault::NotToml
-        | LineFault::Unknown(_)
-        | LineFault::WrongKind(_)
-        | LineFault::Range(_)
-        | LineFault::BadName(_) => words(rule.what, rule.write),
+        _ => words(rule.what, rule.write),
     }
 }
 

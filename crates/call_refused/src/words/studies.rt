@@ -37,6 +37,7 @@ fn key_said(fault: &DocumentFault, path: &[u8], value: &[u8]) -> Said<'static> {
         | DocumentFault::Unknown(_)
         | DocumentFault::WrongKind(_)
         | DocumentFault::Range(_)
+        | DocumentFault::Channels(_, _)
         | DocumentFault::BadTime(_, _)
         | DocumentFault::BadDate(_)
         | DocumentFault::OneFile(_) => words(rule.what, rule.write),

@@ -5,7 +5,7 @@ use Rattle.toml.specs.Data.{Members}
 use Rattle.model_line.specs.declared.line.Line.{Line}
 use Rattle.model_line.specs.declared.script.Kind.TheVariants.{Internal, External}
 use Rattle.model_line.specs.declared.script.Kind.{Kind}
-use Rattle.file_line.specs.Keys.{document_of}
+use Rattle.file_document.specs.Keys.{document_of}
 use Rattle.file_document.specs.declared.fault.DocumentFault.{DocumentFault}
 use Rattle.file_records.specs.declared.map.map.Map.{Map}
 use Rattle.file_document.specs.Keys.{opened, all_known, number_at, text_at, array_at, counted}

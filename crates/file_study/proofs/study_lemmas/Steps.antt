@@ -20,7 +20,7 @@ use Rattle.file_study.specs.study.Shows.{lost_in}
 use Rattle.file_study.specs.study.Faults.{stages_in, stage_at, faults_in, fault_at, fault_names}
 use Rattle.file_study.specs.study.Faults.{FaultValues, StageValues}
 use Rattle.file_document.specs.{Paths.under, Paths.numbered, Keys.text_in}
-use Rattle.file_document.specs.Words.{plain_name}
+use Rattle.file_line.specs.TerminalTables.{name_in}
 
 -- the next entry of a table, and then those after it
 pub times_more : (units : Units) (path : List ℕ) (s rest : List Entry) (e : Entry) (done : Members)
@@ -43,7 +43,7 @@ settings_more units path s rest e done is = rw is
 pub terminals_more : (path : List ℕ) (i : ℕ) (vs : List Value) (d : Value) (done : List Terminal)
     → i < length vs
     → (text_in (numbered path i) (view (get_or vs i d)) >>= λ text.
-    plain_name (numbered path i) text >>= λ name.
+    name_in (numbered path i) done text >>= λ name.
     terminals_in path (i + 1) (items_view (drop (i + 1) vs))
     (done ++ record { name = name; weak = false; guard = false } ∷ []))
     ≡ terminals_in path i (items_view (drop i vs)) done

@@ -1,24 +1,22 @@
--- The line file that a study comes to.
-use Rattle.std.specs.Prelude.{◌==◌, ◌++◌, ◌+◌, ℕ, Bool, false, List, [], ◌∷◌, Option}
-use Rattle.std.specs.Prelude.{Result, Ok, Err, map, length, pos, codes, if◌then◌else◌, true}
+-- The line of a study: the table that it comes to, and where the keys of this stand in the study.
+use Rattle.std.specs.Prelude.{◌==◌, ◌++◌, ◌+◌, ℕ, Bool, false, List, [], ◌∷◌, Option, None, Some}
+use Rattle.std.specs.Prelude.{Result, Ok, map, length, pos, codes, if◌then◌else◌, true}
 use Rattle.base_memory.specs.Gives.{◌>>=◌}
-use Rattle.toml.specs.Data.{Data, string, integer, boolean, array, table, Members, Items, no_items}
+use Rattle.toml.specs.Data.{Data, string, integer, boolean, array, table, Members, Items, no_items, no_members}
 use Rattle.toml.specs.Data.{item, get_member}
 use Rattle.toml.specs.View.{items_of}
 use Rattle.model_line.specs.{declared.line.Terminal.Terminal, declared.line.Channel.Channel}
 use Rattle.model_line.specs.{ParamNames.name_at, ParamNames.pair_name}
 use Rattle.file_line.specs.{Canonical.table_of, Canonical.put_all, Lines.LineValues}
-use Rattle.file_line.specs.LineFiles.{line_in}
-use Rattle.file_line.specs.declared.fault.LineFault.{LineFault}
-use Rattle.file_line.specs.declared.fault.LineFault.TheVariants as line_fault
+use Rattle.file_line.specs.LineFiles.{line_at}
+use Rattle.file_line.specs.Places.{Places, in_either}
+use Rattle.file_line.specs.TerminalTables.{name_in}
 use Rattle.file_document.specs.declared.fault.DocumentFault.{DocumentFault}
-use Rattle.file_document.specs.declared.fault.DocumentFault.TheVariants as fault
 use Rattle.file_study.specs.declared.study.units.Units.{Units}
 use Rattle.file_document.specs.Keys.{number_at, number_or_none, text_in, text_at, flag_or_false}
 use Rattle.file_document.specs.Keys.{array_at, table_or_none, none_unknown, counted}
 use Rattle.file_study.specs.{study.Settings.put_section, study.Moments.instant_of}
 use Rattle.file_document.specs.{Paths.under, Paths.numbered}
-use Rattle.file_document.specs.Words.{plain_name}
 
 -- The table of settings under a key at the top, if there is one, which has only these keys.
 -- `[default.terminal]` and `[default.channel]` are under `default`; `[terminal.X]` and
@@ -30,24 +28,33 @@ section_at key known top = do
   Ok section
 
 -- What an owner is by default, and what differs: a table stands for the whole table of that name.
-unfoldable pub owner_members : Units → Option Members → List ℕ → Option Members → List ℕ → Members
-    → Result Members DocumentFault
-owner_members units defaults kind own name start = do
-  base ← put_section units (under [] (codes "default")) kind defaults start
-  put_section units (under [] kind) name own base
+unfoldable pub owner_members : Units → List (List ℕ) → Option Members → List ℕ → Option Members
+    → List ℕ → Members → Result Members DocumentFault
+owner_members units known defaults kind own name start = do
+  base ← put_section units known (under [] (codes "default")) kind defaults start
+  put_section units known (under [] kind) name own base
+
+-- the keys of a terminal and of a channel, by whatever scheme
+abbrev pub terminal_keys : List (List ℕ)
+terminal_keys =
+    codes "z1" ∷ codes "z2" ∷ codes "rv" ∷ codes "uv" ∷ codes "reversal" ∷ codes "echo"
+    ∷ codes "block" ∷ codes "transfer" ∷ []
+
+abbrev pub channel_keys : List (List ℕ)
+channel_keys = codes "delay" ∷ codes "unblock" ∷ []
 
 -- a terminal
 abbrev pub terminal_members : Units → Option Members → Option Members → Terminal
     → Result Members DocumentFault
 terminal_members units defaults own t =
-    owner_members units defaults (codes "terminal") own t.name
+    owner_members units terminal_keys defaults (codes "terminal") own t.name
     (table_of ((codes "name", string t.name) ∷ []))
 
 -- a channel
 abbrev pub channel_members : Units → Option Members → Option Members → List Terminal → Channel
     → Result Members DocumentFault
 channel_members units defaults own ts c =
-    owner_members units defaults (codes "channel") own (pair_name ts c)
+    owner_members units channel_keys defaults (codes "channel") own (pair_name ts c)
     (table_of ((codes "from", string (name_at ts c.from))
     ∷ (codes "to", string (name_at ts c.to)) ∷ []))
 
@@ -59,12 +66,12 @@ tables_of members (x ∷ xs) done = do
   ms ← members x
   tables_of members xs (done ++ table ms ∷ [])
 
--- the terminals by their names, which are plain
+-- the terminals by their names, which are plain, and none twice
 unfoldable pub terminals_in : List ℕ → ℕ → Items → List Terminal → Result (List Terminal) DocumentFault
 terminals_in path i no_items done = Ok done
 terminals_in path i (item d ds) done = do
   text ← text_in (numbered path i) d
-  name ← plain_name (numbered path i) text
+  name ← name_in (numbered path i) done text
   terminals_in path (i + 1) ds (done ++ record { name = name; weak = false; guard = false } ∷ [])
 
 -- two or three of them
@@ -142,34 +149,33 @@ with_tables units ts top head = do
   channels ← channel_tables units defaults ts top
   Ok (put_all (table_pairs terminals channels) head)
 
--- the line file of a study, as a table
-unfoldable pub line_table : Units → Members → Result Members DocumentFault
-line_table units top = do
-  head ← line_head units top
-  ts ← terminals_of top
-  with_tables units ts top head
+-- ---- where the keys stand
 
--- a place in the line file
-abbrev pub in_line : List ℕ → List ℕ
-in_line path = under (under [] (codes "line")) path
+-- a table that may be absent; what is no table, or is not there, has no keys
+abbrev pub table_or_empty : Option Data → Members
+table_or_empty (Some (table ms)) = ms
+table_or_empty _ = no_members
 
--- a fault of the line file is one of the study
-abbrev pub as_study : LineFault → DocumentFault
-as_study line_fault.NotToml = fault.NotToml
-as_study (line_fault.Unknown path) = fault.Unknown (in_line path)
-as_study (line_fault.Missing path) = fault.Missing (in_line path)
-as_study (line_fault.WrongKind path) = fault.WrongKind (in_line path)
-as_study (line_fault.Range path) = fault.Range (in_line path)
-as_study (line_fault.BadName path) = fault.BadName (in_line path)
-as_study (line_fault.Twice path) = fault.Twice (in_line path)
-as_study (line_fault.Channels from to) = fault.Missing (in_line from)
+-- What an owner has under its own name stands there, and all else of it among the defaults.
+abbrev pub owner_places : List ℕ → Members → List ℕ → Places
+owner_places kind top name =
+    in_either (under (under [] kind) name)
+    (table_or_empty (get_member name (table_or_empty (get_member kind top))))
+    (under (under [] (codes "default")) kind)
 
-abbrev pub as_line : Result LineValues LineFault → Result LineValues DocumentFault
-as_line (Ok line) = Ok line
-as_line (Err why) = Err (as_study why)
+abbrev pub terminal_places : List Terminal → Members → List Places
+terminal_places ts top = map (λ t. owner_places (codes "terminal") top t.name) ts
 
--- the line of a study: that of its line file
+abbrev pub channel_places : List Terminal → Members → List Places
+channel_places ts top =
+    map (λ c. owner_places (codes "channel") top (pair_name ts c)) (channels_of ts)
+
+-- ---- the line
+
+-- the line of a study: that of its table, the keys of which stand in the study
 unfoldable pub line_of_study : Units → Members → Result LineValues DocumentFault
 line_of_study units top = do
-  ms ← line_table units top
-  as_line (line_in ms)
+  head ← line_head units top
+  ts ← terminals_of top
+  ms ← with_tables units ts top head
+  line_at (terminal_places ts top) (channel_places ts top) ms

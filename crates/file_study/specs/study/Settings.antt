@@ -10,6 +10,7 @@ use Rattle.file_document.specs.declared.fault.DocumentFault.TheVariants as fault
 use Rattle.file_study.specs.declared.study.units.Units.{Units}
 use Rattle.file_study.specs.{study.Moments.bounds_of}
 use Rattle.file_document.specs.{Paths.under, Keys.table_or_none, Keys.member_of}
+use Rattle.file_document.specs.Keys.{none_unknown}
 
 -- a time in a line file: an array of its two ends
 abbrev pub ends_data : Bounds → Data
@@ -49,9 +50,10 @@ abbrev pub put_optional : Units → List ℕ → Option Members → Members → 
 put_optional units path None done = Ok done
 put_optional units path (Some ms) done = put_settings units path ms done
 
--- those of the table under a key of a table that may be absent
-unfoldable pub put_section : Units → List ℕ → List ℕ → Option Members → Members
+-- those of the table under a key of a table that may be absent, which has only these keys
+unfoldable pub put_section : Units → List (List ℕ) → List ℕ → List ℕ → Option Members → Members
     → Result Members DocumentFault
-put_section units path key outer done = do
+put_section units known path key outer done = do
   ms ← table_or_none (under path key) (member_of key outer)
+  _ ← none_unknown (under path key) known ms
   put_optional units (under path key) ms done

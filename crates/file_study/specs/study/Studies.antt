@@ -2,7 +2,8 @@
 use Rattle.std.specs.Prelude.{◌≡◌, ℕ, List, [], ◌∷◌, Result, Ok, Err, codes, map, string_bytes}
 use Rattle.toml.specs.Data.{Members}
 use Rattle.base_memory.specs.Gives.{◌>>=◌}
-use Rattle.file_line.specs.{Keys.document_of, Lines.LineValues, Lines.line_values}
+use Rattle.file_document.specs.Keys.{document_of}
+use Rattle.file_line.specs.Lines.{LineValues, line_values}
 use Rattle.file_line.specs.{LineFiles.line_of}
 use Rattle.file_document.specs.declared.fault.DocumentFault.{DocumentFault}
 use Rattle.file_study.specs.declared.study.units.Units.{Units}

@@ -1,23 +1,23 @@
 //! The line of a study.
 
-ghost use Rattle.std.specs.Prelude.{◌≡◌, ◌<◌, ◌≤◌, ◌++◌, [], true, pos, Some, IfOk, map};
+ghost use Rattle.std.specs.Prelude.{◌≡◌, ◌<◌, ◌≤◌, ◌++◌, [], true, pos, IfOk, map};
 ghost use Rattle.std.specs.Prelude.{option_map, length};
 ghost use Rattle.std.specs.Str.{IsUtf8};
 ghost use Rattle.toml.specs.{Data.Members, Data.string, Data.integer, View.view, View.table_view};
-ghost use Rattle.toml.specs.{View.items_view, Data.members_depth, Data.members_have_valid_dates};
+ghost use Rattle.toml.specs.{View.items_view};
 ghost use Rattle.model_line.specs.{Terminals.are_plain_names, PlainNames.is_plain_name};
 ghost use Rattle.model_line.specs.{ParamNames.pair_name};
 ghost use Rattle.file_line.specs.{Canonical.table_of, Canonical.put_member, Lines.line_values};
-ghost use Rattle.file_line.specs.{Keys.document_of};
 ghost use Rattle.base_memory.specs.Gives.{Becomes, Gives, seen};
 ghost use Rattle.file_study.specs.study.LineTables.{terminals_of, terminals_in};
 ghost use Rattle.file_study.specs.study.LineTables.{channels_of, channels_for, units_of, horizon_of};
-ghost use Rattle.file_study.specs.study.LineTables.{section_at, terminal_tables, channel_tables, in_line};
+ghost use Rattle.file_study.specs.study.LineTables.{section_at, terminal_tables, channel_tables};
 ghost use Rattle.file_study.specs.study.LineTables.{tables_of};
 ghost use Rattle.file_study.specs.study.LineTables.{owner_members, terminal_members, channel_members};
-ghost use Rattle.file_study.specs.study.LineTables.{line_head, with_tables, line_table, line_of_study};
-ghost use Rattle.file_study.specs.study.LineTables.{as_study, head_pairs};
+ghost use Rattle.file_study.specs.study.LineTables.{line_head, with_tables, line_of_study};
+ghost use Rattle.file_study.specs.study.LineTables.{head_pairs};
 
+use crate::study::places::placed_line;
 use crate::study::settings::put_section;
 use crate::study::ticks::instant;
 use crate::study::units::Units;
@@ -25,13 +25,17 @@ use base_memory::{Memory, Stopped};
 use file_document::keys::{
     counted, find, flag, items, number, only_in, optional_number, optional_table, text, text_of,
 };
-use file_document::words::plain_name;
 use file_document::{DocumentFault, Path};
-use file_line::{LineFault, put, read_line};
+use file_line::{new_name, put};
 use model_line::{Channel, Line, Name, Terminal, channel_name};
 use std::alloc::Global;
-use toml::ser::Error;
 use toml::{Table, Value};
+
+const TERMINAL_KEYS: &[&str] = &[
+    "z1", "z2", "rv", "uv", "reversal", "echo", "block", "transfer",
+];
+
+const CHANNEL_KEYS: &[&str] = &["delay", "unblock"];
 
 const TWO_WAYS: &[Channel] = &[Channel { from: 0, to: 1 }, Channel { from: 1, to: 0 }];
 
@@ -103,7 +107,7 @@ fn terminals_in(
     let mut terminals = Vec::new(alloc);
     for (i, value) in names.iter().enumerate() {
         let text = text_of(path.item(i), value)?;
-        let name = plain_name(path.item(i), text)?;
+        let name = new_name(path.item(i), &terminals, text)?;
         terminals.push(Terminal {
             name,
             weak: false,
@@ -137,6 +141,7 @@ fn channels(count: usize) -> &'static [Channel]
 fn with_owner(
     alloc: Global,
     units: Units,
+    known: &[&str],
     defaults: Option<&Table>,
     kind: &str,
     own: Option<&Table>,
@@ -146,14 +151,15 @@ fn with_owner(
     requires { 0 < units.tick_us }
     ensures { (ms : Members) → IfOk table (λ t. table_view t ≡ ms)
         → Gives table_view result
-        (owner_members units (option_map (λ t. table_view t.now) defaults.entry) kind.now
+        (owner_members units (map (λ name. name.now) known.now)
+        (option_map (λ t. table_view t.now) defaults.entry) kind.now
         (option_map (λ t. table_view t.now) own.entry) name.now ms) }
 {
     let mut table = table?;
     let path = Path::root().key(b"default");
-    put_section(alloc, units, path, kind, defaults, &mut table)?;
+    put_section(alloc, units, known, path, kind, defaults, &mut table)?;
     let path = Path::root().key(kind.as_bytes());
-    put_section(alloc, units, path, name, own, &mut table)?;
+    put_section(alloc, units, known, path, name, own, &mut table)?;
     Ok(table)
 }
 
@@ -173,11 +179,20 @@ fn terminal_table(
 {
     let name = terminal.name.plain_text();
     let table = with_text(alloc, Ok(Table::new(alloc)), "name", name);
-    with_owner(alloc, units, defaults, "terminal", own, name, table)
+    with_owner(
+        alloc,
+        units,
+        TERMINAL_KEYS,
+        defaults,
+        "terminal",
+        own,
+        name,
+        table,
+    )
 }
 
-// A channel's name as a text.
-fn text_of_channel(name: &Name) -> &str
+/// A channel's name as a text.
+pub fn text_of_channel(name: &Name) -> &str
     requires { IsUtf8 name.now }
     ensures { result.now ≡ name.now }
 {
@@ -210,7 +225,16 @@ fn channel_table(
     let to = terminals[channel.to as usize].name.plain_text();
     let table = with_text(alloc, table, "to", to);
     let key = text_of_channel(&name);
-    with_owner(alloc, units, defaults, "channel", own, key, table)
+    with_owner(
+        alloc,
+        units,
+        CHANNEL_KEYS,
+        defaults,
+        "channel",
+        own,
+        key,
+        table,
+    )
 }
 
 // A table for each terminal.
@@ -418,65 +442,14 @@ fn put_tables(
     Ok(())
 }
 
-// The line file of a study, as a table.
-#[tactic(auto, unfolding(crate::specs::study::LineTables::line_table))]
-fn line_table(alloc: Global, units: Units, top: &Table) -> Result<Table, Stopped<DocumentFault>>
-    requires { 0 < units.tick_us }
-    ensures { Gives table_view result (line_table units (table_view top.now)) }
-{
-    let mut table = line_head(alloc, units, top)?;
-    let terminals = terminals(alloc, top)?;
-    put_tables(alloc, units, &terminals, top, &mut table)?;
-    Ok(table)
-}
-
-// The text of the line file.
-fn text_of_table(alloc: Global, table: &Table) -> Result<Vec<u8>, Memory>
-    requires shallow { members_depth (table_view table.now) ≤ 10 }
-    requires dated { members_have_valid_dates (table_view table.now) ≡ true }
-    ensures { IfOk result (λ v. document_of v.items ≡ Some (table_view table.now)) }
-{
-    match toml::table_to_string(alloc, table) {
-        Ok(text) => Ok(text.into_bytes()),
-        Err(Error::OutOfMemory) => Err(Memory),
-        Err(Error::DateInvalid) => unreachable!(),
-    }
-}
-
-// A place in the line file.
-fn in_line(path: &[u8]) -> Path
-    ensures { result ≡ in_line path.now }
-{
-    Path::root().key(b"line").key(path)
-}
-
-// A fault of the line file as one of the study.
-fn as_study(why: LineFault) -> DocumentFault
-    ensures { result ≡ as_study why }
-{
-    match why {
-        LineFault::NotToml => DocumentFault::NotToml,
-        LineFault::Unknown(path) => DocumentFault::Unknown(in_line(path.bytes())),
-        LineFault::Missing(path) => DocumentFault::Missing(in_line(path.bytes())),
-        LineFault::WrongKind(path) => DocumentFault::WrongKind(in_line(path.bytes())),
-        LineFault::Range(path) => DocumentFault::Range(in_line(path.bytes())),
-        LineFault::BadName(path) => DocumentFault::BadName(in_line(path.bytes())),
-        LineFault::Twice(path) => DocumentFault::Twice(in_line(path.bytes())),
-        LineFault::Channels(from, _) => DocumentFault::Missing(in_line(from.bytes())),
-    }
-}
-
-/// The line of a study: that of its line file.
+/// The line of a study: that of its table, the keys of which stand in the study.
 #[tactic(auto, unfolding(crate::specs::study::LineTables::line_of_study))]
 pub fn line(alloc: Global, units: Units, top: &Table) -> Result<Line, Stopped<DocumentFault>>
     requires { 0 < units.tick_us }
     ensures { Gives line_values result (line_of_study units (table_view top.now)) }
 {
-    let table = line_table(alloc, units, top)?;
-    let text = text_of_table(alloc, &table)?;
-    match read_line(alloc, &text) {
-        Ok(line) => Ok(line),
-        Err(Stopped::Fault(why)) => Err(Stopped::Fault(as_study(why))),
-        Err(Stopped::Memory) => Err(Stopped::Memory),
-    }
+    let mut table = line_head(alloc, units, top)?;
+    let terminals = terminals(alloc, top)?;
+    put_tables(alloc, units, &terminals, top, &mut table)?;
+    placed_line(alloc, &terminals, top, &table)
 }

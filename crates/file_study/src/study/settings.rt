@@ -1,6 +1,6 @@
 //! The settings of a terminal or a channel as tables of a line file, with times in ticks.
 
-ghost use Rattle.std.specs.Prelude.{◌≡◌, ◌<◌, IfOk, option_map};
+ghost use Rattle.std.specs.Prelude.{◌≡◌, ◌<◌, IfOk, map, option_map};
 ghost use Rattle.toml.specs.{Data.no_members, View.view, View.table_view};
 ghost use Rattle.base_memory.specs.Gives.{Becomes, Gives};
 ghost use Rattle.file_study.specs.study.Settings.{time_data, time_in, put_times, setting_in};
@@ -10,7 +10,7 @@ ghost use Rattle.file_study.specs.study.Settings.{put_optional, put_section, end
 use crate::study::ticks::bounds;
 use crate::study::units::Units;
 use base_memory::{Memory, Stopped};
-use file_document::keys::{find_in, optional_table};
+use file_document::keys::{find_in, only_in, optional_table};
 use file_document::{DocumentFault, Path};
 use file_line::put;
 use model_line::Bounds;
@@ -144,11 +144,13 @@ fn put_optional(
     }
 }
 
-/// Puts the settings of the table under a key of a table that may be absent.
+/// Puts the settings of the table under a key of a table that may be absent, which has only these
+/// keys.
 #[tactic(auto, unfolding(crate::specs::study::Settings::put_section))]
 pub fn put_section(
     alloc: Global,
     units: Units,
+    known: &[&str],
     path: Path,
     key: &str,
     outer: Option<&Table>,
@@ -156,9 +158,11 @@ pub fn put_section(
 ) -> Result<(), Stopped<DocumentFault>>
     requires { 0 < units.tick_us }
     ensures { Becomes result (table_view table.new)
-        (put_section units path key.now (option_map (λ t. table_view t.now) outer.entry)
-        (table_view table.old)) }
+        (put_section units (map (λ name. name.now) known.now) path key.now
+        (option_map (λ t. table_view t.now) outer.entry) (table_view table.old)) }
 {
-    let settings = optional_table(path.key(key.as_bytes()), find_in(outer, key))?;
-    put_optional(alloc, units, path.key(key.as_bytes()), settings, table)
+    let path = path.key(key.as_bytes());
+    let settings = optional_table(path, find_in(outer, key))?;
+    only_in(path, known, &[], settings)?;
+    put_optional(alloc, units, path, settings, table)
 }

@@ -1,7 +1,7 @@
 use Rattle.std.proofs.Common.{ℕ, List, Result, Err, refl, subst, sym}
 use Rattle.std.proofs.lemmas.Result.{err_from_is_err_and}
 use Rattle.file_line.specs.{LineFiles.line_of, Lines.LineValues, Lines.line_values}
-use Rattle.file_line.specs.declared.fault.LineFault.{LineFault}
+use Rattle.file_document.specs.declared.fault.DocumentFault.{DocumentFault}
 use Rattle.call_records.specs.Course.{after_line, line_file, with_line}
 use Rattle.call_records.specs.Faults.{line_refusal}
 use Rattle.call_records.specs.{Files.Runs, Read.text_seen, Request.request_of}
@@ -52,6 +52,6 @@ returns g c =
     let run = rw c.in_ok-bytes.ensures.held at c.text_for_line.ensures in
     runs_next held (line_file ask.line.now) (λ b. after_line (request_of ask) b (line_of b)) bytes
     f.1 f.2 r c1 c2 c3 f.0
-    (subst (λ (s : Result LineValues LineFault).
+    (subst (λ (s : Result LineValues DocumentFault).
     Runs held c2 c3 (after_line (request_of ask) bytes s) r) (sym said)
     (runs_made held (line_values line) (with_line ask.work ask.map.now) line refl r c2 c3 run))

@@ -1,5 +1,5 @@
 use Rattle.std.proofs.Common.{ap}
-use Rattle.file_line.specs.DocumentLaws.{document_read, document_none}
+use Rattle.file_document.specs.DocumentLaws.{document_read, document_none}
 use Rattle.file_document.specs.Keys.{opened}
 use Rattle.file_document.proofs.keys.open.Goals as goal
 

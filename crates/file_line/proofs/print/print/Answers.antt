@@ -3,7 +3,7 @@ use Rattle.std.proofs.lemmas.Str.{IsUtf8-string_bytes}
 use Rattle.toml.specs.{Data.members_depth, Data.members_have_valid_dates, View.table_view}
 use Rattle.file_line.specs.Canonical.{canonical_in}
 use Rattle.file_line.proofs.{Dates.canonical_dated, Depths.canonical_depth}
-use Rattle.file_line.specs.DocumentLaws.{document_read}
+use Rattle.file_document.specs.DocumentLaws.{document_read}
 use Rattle.file_line.proofs.print.print.Goals as goal
 
 pub returns-in-Ok-clause-table : goal.returns-in-Ok-clause-table

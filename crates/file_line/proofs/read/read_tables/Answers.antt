@@ -11,10 +11,10 @@ returns-clause-makes c =
     let line2 = c.channels.new.line in
     let some = c.requires.some in
     let head = start_kept (values_of line0) c.requires.no_terminal c.requires.no_interval in
-    let ended = terminals_kept _ _ (values_of line0) (values_of line1) some
+    let ended = terminals_kept _ _ _ (values_of line0) (values_of line1) some
     c.in_ok-terminals.ensures.values head in
     let none = c.in_ok-terminals.ensures.channels ∙ c.requires.no_channel in
-    let whole = channels_kept _ _ (values_of line1) (values_of line2) some
+    let whole = channels_kept _ _ _ (values_of line1) (values_of line2) some
     c.in_ok-channels.ensures.values (between (values_of line1) ended none) in
     let joined =
     rw (c.deref.ensures.value, c.deref-2.ensures.value) at c.in_ok-all_joined.ensures in

@@ -1,33 +1,34 @@
-use Rattle.std.proofs.Common.{◌≡◌, ◌++◌, [], ◌∷◌, length-append, ap, sym, ◌∙◌, arith, codes}
+use Rattle.std.proofs.Common.{map, ◌≡◌, ◌++◌, [], ◌∷◌, length-append, ap, sym, ◌∙◌, arith, codes}
 use Rattle.std.proofs.lemmas.Result.{err_from_is_err_and}
 use Rattle.std.proofs.lemmas.List.{drop_all}
+use Rattle.file_line.specs.Places.{places_of, places_in}
 use Rattle.file_line.specs.{Lines.LineValues, Lines.values_of, Lines.items_at}
 use Rattle.file_line.specs.TerminalTables.{terminal_at}
 use Rattle.base_memory.specs.CheckLaws.{fails_ends}
 use Rattle.file_line.proofs.{ItemSteps.items_more, TerminalLaws.terminal_at-ok}
 use Rattle.file_line.proofs.terminal.terminals.Goals as goal
 
-pub returns-in_err-terminal-clause-values : goal.returns-in_err-terminal-clause-values
-returns-in_err-terminal-clause-values c =
+pub returns-in_err-item-clause-values : goal.returns-in_err-item-clause-values
+returns-in_err-item-clause-values c =
     let p = err_from_is_err_and c.from_residual.result c.from_residual.ensures.1 in
-    let more = items_more (terminal_at c.args.unit) (codes "terminal") c.loop-i.i c.args.values.now (values_of c.loop-i.line)
+    let more = items_more (terminal_at c.args.unit) (places_in (codes "terminal") (map places_of c.args.told.now)) c.loop-i.i c.args.values.now (values_of c.loop-i.line)
     c.index-values-i.result c.loop-i-test.true in
-    let here = rw (← c.index-values-i.is, ← c.item.ensures.place) at more in
+    let here = rw (← c.index-values-i.is) at more in
     rw (p.1, p.2)
-    (fails_ends c.in_err-terminal.field-0.0 _ _ _ c.in_err-terminal.ensures
+    (fails_ends c.in_err-item.field-0.0 _ _ _ c.in_err-item.ensures
     (sym here ∙ c.loop-i.invariant.read))
 
 pub loop-i-preserved : goal.loop-i-preserved
 loop-i-preserved c =
-    let more = items_more (terminal_at c.args.unit) (codes "terminal") c.loop-i.i c.args.values.now (values_of c.loop-i.line)
+    let more = items_more (terminal_at c.args.unit) (places_in (codes "terminal") (map places_of c.args.told.now)) c.loop-i.i c.args.values.now (values_of c.loop-i.line)
     c.index-values-i.result c.loop-i-test.true in
     let here =
-    rw (← c.index-values-i.is, ← c.item.ensures.place, c.in_ok-terminal.ensures) at more in
-    let one = terminal_at-ok _ _ _ (values_of c.loop-i.line) (values_of c.terminal.new.line)
-    c.requires.some c.in_ok-terminal.ensures in
+    rw (← c.index-values-i.is, c.in_ok-item.ensures) at more in
+    let one = terminal_at-ok _ _ _ (values_of c.loop-i.line) (values_of c.item.new.line)
+    c.requires.some c.in_ok-item.ensures in
     let terminals : c.loop-i.line.terminals.items ++ one.terminal ∷ []
-    ≡ c.terminal.new.line.terminals.items = ap (λ (v : LineValues). v.terminals) one.is in
-    let channels : c.loop-i.line.channels.items ≡ c.terminal.new.line.channels.items =
+    ≡ c.item.new.line.terminals.items = ap (λ (v : LineValues). v.terminals) one.is in
+    let channels : c.loop-i.line.channels.items ≡ c.item.new.line.channels.items =
     ap (λ (v : LineValues). v.channels) one.is in
     record {
       read = sym here ∙ c.loop-i.invariant.read;

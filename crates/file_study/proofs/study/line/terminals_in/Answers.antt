@@ -29,7 +29,8 @@ returns-in_err-name-clause-terminals c =
     let here = rw (← c.index-names-i.is, ← c.item.ensures) at more in
     let then = rw (← c.in_ok-text.ensures, c.item.ensures, ← c.item-in-loop-i.ensures) at here in
     rw (told.1, told.2)
-    (fails_ends (stopped.Fault c.in_err-name.field-0.0) _ _ _ (sym c.in_err-name.ensures.is)
+    (fails_ends (stopped.Fault c.in_err-name.field-0.0) _ _ _
+    (sym (rw c.deref.ensures.value at c.in_err-name.ensures.is))
     (then ∙ c.loop-i.invariant.read))
 
 pub loop-i-preserved : goal.loop-i-preserved
@@ -38,7 +39,8 @@ loop-i-preserved c =
     c.loop-i.terminals.items c.loop-i-test.true in
     let here = rw (← c.index-names-i.is, ← c.item.ensures) at more in
     let then = rw (← c.in_ok-text.ensures, c.item.ensures, ← c.item-in-loop-i.ensures) at here in
-    let next = rw (← c.in_ok-name.ensures.is) at then in
+    let said = rw c.deref.ensures.value at c.in_ok-name.ensures.is in
+    let next = rw (← said) at then in
     let new : Terminal = record { name = c.in_ok-name.name; weak = false; guard = false } in
     let plain = list_all-append (λ (t : Terminal). is_plain_name t.name) c.loop-i.terminals.items
     (new ∷ []) in
