@@ -3,7 +3,7 @@ use Rattle.run_signal.specs.Signals.{SignalOf}
 use Rattle.std.proofs.Common.{◌≡◌, ℕ, zero, suc, ◌+◌, ◌-◌, ◌<◌, ◌≤◌, List, length, refl, sym}
 use Rattle.std.proofs.Common.{◌∙◌, ap, subst, arith, ⊎_elim, inl, inr, ◌⊎◌}
 use Rattle.std.proofs.lemmas.Bool.{cases_lt}
-use Rattle.model_history.specs.Rails.{Rails, Ends, both, rails_not, rails_and, rails_or}
+use Rattle.model_history.specs.Rails.{Rails, Ends, rails_not, rails_and, rails_or}
 use Rattle.model_history.specs.Rails.{rails_delayed, rails_timed, rails_sealed, rails_at}
 use Rattle.model_history.specs.{Recorded.first_ticks}
 use Rattle.model_history.specs.{FirstTickLaws.length-first_ticks}
@@ -124,9 +124,9 @@ pub rest_pair : (stretch : ElementsInAStretch) (p : LanePairs) (t b due : ℕ) (
     → kind_pair p.world p.keys p.pairs g t ≡ kind_pair p.world p.keys p.pairs g b
 rest_pair stretch p t b due (Const v) next later same lasts = refl
 rest_pair stretch p t b due (Seen q) next later same lasts =
-    ap both (lasts t (omega arith) (omega arith))
+    lasts t (omega arith) (omega arith)
 rest_pair stretch p t b due (Loss c) next later same lasts =
-    ap both (lasts t (omega arith) (omega arith))
+    lasts t (omega arith) (omega arith)
 rest_pair stretch p t b due (Raw c) next later same lasts =
     let key : ℕ → Rails = p.keys (p.world.from c) in
     ap (λ (e : Ends). rails_delayed key e t) (lasts.still t (omega arith) (omega arith))
