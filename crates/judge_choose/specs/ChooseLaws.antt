@@ -6,6 +6,7 @@ use Rattle.model_history.specs.Rails.{Ends}
 use Rattle.model_logic.specs.Choice.{Choice, IsWithin, declared_box}
 use Rattle.model_logic.specs.{Boxes.IsSameBox, Boxes.box_of, HeldOver.IsHeldOver}
 use Rattle.model_logic.specs.Histories.{History, IsLineHistory, Meets}
+use Rattle.model_fine.specs.Fine.{EachFineChoiceMeets}
 use Rattle.judge_choose.specs.declared.setting.Setting.{Setting}
 use Rattle.judge_choose.specs.Positions.{IsSetting, cover_box, moves, position_box, stretched}
 
@@ -35,6 +36,14 @@ AHeldCoverIsMet =
     → IsHeldOver line script k (cover_box line setting first last)
     → (choice : Choice) (h : History) → IsWithin line choice (cover_box line setting first last)
     → IsLineHistory line script choice h → Meets line script k h
+
+-- and so does every one of fractions of a tick
+abbrev pub AHeldCoverIsMetBetweenTicks : Type 0
+AHeldCoverIsMetBetweenTicks =
+    (line : Line) (script : Script) (k : ℕ) (setting : Setting) (first last : ℕ)
+    → Fits line script → k < terminal_count line → IsSetting line setting
+    → IsHeldOver line script k (cover_box line setting first last)
+    → EachFineChoiceMeets line script k (cover_box line setting first last)
 
 -- at the declared position the line is as declared
 abbrev pub TheDeclaredPositionIsTheDeclaredBox : Type 0

@@ -19,7 +19,7 @@ mod values;
 pub use choose::ranges;
 pub use cover::Cover;
 pub use laws::{
-    a_held_cover_is_met, every_interval_inside_a_cover_is_held,
+    a_held_cover_is_met, a_held_cover_is_met_between_ticks, every_interval_inside_a_cover_is_held,
     the_declared_position_is_the_declared_box,
 };
 pub use range::{Bound, Range};

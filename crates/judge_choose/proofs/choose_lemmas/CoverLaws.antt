@@ -11,7 +11,9 @@ use Rattle.model_logic.specs.Choice.{IsBoxWithin, LeastFromOne, declared_box}
 use Rattle.model_logic.specs.Boxes.{box_of}
 use Rattle.judge_choose.specs.{Known.Known, declared.setting.Setting.Setting}
 use Rattle.judge_choose.specs.Positions.{CanMove, IsSetting, cover_box, cover_ends, moves, stretched}
-use Rattle.judge_choose.specs.ChooseLaws.{AHeldCoverIsMet, AreInside, EveryIntervalInsideACoverIsHeld}
+use Rattle.model_fine.specs.Laws.{WhatIsHeldIsMetBetweenTicks}
+use Rattle.judge_choose.specs.ChooseLaws.{AHeldCoverIsMet, AHeldCoverIsMetBetweenTicks, AreInside}
+use Rattle.judge_choose.specs.ChooseLaws.{EveryIntervalInsideACoverIsHeld}
 use Rattle.judge_choose.specs.ChooseLaws.{TheDeclaredPositionIsTheDeclaredBox}
 
 -- what is said of each number of a list is said of one that the list has
@@ -90,6 +92,11 @@ cover_met known line script k setting first last fit kn are held choice h within
     known.held.meets line script k (cover_box line setting first last)
     (known.lines.deadlines line script fit) (from_one known line setting first last are) kn held
     choice h within history
+
+pub cover_met_between : Known → WhatIsHeldIsMetBetweenTicks → AHeldCoverIsMetBetweenTicks
+cover_met_between known fine line script k setting first last fit kn are held =
+    fine.over line script k (cover_box line setting first last)
+    (known.lines.deadlines line script fit) (from_one known line setting first last are) kn held
 
 -- at the declared position an interval is as declared
 same_ends : (e : Ends) (d : ℕ) → e.least ≡ d → e.least ≤ e.greatest → stretched e d d ≡ e
