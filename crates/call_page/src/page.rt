@@ -1,11 +1,11 @@
 //! The whole page as a value.
 
-ghost use Rattle.std.specs.Prelude.{◌≡◌, ◌<◌, ◌≤◌, ◌+◌, ◌-◌, ◌^◌, IfOk, length, map};
+ghost use Rattle.std.specs.Prelude.{◌≡◌, ◌<◌, ◌≤◌, ◌+◌, ◌-◌, ◌^◌, IfOk, count_by, length, map};
 ghost use Rattle.std.specs.List.{flat_map};
 ghost use Rattle.file_tables.specs.script.SoFar.{AreOnce};
 ghost use Rattle.file_study.specs.sweeps.Studies.{script_names};
 ghost use Rattle.model_line.specs.NamesByNumber.{scheme_initials};
-ghost use Rattle.call_tables.specs.Rows.{AreRows};
+ghost use Rattle.call_tables.specs.{Rows.AreRows, Table.fails_for_every as fails_for_every_of};
 ghost use Rattle.call_answer.specs.Study.{IsAnyStudy};
 ghost use Rattle.call_page.specs.Choices.{IsChoiceOf, IsUndecidedOf, failing_row, open_row};
 ghost use Rattle.call_page.specs.{Facts.AreKnown, Faults.IsFaultOf, Files.AreFiles};
@@ -23,7 +23,7 @@ use crate::said::Asked;
 use crate::undecided::undecided;
 use call_answer::Study;
 use call_facts::{least_margin, times};
-use call_tables::Row;
+use call_tables::{Row, fails_for_every};
 use draw_page::{
     Counts, Digest, FailingChoice, Fault, FileText, LeastMargin, Page, Time, Undecided,
 };

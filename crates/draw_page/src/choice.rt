@@ -58,10 +58,7 @@ fn one_choice(alloc: Global, tick_us: u32, choice: &FailingChoice) -> Result<Htm
     ensures { IfOk result (λ html. html.text.items ≡ choice_html tick_us choice.now) }
 {
     let head = joined(heading(alloc, choice), some_every(alloc, choice.every));
-    let told = joined(
-        head,
-        some_told(alloc, tick_us, choice.told.as_slice()),
-    );
+    let told = joined(head, some_told(alloc, tick_us, choice.told.as_slice()));
     let steps = joined(told, some_steps(alloc, tick_us, choice.steps.as_slice()));
     let all = joined(steps, rest(alloc, choice.least.as_slice()));
     around(

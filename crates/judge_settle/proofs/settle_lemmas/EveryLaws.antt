@@ -20,9 +20,11 @@ broken_same : (kind : Kind) (deadline horizon : ℕ) (u v : ℕ → Rails) → d
     → IsBroken kind deadline horizon v
 broken_same Internal deadline horizon u v early same broken =
     λ t le. subst (λ (x : Rails). IsFalse x.may) (same t (omega arith)) (broken t le)
-broken_same External deadline horizon u v early same broken =
-    (broken.0, broken.1,
-    subst (λ (x : Rails). IsTrue x.must) (same broken.0 broken.1) broken.2)
+broken_same External deadline horizon u v early same broken = (
+  broken.0,
+  broken.1,
+  subst (λ (x : Rails). IsTrue x.must) (same broken.0 broken.1) broken.2,
+)
 
 -- the rule of a line, by its horizon
 pub rule_on : (line : Line) (script : Script) (trip : ℕ → Rails) (horizon : ℕ)
@@ -36,11 +38,12 @@ broken_over_each : LineLaws → (line : Line) (script : Script) (k : ℕ) (v w :
     → rule_of line script (v.trip k) ≡ Broken → rule_of line script (w.trip k) ≡ Broken
 broken_over_each laws line script k v w early there same broken =
     let own = (laws.rule.broken line script (v.trip k)).0 broken in
-    (laws.rule.broken line script (w.trip k)).1
-    (broken_same script.kind script.deadline line.horizon (v.trip k) (w.trip k) early
-    (λ t lt. same.trips k t there lt) own.0,
-    λ held. own.1 (held_same script.kind script.deadline line.horizon (w.trip k) (v.trip k) early
-    (λ t lt. sym (same.trips k t there lt)) held))
+    (laws.rule.broken line script (w.trip k)).1 (
+      broken_same script.kind script.deadline line.horizon (v.trip k) (w.trip k) early
+          (λ t lt. same.trips k t there lt) own.0,
+      λ held. own.1 (held_same script.kind script.deadline line.horizon (w.trip k) (v.trip k) early
+          (λ t lt. sym (same.trips k t there lt)) held),
+    )
 
 module _ (laws : LineLaws) (line : Line) (script : Script) (k : ℕ) (w : PairHistory)
     (early : script.deadline < line.horizon) (there : k < terminal_count line)
