@@ -83,11 +83,12 @@ fn choice_of(
     let least = least_times(alloc, line, timing)?;
     let play = play(alloc, compiled, of, named)?;
     let fault = part_of_script(parts, row.script as usize);
+    let every = fails_for_every(row);
     Ok(FailingChoice {
         fault,
         script,
         terminal,
-        every: fails_for_every(row),
+        every,
         told,
         least,
         steps,

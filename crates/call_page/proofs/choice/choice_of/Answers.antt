@@ -18,6 +18,7 @@ returns c = λ whole is_cut scripts at.
       fault = c.part_of_script-fault.result;
       script = c.in_ok-script.script;
       terminal = c.in_ok-terminal.terminal;
+      every = c.fails_for_every-every.result;
       told = c.in_ok-told.told;
       least = c.in_ok-least.least;
       steps = c.in_ok-steps.steps;
@@ -42,6 +43,7 @@ returns c = λ whole is_cut scripts at.
           (sym (one_at scripts row.script script s at there))
           (c.in_ok-script.ensures.items ∙ c.bytes.ensures.same);
       terminal = c.in_ok-terminal.ensures.items ∙ c.name_of_terminal.ensures;
+      every = c.fails_for_every-every.ensures;
       choice = λ (s : Script) there.
           subst (λ (t : Script). IsChoiceFor line t row.terminal made)
           (sym (one_at scripts row.script script s at there)) chosen;
