@@ -177,13 +177,15 @@ fn y_asked(work: Work<'_>) -> &[u8]
     }
 }
 
+const NO_SETTINGS: &[&str] = &[];
+
 // The settings of a choice.
 fn settings_asked<'a>(work: Work<'a>) -> &'a [&'a str]
     ensures { map (λ word. word.now) result.now ≡ settings_of (asked_of work.entry) }
 {
     match work {
         Work::Choose(ask) => ask.settings,
-        _ => &[],
+        _ => NO_SETTINGS,
     }
 }
 
