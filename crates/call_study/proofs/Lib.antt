@@ -1,4 +1,3 @@
-pub mod Choosing
 pub mod Chosen
 pub mod Closing
 pub mod Reading

@@ -130,7 +130,6 @@ module _ (files : List ℕ → Option (List ℕ)) where
   beside_told (request.explain name within form) b file.Trees are = tt
   beside_told (request.explain name within form) b file.Study are = tt
   beside_told (request.map form x y made) b f are = tt
-  beside_told (request.choose settings room) b f are = tt
   beside_told request.page b f are = tt
 
   -- they are those that the store tells

@@ -3,7 +3,6 @@
 //! the page.
 #![tactic(auto)]
 
-mod choose;
 mod explain;
 mod linted;
 mod map;

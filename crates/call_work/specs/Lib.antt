@@ -1,4 +1,3 @@
-pub mod choose
 pub mod explain
 pub mod load
 pub mod map

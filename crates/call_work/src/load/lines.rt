@@ -8,7 +8,6 @@ ghost use Rattle.call_work.specs.load.Lines.{IsDenialLine, IsRefusalLine, IsTold
 ghost use Rattle.call_work.specs.load.Lines.{missing_line as missing, one_line as line_of};
 ghost use Rattle.call_work.specs.load.Lines.{part_asked as part_of, part_line as part};
 ghost use Rattle.call_work.specs.load.Lines.{further_name as further_of, scripts_name as scripts_of};
-ghost use Rattle.call_work.specs.load.Lines.{settings_asked as settings_of};
 ghost use Rattle.call_work.specs.load.Lines.{several_line as several, several_scripts_line as several_scripts};
 ghost use Rattle.call_work.specs.load.Lines.{timing_asked as timing_of, x_asked as x_of, y_asked as y_of};
 ghost use Rattle.call_work.specs.load.Lines.{unknown_line as unknown, unpicked_line as unpicked};
@@ -16,7 +15,6 @@ ghost use Rattle.call_work.specs.load.Nearest.{near_words as words_of_near, quot
 ghost use Rattle.call_work.specs.load.Request.{asked_of, request_of, source_of};
 ghost use Rattle.call_refused.specs.told.Told.{IsToldAt};
 
-use crate::choose::choose_denial_line;
 use crate::explain::Unpicked;
 use crate::load::denial::Denial;
 use crate::load::fetched::{Fetched, name_at};
@@ -122,7 +120,6 @@ pub fn denial_line(
         Denial::UnknownPart(parts) => part_line(alloc, ask, *parts),
         Denial::Record(why) => unpicked_line(alloc, ask, *why),
         Denial::Map(why) => map_denial_line(alloc, x_asked(ask.work), y_asked(ask.work), why),
-        Denial::Choose(why) => choose_denial_line(alloc, settings_asked(ask.work), why),
     }
 }
 
@@ -174,18 +171,6 @@ fn y_asked(work: Work<'_>) -> &[u8]
     match work {
         Work::Map(axes) => axes.y.unwrap_or(b""),
         _ => b"",
-    }
-}
-
-const NO_SETTINGS: &[&str] = &[];
-
-// The settings of a choice.
-fn settings_asked<'a>(work: Work<'a>) -> &'a [&'a str]
-    ensures { map (λ word. word.now) result.now ≡ settings_of (asked_of work.entry) }
-{
-    match work {
-        Work::Choose(ask) => ask.settings,
-        _ => NO_SETTINGS,
     }
 }
 
