@@ -62,6 +62,7 @@ module _ (r : Request) (Has More : HasBytes) (more : (f : File) (b : List ℕ) �
     denial_wider (denial.UnknownPart parts) line is = is
     denial_wider (denial.Record why) line is = is
     denial_wider (denial.Map why) line is = is
+    denial_wider (denial.Choose why) line is = is
 
     halt_wider : (reason : Reason) (why : Halt) (line : List ℕ) → IsHaltLine r Has reason why line
         → IsHaltLine r More reason why line
