@@ -11,7 +11,7 @@ mod sweeps;
 mod times;
 mod warning;
 
-pub use all::warnings;
+pub use all::{line_warnings, push_shown, warnings};
 pub use sweeps::push_sweeps;
 pub use times::most_moved;
 pub use warning::{SweptTime, Warning};

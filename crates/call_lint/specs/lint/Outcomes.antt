@@ -1,5 +1,5 @@
 -- What lint finds, and its exit status.
-use Rattle.std.specs.Prelude.{◌≡◌, ◌⊎◌, ◌++◌, ℕ, List, [], ◌∷◌, Ok, IsErr, map}
+use Rattle.std.specs.Prelude.{◌≡◌, ◌⊎◌, ◌++◌, ℕ, List, [], ◌∷◌, Ok, IsErr, map, ⊤}
 use Rattle.file_line.specs.{Lines.line_values, LineFiles.line_of}
 use Rattle.file_tables.specs.{script.Values.values_of, script.Scripts.scripts_of}
 use Rattle.file_study.specs.study.Faults.{FaultValues, fault_values}
@@ -11,7 +11,9 @@ use Rattle.file_study.specs.declared.sweeps.study_fault.StudySweepFault.{StudySw
 use Rattle.file_study.specs.declared.times.time.Interval.{Interval}
 use Rattle.model_line.specs.{declared.line.Line.Line, declared.script.Script.Script}
 use Rattle.call_lint.specs.declared.warnings.warning.Warning.{Warning}
+use Rattle.call_refused.specs.told.Told.{IsToldAt}
 use Rattle.call_lint.specs.{warnings.Warnings.warnings, warnings.SweepTests.sweep_warnings}
+use Rattle.call_lint.specs.warnings.Warnings.{line_warnings, shown_warnings}
 use Rattle.call_lint.specs.declared.lint.linted.Outcome.{Outcome}
 use Rattle.call_lint.specs.declared.lint.linted.Outcome.TheVariants.{Clean, Suspicious, Refused}
 
@@ -24,6 +26,31 @@ status_of Refused = 3
 abbrev pub outcome_of : List Warning → Outcome
 outcome_of [] = Clean
 outcome_of (w ∷ ws) = Suspicious
+
+-- the text: nothing of a file in which nothing is found; of one that is refused a line that tells a
+-- place in it; else lines that warn, of which nothing is said here
+abbrev pub IsSaid : List ℕ → List ℕ → Outcome → List ℕ → Type 0
+IsSaid name bytes Clean text = text ≡ []
+IsSaid name bytes Suspicious text = ⊤
+IsSaid name bytes Refused text = IsToldAt name bytes text
+
+-- of a line alone: by its times
+pub record IsTimesLinted (line : Line) (outcome : Outcome) : Type 0 where
+  pub exact : List Interval
+  pub told : outcome ≡ outcome_of (line_warnings line exact)
+
+-- of the bytes of a line file: refused, or read
+abbrev pub IsLineLinted : List ℕ → Outcome → Type 0
+IsLineLinted bytes outcome =
+    (IsErr (line_of bytes) × (outcome ≡ Refused))
+    ⊎ ((own : Line) × (line_of bytes ≡ Ok (line_values own)) × IsTimesLinted own outcome)
+
+-- of the bytes of scripts of a line: refused, or by what they show
+abbrev pub IsShownLinted : Line → List ℕ → Outcome → Type 0
+IsShownLinted line bytes outcome =
+    (IsErr (scripts_of line bytes) × (outcome ≡ Refused))
+    ⊎ ((scripts : List Script) × (scripts_of line bytes ≡ Ok (map values_of scripts))
+    × (outcome ≡ outcome_of (shown_warnings line scripts)))
 
 -- of a line and scripts, and of these warnings besides: by all of them, with the exact ends of the
 -- times as they are told

@@ -1,5 +1,5 @@
 -- What is suspicious in a time.
-use Rattle.std.specs.Prelude.{◌&&◌, ◌==◌, ◌*◌, ◌%◌, ℕ, Bool, not, nat_le, nat_lt}
+use Rattle.std.specs.Prelude.{◌&&◌, ◌||◌, ◌==◌, ◌*◌, ◌%◌, ℕ, Bool, not, nat_le, nat_lt}
 use Rattle.file_study.specs.declared.times.fraction.Fraction.{Fraction}
 use Rattle.file_study.specs.declared.times.time.Interval.{Interval}
 use Rattle.file_study.specs.times.Times.{IsEnd}
@@ -19,9 +19,14 @@ is_below_tick tick_us time = nat_lt 0 time.over && nat_lt time.over (tick_us * t
 abbrev pub is_whole : ℕ → Fraction → Bool
 is_whole tick_us time = time.over % (tick_us * time.under) == 0
 
--- an end of the interval is no whole number of ticks
+-- it is no whole number of ticks, and would be one if they were shorter: a whole number of microseconds
+-- is, and of cycles of 60 Hz few are
+abbrev pub is_off : ℕ → Fraction → Bool
+is_off tick_us time = not (is_whole tick_us time) && is_whole 1 time
+
+-- so is an end of the interval
 abbrev pub is_rounded : ℕ → Interval → Bool
-is_rounded tick_us ends = not (is_whole tick_us ends.least && is_whole tick_us ends.greatest)
+is_rounded tick_us ends = is_off tick_us ends.least || is_off tick_us ends.greatest
 
 -- no time of the interval is over within the horizon
 abbrev pub is_past : ℕ → Ends → Bool

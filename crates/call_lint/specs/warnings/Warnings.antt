@@ -70,8 +70,15 @@ script_warnings line s (Some script) =
 
 -- ---- all
 
-unfoldable pub warnings : Line → List Interval → List Script → List Warning
-warnings line exact scripts =
-    told_below (param_count line) (time_warnings line exact)
-    ++ told_below (terminal_count line) (terminal_warnings line scripts)
+-- of the times of a line
+unfoldable pub line_warnings : Line → List Interval → List Warning
+line_warnings line exact = told_below (param_count line) (time_warnings line exact)
+
+-- of what scripts of the line show
+unfoldable pub shown_warnings : Line → List Script → List Warning
+shown_warnings line scripts =
+    told_below (terminal_count line) (terminal_warnings line scripts)
     ++ told_below (length scripts) (λ s. script_warnings line s (slice_get scripts s))
+
+unfoldable pub warnings : Line → List Interval → List Script → List Warning
+warnings line exact scripts = line_warnings line exact ++ shown_warnings line scripts

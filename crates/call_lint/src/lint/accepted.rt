@@ -1,12 +1,12 @@
 //! Over files that are accepted.
 
-ghost use Rattle.std.specs.Prelude.{IfOk};
-ghost use Rattle.call_lint.specs.lint.Outcomes.{IsReadLinted};
+ghost use Rattle.std.specs.Prelude.{IfOk, List, ℕ};
+ghost use Rattle.call_lint.specs.lint.Outcomes.{IsReadLinted, IsSaid};
 
 use crate::lint::exact::exact_ends;
-use crate::lint::linted::{Linted, outcome_of};
+use crate::lint::linted::Linted;
+use crate::lint::listed::linted_by;
 use crate::lint::sheet::Sheet;
-use crate::lint::warned::warnings_text;
 use crate::warnings::{Warning, most_moved, warnings};
 use model_line::{Line, Memory, Script};
 use std::alloc::Global;
@@ -19,14 +19,14 @@ pub fn lint_accepted(
     scripts: &[Script],
     more: &[Warning],
 ) -> Result<Linted, Memory>
-    ensures { IfOk result (λ linted. IsReadLinted line.now scripts.now more.now linted.outcome) }
+    ensures found { IfOk result (λ linted.
+        IsReadLinted line.now scripts.now more.now linted.outcome) }
+    ensures said { IfOk result (λ linted. (name bytes : List ℕ)
+        → IsSaid name bytes linted.outcome linted.text.items) }
 {
     let exact = exact_ends(alloc, line, sheet)?;
     let mut list = warnings(alloc, line, &exact, scripts)?;
     list.extend_from_slice(more)?;
     let moved = most_moved(line.tick_us, &exact);
-    Ok(Linted {
-        outcome: outcome_of(&list),
-        text: warnings_text(alloc, sheet, line, scripts, moved, &list)?,
-    })
+    linted_by(alloc, sheet, line, scripts, moved, &list)
 }

@@ -4,7 +4,7 @@ ghost use Rattle.std.specs.Prelude.{IfOk};
 ghost use Rattle.call_lint.specs.lint.Outcomes.{IsLinted, IsScriptsLinted};
 
 use crate::lint::accepted::lint_accepted;
-use crate::lint::linted::{Linted, Outcome};
+use crate::lint::linted::Linted;
 use crate::lint::sheet::{Names, Sheet};
 use base_memory::{Memory, Stopped};
 use call_refused::{refused_line, refused_scripts};
@@ -25,10 +25,12 @@ pub fn lint_line(
     match read_line(alloc, line) {
         Ok(own) => lint_scripts(alloc, &own, line, scripts, names),
         Err(Stopped::Memory) => Err(Memory),
-        Err(Stopped::Fault(fault)) => Ok(Linted {
-            outcome: Outcome::Refused,
-            text: refused_line(alloc, names.line, line, &fault)?,
-        }),
+        Err(Stopped::Fault(fault)) => Ok(Linted::refused(refused_line(
+            alloc,
+            names.line,
+            line,
+            &fault,
+        )?)),
     }
 }
 
@@ -51,9 +53,11 @@ fn lint_scripts(
             lint_accepted(alloc, own, sheet, &read, &[])
         }
         Err(Stopped::Memory) => Err(Memory),
-        Err(Stopped::Fault(fault)) => Ok(Linted {
-            outcome: Outcome::Refused,
-            text: refused_scripts(alloc, names.scripts, scripts, &fault)?,
-        }),
+        Err(Stopped::Fault(fault)) => Ok(Linted::refused(refused_scripts(
+            alloc,
+            names.scripts,
+            scripts,
+            &fault,
+        )?)),
     }
 }

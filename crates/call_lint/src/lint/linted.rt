@@ -2,8 +2,10 @@
 
 ghost use Rattle.std.specs.Prelude.{◌≡◌};
 ghost use Rattle.call_lint.specs.lint.Outcomes.{status_of, outcome_of};
+ghost use Rattle.call_lint.specs.declared.lint.linted.Outcome.TheVariants as outcome;
 
 use crate::warnings::Warning;
+use std::alloc::Global;
 
 /// What was found in the files.
 #[derive(Clone, Copy, Drop)]
@@ -34,6 +36,42 @@ impl Outcome {
 pub struct Linted {
     pub outcome: Outcome,
     pub text: Vec<u8>,
+}
+
+impl Linted {
+    ghost use Rattle.std.specs.Prelude.{[]};
+
+    /// Nothing is suspicious.
+    pub fn clean(alloc: Global) -> Self
+        ensures found { result.outcome ≡ outcome.Clean }
+        ensures silent { result.text.items ≡ [] }
+    {
+        Linted {
+            outcome: Outcome::Clean,
+            text: Vec::new(alloc),
+        }
+    }
+
+    /// A file is refused, as this line tells.
+    pub fn refused(line: Vec<u8>) -> Self
+        ensures found { result.outcome ≡ outcome.Refused }
+        ensures told { result.text.items ≡ line.items }
+    {
+        Linted {
+            outcome: Outcome::Refused,
+            text: line,
+        }
+    }
+
+    /// Something is suspicious, as these lines tell.
+    pub fn suspicious(lines: Vec<u8>) -> Self
+        ensures { result.outcome ≡ outcome.Suspicious }
+    {
+        Linted {
+            outcome: Outcome::Suspicious,
+            text: lines,
+        }
+    }
 }
 
 /// What was found in files that are accepted, of which these are the warnings.

@@ -2,10 +2,10 @@
 
 ghost use Rattle.std.specs.Prelude.{IfOk, map};
 ghost use Rattle.file_study.specs.study.Faults.{fault_values};
-ghost use Rattle.call_lint.specs.lint.Outcomes.{IsFaultsLinted, IsStudyLinted};
+ghost use Rattle.call_lint.specs.lint.Outcomes.{IsFaultsLinted, IsSaid, IsStudyLinted};
 
 use crate::lint::accepted::lint_accepted;
-use crate::lint::linted::{Linted, Outcome};
+use crate::lint::linted::Linted;
 use crate::lint::sheet::Sheet;
 use crate::warnings::push_sweeps;
 use base_memory::{Memory, Stopped};
@@ -14,23 +14,34 @@ use file_study::study::{Study, read_study};
 use file_study::sweeps::{Group, scripts_of_study};
 use std::alloc::Global;
 
-/// What is suspicious in a study and the scripts that it comes to, or where and why it is refused.
+/// What is suspicious in a study, as `lint_study_file` finds it.
 pub fn lint_study(alloc: Global, bytes: &[u8], name: &str) -> Result<Linted, Memory>
     ensures { IfOk result (λ linted. IsStudyLinted bytes.now linted.outcome) }
+{
+    lint_study_file(alloc, bytes, name)
+}
+
+/// What is suspicious in a study of this name and the scripts that it comes to, or where and why it
+/// is refused.
+pub fn lint_study_file(alloc: Global, bytes: &[u8], name: &str) -> Result<Linted, Memory>
+    ensures found { IfOk result (λ linted. IsStudyLinted bytes.now linted.outcome) }
+    ensures said { IfOk result (λ linted.
+        IsSaid name.now bytes.now linted.outcome linted.text.items) }
 {
     match read_study(alloc, bytes) {
         Ok(study) => lint_faults(alloc, &study, bytes, name),
         Err(Stopped::Memory) => Err(Memory),
-        Err(Stopped::Fault(fault)) => Ok(Linted {
-            outcome: Outcome::Refused,
-            text: refused_study(alloc, name, bytes, &fault)?,
-        }),
+        Err(Stopped::Fault(fault)) => {
+            Ok(Linted::refused(refused_study(alloc, name, bytes, &fault)?))
+        }
     }
 }
 
 fn lint_faults(alloc: Global, study: &Study, bytes: &[u8], name: &str) -> Result<Linted, Memory>
-    ensures { IfOk result (λ linted. IsFaultsLinted study.now.line
+    ensures found { IfOk result (λ linted. IsFaultsLinted study.now.line
         (map fault_values study.now.faults.items) linted.outcome) }
+    ensures said { IfOk result (λ linted.
+        IsSaid name.now bytes.now linted.outcome linted.text.items) }
 {
     match scripts_of_study(alloc, study) {
         Ok(all) => {
@@ -47,10 +58,9 @@ fn lint_faults(alloc: Global, study: &Study, bytes: &[u8], name: &str) -> Result
             lint_accepted(alloc, &study.line, sheet, &all.scripts, &sweeps)
         }
         Err(Stopped::Memory) => Err(Memory),
-        Err(Stopped::Fault(fault)) => Ok(Linted {
-            outcome: Outcome::Refused,
-            text: refused_sweep(alloc, name, bytes, &fault)?,
-        }),
+        Err(Stopped::Fault(fault)) => {
+            Ok(Linted::refused(refused_sweep(alloc, name, bytes, &fault)?))
+        }
     }
 }
 

@@ -4,7 +4,7 @@ ghost use Rattle.std.specs.Prelude.{◌≡◌, ◌++◌, ◌<◌, OnOk, slice_ge
 ghost use Rattle.std.specs.List.{All};
 ghost use Rattle.file_study.specs.times.Times.{IsEnd};
 ghost use Rattle.model_line.specs.Parameters.{param_count};
-ghost use Rattle.call_lint.specs.warnings.TimeTests.{AreEnds, is_below_tick, is_whole, is_rounded};
+ghost use Rattle.call_lint.specs.warnings.TimeTests.{AreEnds, is_below_tick, is_off, is_whole, is_rounded};
 ghost use Rattle.call_lint.specs.warnings.TimeTests.{is_fixed_delay};
 ghost use Rattle.call_lint.specs.warnings.Listed.{told_below};
 ghost use Rattle.call_lint.specs.warnings.Warnings.{exact_warnings, declared_warnings, time_warnings};
@@ -107,7 +107,16 @@ fn is_rounded(tick_us: u32, ends: Interval) -> bool
     requires ends { AreEnds ends }
     ensures { result ≡ is_rounded tick_us ends }
 {
-    !(is_whole(tick_us, ends.least) && is_whole(tick_us, ends.greatest))
+    is_off(tick_us, ends.least) || is_off(tick_us, ends.greatest)
+}
+
+// Whether a time is no whole number of ticks, and would be one of shorter ones.
+fn is_off(tick_us: u32, time: Fraction) -> bool
+    requires tick { (0 < tick_us) × (tick_us < 1000001) }
+    requires end { IsEnd time }
+    ensures { result ≡ is_off tick_us time }
+{
+    !is_whole(tick_us, time) && is_whole(1, time)
 }
 
 fn is_fixed_delay(line: &Line, i: u32) -> bool
