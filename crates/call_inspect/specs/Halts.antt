@@ -17,15 +17,12 @@ halt_status (halt.Unread i) = 6
 halt_status halt.Sink = 7
 halt_status halt.Memory = 8
 
-abbrev pub done_status : Done → ℕ
-done_status done.Good = 0
-done_status done.SomeNo = 1
-done_status done.SomeUndecided = 2
-done_status done.Rejected = 3
-
 -- the exit status
 abbrev pub status_of : End → ℕ
-status_of (Ok done) = done_status done
+status_of (Ok done.Good) = 0
+status_of (Ok done.SomeNo) = 1
+status_of (Ok done.SomeUndecided) = 2
+status_of (Ok done.Rejected) = 3
 status_of (Err why) = halt_status why
 
 -- the line of a halt, with the reason of the store's latest fault; of out, which has no name here, who

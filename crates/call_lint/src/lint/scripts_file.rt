@@ -24,7 +24,7 @@ pub fn lint_scripts_file(
 ) -> Result<Linted, Memory>
     ensures found { IfOk result (λ linted. IsShownLinted own.now scripts.now linted.outcome) }
     ensures said { IfOk result (λ linted.
-        IsSaid names.scripts.now scripts.now linted.outcome linted.text.items) }
+        IsSaid names.entry.scripts.now scripts.now linted.outcome linted.text.items) }
 {
     match read_scripts(alloc, own, scripts) {
         Ok(read) => {
