@@ -1,0 +1,3 @@
+pub mod Inspecting
+pub mod Fetching
+pub mod Closing
