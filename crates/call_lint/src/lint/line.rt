@@ -26,10 +26,7 @@ pub fn lint_line(
         Ok(own) => lint_scripts(alloc, &own, line, scripts, names),
         Err(Stopped::Memory) => Err(Memory),
         Err(Stopped::Fault(fault)) => Ok(Linted::refused(refused_line(
-            alloc,
-            names.line,
-            line,
-            &fault,
+            alloc, names.line, line, &fault,
         )?)),
     }
 }

@@ -18,11 +18,7 @@ use std::alloc::Global;
 /// `exact` has the ends of each parameter in microseconds, as they are written. Where it has none
 /// for a parameter, nothing is said of what was rounded to ticks.
 #[tactic(auto, unfolding(crate::specs::warnings::Warnings::line_warnings))]
-pub fn line_warnings(
-    alloc: Global,
-    line: &Line,
-    exact: &[Interval],
-) -> Result<Vec<Warning>, Memory>
+pub fn line_warnings(alloc: Global, line: &Line, exact: &[Interval]) -> Result<Vec<Warning>, Memory>
     requires { All AreEnds exact.now }
     ensures { IfOk result (λ v. v.items ≡ of_line line.now exact.now) }
 {
