@@ -115,7 +115,14 @@ fn config_line(
     let at = place_of_line(bytes, before.saturating_add(spot.line))
         .saturating_add(column.saturating_sub(1))
         .min(bytes.len());
-    told(alloc, name, bytes, at, rule_of(why), &[config_words(why).as_bytes()])
+    told(
+        alloc,
+        name,
+        bytes,
+        at,
+        rule_of(why),
+        &[config_words(why).as_bytes()],
+    )
 }
 
 // What is said before the words of a fault.
@@ -140,11 +147,10 @@ pub fn one_file_found(alloc: Global, name: &str, bytes: &[u8]) -> Result<Linted,
         Err(Stopped::Memory) => Err(Memory),
         Err(Stopped::Fault(why)) => {
             let at = place_of_line(bytes, section_line(why));
-            Ok(Linted::refused(told(
-                alloc, name, bytes, at, SECTIONS, &[],
-            )?))
+            Ok(Linted::refused(told(alloc, name, bytes, at, SECTIONS, &[])?))
         }
     }
 }
 
-const SECTIONS: &str = "a record in one file has its configuration and then its data, each behind a line of its own; write --- file type: CFG ---, and --- file type: DAT ASCII --- or --- file type: DAT BINARY: N --- with the number of bytes behind it";
+const SECTIONS: &str =
+    "a record in one file has its configuration and then its data, each behind a line of its own; write --- file type: CFG ---, and --- file type: DAT ASCII --- or --- file type: DAT BINARY: N --- with the number of bytes behind it";
