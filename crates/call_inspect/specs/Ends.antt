@@ -1,5 +1,5 @@
 -- How the call ends but for the line to err, by cases on its result.
-use Rattle.std.specs.Prelude.{◌≡◌, ⊥, ℕ, List, Result, Ok, Err}
+use Rattle.std.specs.Prelude.{◌≡◌, ℕ, List, Result, Ok, Err}
 use Rattle.base_text.specs.store.Store.{SameCounts}
 use Rattle.call_answer.specs.Sinks.{GrewByAll, SinkView, Put, GrewInPart}
 use Rattle.call_answer.specs.{declared.done.Done.Done, declared.said.Said.Said}

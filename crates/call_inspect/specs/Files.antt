@@ -1,5 +1,5 @@
 -- The files of a call, one after another.
-use Rattle.std.specs.Prelude.{◌≡◌, ◌≤◌, ◌<◌, ◌∷◌, ⊥, ⊤, ℕ, List, [], Option, Some, None, IfSome, Result, Ok, Err}
+use Rattle.std.specs.Prelude.{◌≡◌, ◌≤◌, ◌<◌, ◌∷◌, ⊤, ℕ, List, [], Option, Some, None, IfSome, Result, Ok, Err}
 use Rattle.std.specs.Prelude.{Vec, length, slice_get}
 use Rattle.std.specs.declared.alloc.Global.{Global}
 use Rattle.base_text.specs.{store.Counts.Rose, store.Store.SameCounts}

@@ -1,5 +1,5 @@
 -- What files are held against: the line of the only study or line file among them, and its scripts.
-use Rattle.std.specs.Prelude.{◌≡◌, ◌⊎◌, ⊥, ℕ, List, Option, Some, None, Ok, Vec, IsErr, map, slice_get}
+use Rattle.std.specs.Prelude.{◌≡◌, ◌⊎◌, ℕ, List, Option, Some, None, Ok, Vec, IsErr, map, slice_get}
 use Rattle.std.specs.Prelude.{if◌then◌else◌, length, nat_le}
 use Rattle.std.specs.declared.alloc.Global.{Global}
 use Rattle.model_line.specs.{declared.line.Line.Line, declared.script.Script.Script}

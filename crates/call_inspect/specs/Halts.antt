@@ -1,5 +1,5 @@
 -- How a call ends: the exit status, and the line that says it.
-use Rattle.std.specs.Prelude.{◌∷◌, ⊥, ⊤, ℕ, List, [], Result, Ok, Err, get_or}
+use Rattle.std.specs.Prelude.{◌∷◌, ⊤, ℕ, List, [], Result, Ok, Err, get_or}
 use Rattle.std.specs.List.{concat}
 use Rattle.base_files.specs.declared.reason.Reason.{Reason}
 use Rattle.call_refused.specs.told.Unread.{out_of_memory, unread_line}

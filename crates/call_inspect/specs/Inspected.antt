@@ -1,5 +1,5 @@
 -- What is found in files, and what is said of it.
-use Rattle.std.specs.Prelude.{◌≡◌, ⊥, ⊤, ℕ, List, [], ◌∷◌, if◌then◌else◌, nat_lt}
+use Rattle.std.specs.Prelude.{◌≡◌, ⊤, ℕ, List, [], ◌∷◌, if◌then◌else◌, nat_lt}
 use Rattle.std.specs.List.{concat}
 use Rattle.call_answer.specs.declared.done.Done.{Done}
 use Rattle.call_answer.specs.declared.done.Done.TheVariants as done

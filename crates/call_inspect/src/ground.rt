@@ -22,25 +22,28 @@ use std::alloc::Global;
 
 /// The line of the only study or line file among the files.
 #[derive(Drop)]
-pub enum Ground<'a> {
+pub enum Ground<'a, 'b> {
     /// There is none, or there are several.
     Nothing,
     /// The one is refused.
     Refused,
-    Line(LineGround<'a>),
+    Line(LineGround<'a, 'b>),
 }
 
 /// A line, which stands in the file of this name, and its scripts, where they are known.
 #[derive(Drop)]
-pub struct LineGround<'a> {
-    pub name: &'a str,
+pub struct LineGround<'a, 'b> {
+    pub name: &'b str,
     pub bytes: &'a [u8],
     pub line: Line,
     pub scripts: Option<Vec<Script>>,
 }
 
 /// What the files are held against.
-pub fn ground_of<'a>(alloc: Global, files: &'a [GivenFile<'a>]) -> Result<Ground<'a>, Memory>
+pub fn ground_of<'a, 'b>(
+    alloc: Global,
+    files: &'a [GivenFile<'b>],
+) -> Result<Ground<'a, 'b>, Memory>
     ensures { IfOk result (IsGround files.now) }
 {
     match only_line(files) {
@@ -49,11 +52,11 @@ pub fn ground_of<'a>(alloc: Global, files: &'a [GivenFile<'a>]) -> Result<Ground
     }
 }
 
-fn ground_by<'a>(
+fn ground_by<'a, 'b>(
     alloc: Global,
-    files: &'a [GivenFile<'a>],
-    file: &'a GivenFile<'a>,
-) -> Result<Ground<'a>, Memory>
+    files: &'a [GivenFile<'b>],
+    file: &'a GivenFile<'b>,
+) -> Result<Ground<'a, 'b>, Memory>
     ensures { IfOk result (IsGroundBy files.now (content_of file.now) (kind_of_file file.now)) }
 {
     match kind_in(file) {
@@ -63,7 +66,10 @@ fn ground_by<'a>(
 }
 
 // A study is read, and its faults come to scripts.
-fn study_ground<'a>(alloc: Global, file: &'a GivenFile<'a>) -> Result<Ground<'a>, Memory>
+fn study_ground<'a, 'b>(
+    alloc: Global,
+    file: &'a GivenFile<'b>,
+) -> Result<Ground<'a, 'b>, Memory>
     ensures { IfOk result
         (IsGroundOf (IsNoStudy (content_of file.now)) (StudySays (content_of file.now))) }
 {
@@ -74,11 +80,11 @@ fn study_ground<'a>(alloc: Global, file: &'a GivenFile<'a>) -> Result<Ground<'a>
     }
 }
 
-fn swept_ground<'a>(
+fn swept_ground<'a, 'b>(
     alloc: Global,
-    file: &'a GivenFile<'a>,
+    file: &'a GivenFile<'b>,
     study: Study,
-) -> Result<Ground<'a>, Memory>
+) -> Result<Ground<'a, 'b>, Memory>
     requires { study_of (content_of file.now) ≡ Ok (study_values study) }
     ensures { IfOk result
         (IsGroundOf (IsNoStudy (content_of file.now)) (StudySays (content_of file.now))) }
@@ -96,11 +102,11 @@ fn swept_ground<'a>(
 }
 
 // A line file is read, and then the only scripts.
-fn line_ground<'a>(
+fn line_ground<'a, 'b>(
     alloc: Global,
-    files: &'a [GivenFile<'a>],
-    file: &'a GivenFile<'a>,
-) -> Result<Ground<'a>, Memory>
+    files: &[GivenFile<'_>],
+    file: &'a GivenFile<'b>,
+) -> Result<Ground<'a, 'b>, Memory>
     ensures { IfOk result (IsGroundOf (IsErr (line_of (content_of file.now)))
         (LineSays (content_of file.now) files.now)) }
 {
@@ -149,7 +155,7 @@ fn scripts_of(
 }
 
 /// The scripts of the line, where they are known and there are at most 64.
-pub fn few_scripts<'a>(own: &'a LineGround<'_>) -> Option<&'a [Script]>
+pub fn few_scripts<'a>(own: &'a LineGround<'_, '_>) -> Option<&'a [Script]>
     ensures { option_copied result ≡ few (scripts_in own.now.scripts) }
 {
     match &own.scripts {

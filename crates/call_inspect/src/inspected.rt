@@ -22,7 +22,7 @@ pub fn inspected(alloc: Global, files: &[GivenFile<'_>]) -> Result<Said, Memory>
 
 fn inspected_against(
     alloc: Global,
-    ground: &Ground<'_>,
+    ground: &Ground<'_, '_>,
     files: &[GivenFile<'_>],
 ) -> Result<Said, Memory>
     requires { IsGround files.now ground.now }

@@ -22,7 +22,7 @@ use std::alloc::Global;
 /// What is found in a record of the field.
 pub fn record_found(
     alloc: Global,
-    ground: &Ground<'_>,
+    ground: &Ground<'_, '_>,
     name: &str,
     bytes: &[u8],
 ) -> Result<Linted, Memory>
@@ -41,7 +41,7 @@ pub fn record_found(
 
 fn record_of(
     alloc: Global,
-    own: &LineGround<'_>,
+    own: &LineGround<'_, '_>,
     name: &str,
     bytes: &[u8],
 ) -> Result<Linted, Memory>

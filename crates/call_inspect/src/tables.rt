@@ -17,7 +17,7 @@ use std::alloc::Global;
 /// What is found in a file of scripts.
 pub fn scripts_found(
     alloc: Global,
-    ground: &Ground<'_>,
+    ground: &Ground<'_, '_>,
     name: &str,
     bytes: &[u8],
 ) -> Result<Linted, Memory>
@@ -42,7 +42,7 @@ pub fn scripts_found(
 /// What is found in a file of timings.
 pub fn timings_found(
     alloc: Global,
-    ground: &Ground<'_>,
+    ground: &Ground<'_, '_>,
     name: &str,
     bytes: &[u8],
 ) -> Result<Linted, Memory>
@@ -61,7 +61,7 @@ pub fn timings_found(
 
 fn timings_of(
     alloc: Global,
-    own: &LineGround<'_>,
+    own: &LineGround<'_, '_>,
     name: &str,
     bytes: &[u8],
 ) -> Result<Linted, Memory>
@@ -83,7 +83,7 @@ fn timings_of(
 /// What is found in a map of records.
 pub fn map_found(
     alloc: Global,
-    ground: &Ground<'_>,
+    ground: &Ground<'_, '_>,
     name: &str,
     bytes: &[u8],
 ) -> Result<Linted, Memory>
@@ -99,7 +99,7 @@ pub fn map_found(
     }
 }
 
-fn map_of(alloc: Global, own: &LineGround<'_>, name: &str, bytes: &[u8]) -> Result<Linted, Memory>
+fn map_of(alloc: Global, own: &LineGround<'_, '_>, name: &str, bytes: &[u8]) -> Result<Linted, Memory>
     ensures found { IfOk result (λ linted.
         IsMapFound bytes.now own.now.line (scripts_in own.now.scripts) linted.outcome) }
     ensures said { IfOk result (λ linted.

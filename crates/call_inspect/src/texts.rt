@@ -18,7 +18,7 @@ use std::alloc::Global;
 /// What is found in a certificate.
 pub fn certificate_found(
     alloc: Global,
-    ground: &Ground<'_>,
+    ground: &Ground<'_, '_>,
     name: &str,
     bytes: &[u8],
 ) -> Result<Linted, Memory>
@@ -36,7 +36,7 @@ pub fn certificate_found(
 
 fn certificate_of(
     alloc: Global,
-    own: &LineGround<'_>,
+    own: &LineGround<'_, '_>,
     name: &str,
     bytes: &[u8],
 ) -> Result<Linted, Memory>
@@ -63,7 +63,7 @@ fn certificate_of(
 /// What is found in trees of splits.
 pub fn splits_found(
     alloc: Global,
-    ground: &Ground<'_>,
+    ground: &Ground<'_, '_>,
     name: &str,
     bytes: &[u8],
 ) -> Result<Linted, Memory>
@@ -81,7 +81,7 @@ pub fn splits_found(
 
 fn splits_of(
     alloc: Global,
-    own: &LineGround<'_>,
+    own: &LineGround<'_, '_>,
     name: &str,
     bytes: &[u8],
 ) -> Result<Linted, Memory>
@@ -108,7 +108,7 @@ fn splits_of(
 /// What is found in settled trees.
 pub fn trees_found(
     alloc: Global,
-    ground: &Ground<'_>,
+    ground: &Ground<'_, '_>,
     name: &str,
     bytes: &[u8],
 ) -> Result<Linted, Memory>
@@ -124,7 +124,7 @@ pub fn trees_found(
     }
 }
 
-fn trees_of(alloc: Global, own: &LineGround<'_>, name: &str, bytes: &[u8]) -> Result<Linted, Memory>
+fn trees_of(alloc: Global, own: &LineGround<'_, '_>, name: &str, bytes: &[u8]) -> Result<Linted, Memory>
     ensures found { IfOk result (λ linted.
         AreTreesFound bytes.now own.now.line (scripts_in own.now.scripts) linted.outcome) }
     ensures said { IfOk result (λ linted.

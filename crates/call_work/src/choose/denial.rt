@@ -70,7 +70,6 @@ pub fn choose_denial_line(
             b" is a delay, which choose does not take",
             b": move it by study map",
         ),
-        ChooseDenial::Room(why) => line_of(alloc, b"--room", b"", b"", why.words().as_bytes(), b""),
     }
 }
 
