@@ -1,5 +1,5 @@
 -- The files that are fetched, one on.
-use Rattle.std.proofs.Common.{◌≡◌, ◌<◌, ◌+◌, ◌++◌, ⊤, Bor, ℕ, List, [], ◌∷◌, Some, Err, get_or, length, map, refl}
+use Rattle.std.proofs.Common.{◌≡◌, ◌<◌, ◌+◌, ◌++◌, Bor, ℕ, List, [], ◌∷◌, Some, Err, get_or, length, map, refl}
 use Rattle.std.proofs.Common.{◌∙◌, ap, subst, sym, take}
 use Rattle.std.proofs.lemmas.List.{map_more}
 use Rattle.std.proofs.lemmas.Option.{slice_get-get_or, slice_get-map}
@@ -43,13 +43,13 @@ named names i d inside =
     ∙ ap (option_map (λ (name : Bor (List ℕ)). name.now)) (slice_get-get_or names i d inside)
 
 -- the fetch of the file at this place fails, and all those before it are fetched
-pub stops_here : (files : Held) (c0 c1 c2 : List ℕ → ℕ) (names : List (Bor (List ℕ))) (i : ℕ)
+pub stops_here : (files held : Held) (c0 c1 c2 : List ℕ → ℕ) (names : List (Bor (List ℕ))) (i : ℕ)
     (d : Bor (List ℕ)) (why : Halt) → i < length names → SameCounts c0 c1
-    → FetchesOne files c1 c2 (get_or names i d).now i (Err why)
+    → FetchesOne held c1 c2 (get_or names i d).now i (Err why)
     → FetchesAll files c0 c2 (map (λ name. name.now) names) (Err why)
-stops_here files c0 c1 c2 names i d (halt.Unread k) inside same f =
+stops_here files held c0 c1 c2 names i d (halt.Unread k) inside same f =
     let name = (get_or names i d).now in
     subst (λ (n : ℕ). IsCause c0 c2 (map (λ name. name.now) names) n) (sym f.0)
     (name, named names i d inside, subst (λ (n : ℕ). Rose n (c2 name)) (same name) f.1)
-stops_here files c0 c1 c2 names i d halt.Sink inside same f = absurd f
-stops_here files c0 c1 c2 names i d halt.Memory inside same f = same_both c0 c1 c2 same f
+stops_here files held c0 c1 c2 names i d halt.Sink inside same f = absurd f
+stops_here files held c0 c1 c2 names i d halt.Memory inside same f = same_both c0 c1 c2 same f

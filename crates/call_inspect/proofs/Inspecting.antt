@@ -1,6 +1,6 @@
 -- What is found so far, one file on.
-use Rattle.std.proofs.Common.{◌≡◌, ◌<◌, ◌+◌, ◌++◌, ⊤, ℕ, List, [], ◌∷◌, get_or, length, refl, ap, ◌∙◌, subst, sym, take}
-use Rattle.std.proofs.lemmas.List.{take_more}
+use Rattle.std.proofs.Common.{◌≡◌, ◌<◌, ◌≤◌, ◌+◌, ◌++◌, ℕ, List, [], ◌∷◌, get_or, length, refl, ap, ◌∙◌, subst, sym, take}
+use Rattle.std.proofs.lemmas.List.{take_all, take_more}
 use Rattle.std.specs.List.{concat}
 use Rattle.std.proofs.lemmas.List.Folds.{concat-append}
 use Rattle.std.proofs.lemmas.List.{append-nil}
@@ -25,6 +25,10 @@ are_none : (g : Ground) → AreFound g [] [] []
 unfolding AreFound
 are_none g = tt
 
+none_is_clean : Clean ≡ worst_from Clean []
+unfolding worst_from
+none_is_clean = refl
+
 pub none_so_far : (g : Ground) → SoFar g [] Clean []
 none_so_far g = record {
   found = [];
@@ -33,10 +37,6 @@ none_so_far g = record {
   worst_is = none_is_clean;
   text_is = refl;
 }
-  where
-    none_is_clean : Clean ≡ worst_from Clean []
-    unfolding worst_from
-    none_is_clean = refl
 
 one_more : (g : Ground) (fs : List GivenFile) (os : List Outcome) (ts : List (List ℕ))
     (f : GivenFile) (o : Outcome) (t : List ℕ) → AreFound g fs os ts → IsFound g f o
@@ -80,14 +80,17 @@ one_file_on g fs i f worst o next text t more inside at so is said next_is more_
     (rw (next_is, more_is) (one_file_more g (take i fs) f worst o text t so is said))
 
 -- what is found in all files
-pub all_found : (g : Ground) (fs : List GivenFile) (worst : Outcome) (text : List ℕ) (status : Done)
-    → IsGround fs g → SoFar g fs worst text → status ≡ done_by worst → IsInspected fs status text
-all_found g fs worst text status against so status_is = record {
-  ground = g;
-  against = against;
-  found = so.found;
-  texts = so.texts;
-  are = so.are;
-  status_is = status_is ∙ ap done_by so.worst_is;
-  text_is = so.text_is;
-}
+pub all_found : (g : Ground) (fs : List GivenFile) (i : ℕ) (worst : Outcome) (text : List ℕ)
+    (status : Done) → length fs ≤ i → IsGround fs g → SoFar g (take i fs) worst text
+    → status ≡ done_by worst → IsInspected fs status text
+all_found g fs i worst text status past against so status_is =
+    let all = subst (λ (l : List GivenFile). SoFar g l worst text) (take_all i fs past) so in
+    record {
+      ground = g;
+      against = against;
+      found = all.found;
+      texts = all.texts;
+      are = all.are;
+      status_is = status_is ∙ ap done_by all.worst_is;
+      text_is = all.text_is;
+    }

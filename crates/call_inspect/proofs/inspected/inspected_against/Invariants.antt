@@ -4,4 +4,4 @@ use Rattle.call_inspect.proofs.inspected.inspected_against.Given as goal
 
 abbrev pub invariant-loop-file : goal.invariant-loop-file
 invariant-loop-file l =
-    SoFar l.ground.now (take l.file-index l.files) l.worst l.text.items
+    SoFar l.ground (take l.file-index l.files) l.worst l.text.items
