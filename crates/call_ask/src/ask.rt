@@ -1,5 +1,6 @@
 //! What a study is asked for.
 
+use crate::choose::ChooseAsk;
 use crate::explain::ExplainForm;
 use crate::map::MapAsk;
 use draw_shapes::Rows;
@@ -60,6 +61,8 @@ pub enum Work<'a> {
     },
     /// Over which numbers of one setting or two each obligation is held.
     Map(MapAsk<'a>),
+    /// Which values of settings hold, where they stand, and what to write.
+    Choose(ChooseAsk<'a>),
     /// The page of the whole study, with at most so many analyses for each obligation.
     Page {
         analyses: u32,

@@ -3,11 +3,13 @@
 #![tactic(auto)]
 
 mod ask;
+mod choose;
 mod explain;
 mod map;
 mod records;
 
 pub use ask::{Ask, Form, Source, Table, Work};
+pub use choose::ChooseAsk;
 pub use explain::ExplainForm;
 pub use map::{MapAsk, MapForm};
 pub use records::{RecordsAsk, RecordsWork};

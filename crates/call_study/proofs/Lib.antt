@@ -1,3 +1,4 @@
+pub mod Choosing
 pub mod Chosen
 pub mod Closing
 pub mod Reading

@@ -62,6 +62,7 @@ module _ (r : Request) (Has More : HasBytes) (more : (f : File) (b : List ℕ) �
     denial_wider (denial.UnknownPart parts) line is = is
     denial_wider (denial.Record why) line is = is
     denial_wider (denial.Map why) line is = is
+    denial_wider (denial.Choose why) line is = is
 
     halt_wider : (reason : Reason) (why : Halt) (line : List ℕ) → IsHaltLine r Has reason why line
         → IsHaltLine r More reason why line
@@ -130,6 +131,7 @@ module _ (files : List ℕ → Option (List ℕ)) where
   beside_told (request.explain name within form) b file.Trees are = tt
   beside_told (request.explain name within form) b file.Study are = tt
   beside_told (request.map form x y made) b f are = tt
+  beside_told (request.choose settings room) b f are = tt
   beside_told request.page b f are = tt
 
   -- they are those that the store tells

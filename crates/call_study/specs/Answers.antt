@@ -9,6 +9,7 @@ use Rattle.file_tables.specs.script.ReadBack.{SaysScripts}
 use Rattle.call_answer.specs.Answers as commands
 use Rattle.call_answer.specs.Answers.{prints}
 use Rattle.call_work.specs.explain.Explain.{explain_answer}
+use Rattle.call_choose.specs.Answers.{choose_answer}
 use Rattle.call_work.specs.map.Answers.{map_answer}
 use Rattle.call_page.specs.Pages.{page_answer}
 use Rattle.call_tables.specs.{Margins.margins_answer, Recheck.recheck_answer}
@@ -63,6 +64,7 @@ answer_of (reading.explain within form which line scripts record_bytes) =
     explain_answer line scripts record_bytes which within form
 answer_of (reading.map form x y made both of) =
     map_answer of.line of.scripts form x y made both
+answer_of (reading.choose rows room of) = choose_answer of.line of.scripts rows room
 answer_of (reading.page of) = page_answer of.line of.scripts of.groups of.title
 
 -- it is done

@@ -3,6 +3,7 @@
 //! the page.
 #![tactic(auto)]
 
+mod choose;
 mod explain;
 mod linted;
 mod map;

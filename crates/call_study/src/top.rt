@@ -7,6 +7,7 @@ ghost use Rattle.call_work.specs.{load.Halts.IsDone, load.Halts.IsEarly, load.Fe
 ghost use Rattle.call_work.specs.load.Fetched.{bytes_at};
 ghost use Rattle.call_work.specs.load.Request.{asked_of, files_beside, request_of};
 
+use crate::choose::choose;
 use crate::explain::{Explaining, explain};
 use crate::linted::lint_said;
 use crate::map::map;
@@ -133,6 +134,7 @@ fn said_over(alloc: Global, ask: &Ask<'_>, fetched: &Fetched) -> Result<Said, Ha
             explain(alloc, how, bytes, further, script)
         }
         Work::Map(axes) => map(alloc, bytes, &axes),
+        Work::Choose(settings) => choose(alloc, bytes, &settings),
         Work::Page { analyses, made } => page(alloc, bytes, analyses, made),
     }
 }

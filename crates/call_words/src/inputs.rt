@@ -50,6 +50,7 @@ fn further_of<'a>(work: Work<'a>) -> Option<Input<'a>> {
         | Work::Timings { .. }
         | Work::Lint
         | Work::Map(_)
+        | Work::Choose(_)
         | Work::Page { .. } => None,
     }
 }

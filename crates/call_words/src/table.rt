@@ -9,7 +9,7 @@ const VERSION: &str = "0.30.0";
 
 // What the help says behind the commands.
 const AFTER: &str = "Answer:    verdicts, lint, settle, recheck, explain
-Choose:    margins, races, map
+Choose:    choose, margins, races, map
 Show:      page, bands, run, vcd
 Exchange:  lines, scripts, comtrade
 
@@ -99,6 +99,14 @@ const AXES: Files = Files {
     most: 4,
     names: &["STUDY | LINE SCRIPTS", "P=FROM..TO:STEP"],
     help: "A study file, or a line file and a file of fault scripts; then one axis or two",
+};
+
+// A study, and settings.
+const SETTINGS: Files = Files {
+    least: 1,
+    most: 64,
+    names: &["STUDY", "SETTING"],
+    help: "A study file; then settings, as west.z2.pickup or *.z2.pickup: all but delays without them",
 };
 
 // A line and a map of the channels of records.
@@ -203,6 +211,14 @@ const CELLS: Opt = Opt {
     help: "The cells as records (CSV) in place of a drawing",
 };
 
+const ROOM: Opt = Opt {
+    name: "room",
+    value: Some("T"),
+    required: false,
+    beside: Beside::Any,
+    help: "How many ticks are to be left to each bound",
+};
+
 const EXPLAIN: &[Opt] = &[
     Opt {
         name: "within",
@@ -275,6 +291,13 @@ const ANSWERS: &[Word] = &[
 
 // Those to choose by.
 const CHOICES: &[Word] = &[
+    Word {
+        name: "choose",
+        about: "Which values of each setting hold, where it stands, and what to write (CSV)",
+        files: SETTINGS,
+        options: &[ROOM],
+        in_three: false,
+    },
     Word {
         name: "margins",
         about: "How far each end of each interval can move with all held that is held today (CSV)",

@@ -6,7 +6,8 @@ use crate::build::MADE;
 use crate::fault::WordFault;
 use base_text::store::number;
 use call_ask::{
-    Ask, ExplainForm, Form, MapAsk, MapForm, RecordsAsk, RecordsWork, Source, Table, Work,
+    Ask, ChooseAsk, ExplainForm, Form, MapAsk, MapForm, RecordsAsk, RecordsWork, Source, Table,
+    Work,
 };
 use clap::ArgMatches;
 use draw_shapes::Rows;
@@ -60,10 +61,12 @@ const NO_AXIS: &str = "an axis has to stand behind it, as P=FROM..TO:STEP";
 
 const SURPLUS_AXIS: &str = "one axis too many: a map has one or two";
 
+const SETTING: &str = "a setting has to stand behind the study, as west.z2.pickup or *.z2.pickup";
+
 const NAME: &str = "what the names of three files begin with, without quotes and backslashes";
 
 /// What the words say, or which of them is wrong.
-pub fn words_of<'a>(matches: &ArgMatches<'a>) -> Result<Words<'a>, WordFault<'a>> {
+pub fn words_of<'a>(matches: &'a ArgMatches<'a>) -> Result<Words<'a>, WordFault<'a>> {
     let Some((name, own)) = matches.subcommand() else {
         return Err(nothing("study"));
     };
@@ -162,7 +165,7 @@ fn is_quotable(name: &str) -> bool {
 }
 
 // Work over a line and its scripts.
-fn study_of<'a>(name: &'a str, own: &ArgMatches<'a>) -> Result<Call<'a>, WordFault<'a>> {
+fn study_of<'a>(name: &'a str, own: &'a ArgMatches<'a>) -> Result<Call<'a>, WordFault<'a>> {
     let files = files_of(own, name)?;
     let work = work_of(name, own, files)?;
     Ok(Call::Study(ask_of(work, own, files)?))
@@ -171,8 +174,8 @@ fn study_of<'a>(name: &'a str, own: &ArgMatches<'a>) -> Result<Call<'a>, WordFau
 // Which work. The last file is the further one, where there is one.
 fn work_of<'a>(
     name: &'a str,
-    own: &ArgMatches<'a>,
-    files: &[&'a str],
+    own: &'a ArgMatches<'a>,
+    files: &'a [&'a str],
 ) -> Result<Work<'a>, WordFault<'a>> {
     let Some(last) = files.last() else {
         return Err(nothing(name));
@@ -190,6 +193,7 @@ fn work_of<'a>(
         "verdicts" => Work::Table(verdicts_of(own, analyses)),
         "explain" => explained(own, *last, analyses)?,
         "map" => map_of(own, *last, files)?,
+        "choose" => choose_of(own, files)?,
         "page" => Work::Page {
             analyses,
             made: MADE,
@@ -230,6 +234,7 @@ fn source_of<'a>(work: Work<'_>, files: &[&'a str]) -> Result<Source<'a>, WordFa
             files.len().saturating_sub(1)
         }
         Work::Map(_) => before_axes(files),
+        Work::Choose(_) => files.len().min(1),
         Work::Bands { .. }
         | Work::Table(_)
         | Work::Timings { .. }
@@ -315,6 +320,32 @@ fn map_of<'a>(
         },
         made: MADE,
     }))
+}
+
+// Choices of the settings behind the study.
+fn choose_of<'a>(own: &'a ArgMatches<'a>, files: &'a [&'a str]) -> Result<Work<'a>, WordFault<'a>> {
+    let settings = &files[files.len().min(1)..];
+    for word in settings {
+        let bytes = word.as_bytes();
+        if !bytes.contains(&b'.') || bytes.contains(&b'=') {
+            return Err(WordFault::of(*word, SETTING));
+        }
+    }
+    Ok(Work::Choose(ChooseAsk {
+        settings,
+        room: room_of(own)?,
+    }))
+}
+
+// The room that is asked for, if it is.
+fn room_of<'a>(own: &ArgMatches<'a>) -> Result<Option<u32>, WordFault<'a>> {
+    let Some(word) = own.get_str("room") else {
+        return Ok(None);
+    };
+    match number(word.as_bytes()) {
+        Some(ticks) => Ok(Some(ticks)),
+        None => Err(WordFault::behind("--room", word, TICKS)),
+    }
 }
 
 // Settled obligations: as a table, as trees, or as the timings that fail.

@@ -1,3 +1,4 @@
+pub mod choose
 pub mod explain
 pub mod load
 pub mod map

@@ -3,8 +3,8 @@
 
 mod axes;
 mod denial;
-mod list;
 mod said;
 
+pub(crate) use denial::{line_of, unknown_line};
 pub use denial::{MapDenial, Side, map_denial_line};
 pub use said::map_of;

@@ -14,6 +14,7 @@ use Rattle.call_files.specs.declared.refusal.Refusal.TheVariants as refusal
 use Rattle.call_files.specs.declared.stop.File.{File}
 use Rattle.call_files.specs.declared.stop.File.TheVariants as file
 use Rattle.call_files.specs.declared.stop.Stop.TheVariants as stop
+use Rattle.call_work.specs.choose.Denials.{choose_denial_pieces}
 use Rattle.call_work.specs.map.Denials.{map_denial_pieces}
 use Rattle.call_work.specs.declared.explain.unpicked.Unpicked.{Unpicked}
 use Rattle.call_work.specs.declared.explain.unpicked.Unpicked.TheVariants as unpicked
@@ -58,6 +59,11 @@ x_asked asked = []
 abbrev pub y_asked : Asked → List ℕ
 y_asked (request.map form x y made) = unwrap_or y []
 y_asked asked = []
+
+-- the settings of a choice
+abbrev pub settings_asked : Asked → List (List ℕ)
+settings_asked (request.choose settings room) = settings
+settings_asked asked = []
 
 abbrev pub part_in : Table → ℕ
 part_in (tables.Part n) = n
@@ -138,6 +144,8 @@ IsDenialLine r Has (denial.Record why) line =
     line ≡ unpicked_line (further_name r.asked) r.script why
 IsDenialLine r Has (denial.Map why) line =
     line ≡ one_line (map_denial_pieces (x_asked r.asked) (y_asked r.asked) why)
+IsDenialLine r Has (denial.Choose why) line =
+    line ≡ one_line (choose_denial_pieces (settings_asked r.asked) why)
 
 -- the line of a halt; of out, which has no name here, who owns it tells why it takes no more
 abbrev pub IsHaltLine : Request → HasBytes → Reason → Halt → List ℕ → Type 0

@@ -13,6 +13,9 @@ use Rattle.call_work.specs.declared.explain.{fault.ExplainFault.ExplainFault, un
 use Rattle.call_work.specs.declared.explain.fault.ExplainFault.TheVariants as explain_fault
 use Rattle.judge_match.specs.matching.Waves.{SeenValues, records_said}
 use Rattle.call_ask.specs.declared.map.MapForm.{MapForm}
+use Rattle.call_choose.specs.Rows.{Row}
+use Rattle.call_work.specs.choose.Asked.{chosen_rows}
+use Rattle.call_work.specs.declared.choose.denial.ChooseDenial.{ChooseDenial}
 use Rattle.call_work.specs.map.Asked.{Both, asked_of}
 use Rattle.call_work.specs.declared.map.denial.MapDenial.{MapDenial}
 use Rattle.call_files.specs.Said.{of_record, of_timings}
@@ -40,6 +43,7 @@ pub data Wanted : Type 0 where
   lint : Source → Wanted
   explain : ℕ → ExplainForm → Option ℕ → Line → List Script → List ℕ → Wanted
   map : MapForm → List ℕ → Option (List ℕ) → List ℕ → Both → Studied → Wanted
+  choose : List Row → Option ℕ → Studied → Wanted
   page : Studied → Wanted
 
 -- what holds of what is wanted, or of why it can't be done
@@ -185,6 +189,21 @@ map_of form x y made given halted holds =
     given halted (λ studied. unless_denied (at_most 4096 (length studied.scripts)) halted
     (of_axes (asked_of studied.line x y) halted (λ both. holds (map form x y made both studied))))
 
+-- why nothing is chosen
+abbrev pub choose_halt : ChooseDenial → Halt
+choose_halt why = halt.Denied (denial.Choose why)
+
+abbrev pub of_rows : Result (List Row) ChooseDenial → (Halt → Type 0) → (List Row → Type 0) → Type 0
+of_rows (Ok rows) halted holds = holds rows
+of_rows (Err why) halted holds = halted (choose_halt why)
+
+-- choices of settings, by their words
+abbrev pub choose_of : List (List ℕ) → Option ℕ → Given → Reading
+choose_of settings room given halted holds =
+    given halted (λ studied. unless_denied (at_most 4096 (length studied.scripts)) halted
+    (of_rows (chosen_rows studied.line settings) halted
+    (λ rows. holds (choose rows room studied))))
+
 -- the page
 abbrev pub page_of : Given → Reading
 page_of given halted holds =
@@ -209,6 +228,7 @@ over_source from script request.lint [] = λ halted holds. holds (lint from)
 over_source from script (request.explain _ within form) (record_bytes ∷ []) =
     explain_of within form (given from) record_bytes script
 over_source from script (request.map form x y made) [] = map_of form x y made (given from)
+over_source from script (request.choose settings room) [] = choose_of settings room (given from)
 over_source from script request.page [] = page_of (given from)
 over_source from script asked bytes = λ halted holds. ⊥
 

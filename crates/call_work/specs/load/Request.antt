@@ -1,6 +1,7 @@
 -- What is asked for, by the names of files and of what is in them.
 use Rattle.std.specs.Prelude.{◌++◌, ℕ, List, [], ◌∷◌, Option}
 use Rattle.std.specs.Option.{option_copied}
+use Rattle.std.specs.Prelude as list
 use Rattle.call_files.specs.Files.{NamedFile, named}
 use Rattle.call_files.specs.declared.stop.File.TheVariants as file
 use Rattle.draw_shapes.specs.declared.rows.Rows.{Rows}
@@ -18,7 +19,7 @@ pub data Source : Type 0 where
 
 -- a picture of every choice of delays, or of a play of a timing of a further file; a table; timings
 -- that fail; whether the trees of a further file are accepted; what is suspicious in the files; what
--- explains a record of a further file; a map, by the words of one axis or two; or the page. What a
+-- explains a record of a further file; a map, by the words of one axis or two; choices of settings, by their words; or the page. What a
 -- picture and a map say made them stands behind the rest
 pub data Asked : Type 0 where
   bands : Rows → List ℕ → Asked
@@ -29,6 +30,7 @@ pub data Asked : Type 0 where
   lint : Asked
   explain : List ℕ → ℕ → ExplainForm → Asked
   map : MapForm → List ℕ → Option (List ℕ) → List ℕ → Asked
+  choose : List (List ℕ) → Option ℕ → Asked
   page : Asked
 
 -- a picture, timings that fail and a record are of one script
@@ -50,6 +52,7 @@ files_beside (recheck trees) = named file.Trees trees ∷ []
 files_beside lint = []
 files_beside (explain name within form) = named file.Record name ∷ []
 files_beside (map form x y made) = []
+files_beside (choose settings room) = []
 files_beside page = []
 
 -- the files of a request in the order of its words
@@ -70,6 +73,7 @@ asked_of (work.Recheck trees) = recheck trees.now
 asked_of work.Lint = lint
 asked_of (work.Explain name within analyses form) = explain name.now within form
 asked_of (work.Map ask) = map ask.form ask.x.now (option_copied ask.y) ask.made.now
+asked_of (work.Choose ask) = choose (list.map (λ word. word.now) ask.settings.now) ask.room
 asked_of (work.Page analyses made) = page
 
 abbrev pub request_of : Ask → Request

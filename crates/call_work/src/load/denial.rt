@@ -2,6 +2,7 @@
 
 ghost use Rattle.std.specs.Prelude.{◌≡◌};
 
+use crate::choose::ChooseDenial;
 use crate::explain::Unpicked;
 use crate::map::MapDenial;
 use file_document::DocumentFault;
@@ -29,12 +30,14 @@ pub enum Denial {
     Record(Unpicked),
     /// There is no such map.
     Map(MapDenial),
+    /// Nothing is chosen.
+    Choose(ChooseDenial),
 }
 
 impl Denial {
     ghost use Rattle.call_work.specs.load.Denials.{denial_status};
 
-    /// 4 where the words of a map ask for none, 5 where a file is refused, 9 where a name is unknown.
+    /// 4 where the words of a map or a choice ask for none, 5 where a file is refused, 9 where a name is unknown.
     pub fn status(&self) -> u8
         ensures { result ≡ denial_status self.now }
     {
@@ -46,6 +49,7 @@ impl Denial {
             | Denial::UnknownPart(_)
             | Denial::Record(_) => 9,
             Denial::Map(why) => why.status(),
+            Denial::Choose(why) => why.status(),
         }
     }
 }

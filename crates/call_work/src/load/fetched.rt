@@ -91,6 +91,7 @@ fn fetch_further<S: Store>(alloc: Global, work: Work<'_>, store: &mut S) -> Resu
         | Work::Timings { .. }
         | Work::Lint
         | Work::Map(_)
+        | Work::Choose(_)
         | Work::Page { .. } => Ok(Vec::new(alloc)),
     }
 }

@@ -5,6 +5,7 @@ ghost use Rattle.call_files.specs.declared.stop.Stop.TheVariants.{Memory, Sink};
 ghost use Rattle.call_work.specs.load.Halts.{status_of as end_status};
 ghost use Rattle.call_work.specs.declared.load.halt.Halt.TheVariants as halt_of;
 
+use crate::choose::ChooseDenial;
 use crate::explain::ExplainFault;
 use crate::load::denial::Denial;
 use crate::map::MapDenial;
@@ -140,6 +141,20 @@ impl From<Stopped<MapDenial>> for Halt {
     fn from(why: Stopped<MapDenial>) -> Self {
         match why {
             Stopped::Fault(denial) => Halt::Denied(Denial::Map(denial)),
+            Stopped::Memory => Halt::Stopped(Stop::Memory),
+        }
+    }
+}
+
+impl From<Stopped<ChooseDenial>> for Halt {
+    ghost use Rattle.call_work.specs.load.Loaded.{halt_by};
+    ghost use Rattle.call_work.specs.load.Reading.{choose_halt};
+
+    ghost from_gives = { λ why halt. halt ≡ halt_by choose_halt why };
+
+    fn from(why: Stopped<ChooseDenial>) -> Self {
+        match why {
+            Stopped::Fault(denial) => Halt::Denied(Denial::Choose(denial)),
             Stopped::Memory => Halt::Stopped(Stop::Memory),
         }
     }

@@ -3,11 +3,13 @@
 ghost use Rattle.std.specs.Prelude.{[], ◌≡◌, ◌++◌, ◌∷◌, IfOk, OnOk, codes, decimal, map};
 ghost use Rattle.std.specs.Option.{option_copied};
 ghost use Rattle.call_files.specs.Files.{limit_of as limit};
+ghost use Rattle.call_work.specs.choose.Denials.{choose_denial_pieces};
 ghost use Rattle.call_work.specs.load.Fetched.{bytes_at as bytes_in};
 ghost use Rattle.call_work.specs.load.Lines.{IsDenialLine, IsRefusalLine, IsToldIn, many_line as many};
 ghost use Rattle.call_work.specs.load.Lines.{missing_line as missing, one_line as line_of};
 ghost use Rattle.call_work.specs.load.Lines.{part_asked as part_of, part_line as part};
 ghost use Rattle.call_work.specs.load.Lines.{further_name as further_of, scripts_name as scripts_of};
+ghost use Rattle.call_work.specs.load.Lines.{settings_asked as settings_of};
 ghost use Rattle.call_work.specs.load.Lines.{several_line as several, several_scripts_line as several_scripts};
 ghost use Rattle.call_work.specs.load.Lines.{timing_asked as timing_of, x_asked as x_of, y_asked as y_of};
 ghost use Rattle.call_work.specs.load.Lines.{unknown_line as unknown, unpicked_line as unpicked};
@@ -15,6 +17,7 @@ ghost use Rattle.call_work.specs.load.Nearest.{near_words as words_of_near, quot
 ghost use Rattle.call_work.specs.load.Request.{asked_of, request_of, source_of};
 ghost use Rattle.call_refused.specs.told.Told.{IsToldAt};
 
+use crate::choose::{ChooseDenial, choose_denial_line};
 use crate::explain::Unpicked;
 use crate::load::denial::Denial;
 use crate::load::fetched::{Fetched, name_at};
@@ -120,6 +123,7 @@ pub fn denial_line(
         Denial::UnknownPart(parts) => part_line(alloc, ask, *parts),
         Denial::Record(why) => unpicked_line(alloc, ask, *why),
         Denial::Map(why) => map_denial_line(alloc, x_asked(ask.work), y_asked(ask.work), why),
+        Denial::Choose(why) => choice_line(alloc, ask.work, why),
     }
 }
 
@@ -171,6 +175,17 @@ fn y_asked(work: Work<'_>) -> &[u8]
     match work {
         Work::Map(axes) => axes.y.unwrap_or(b""),
         _ => b"",
+    }
+}
+
+// Why a choice is denied, of the settings that are asked for.
+fn choice_line(alloc: Global, work: Work<'_>, why: &ChooseDenial) -> Result<Vec<u8>, Memory>
+    ensures { IfOk result (λ text. text.items
+        ≡ line_of (choose_denial_pieces (settings_of (asked_of work.entry)) why.now)) }
+{
+    match work {
+        Work::Choose(ask) => choose_denial_line(alloc, ask.settings, why),
+        _ => choose_denial_line(alloc, &[], why),
     }
 }
 

@@ -16,8 +16,8 @@ ghost use Rattle.base_memory.specs.declared.stopped.Stopped.TheVariants.{Fault};
 
 use crate::load::nearest_parameter;
 use crate::map::denial::{MapDenial, Side};
-use crate::map::list::name_in_list;
 use base_memory::{Memory, Stopped};
+use call_choose::name_in_list;
 use file_study::times::{AxisFault, names_of, params_of, read_steps};
 use judge_margins::map::{Axes, Axis, map_fault};
 use model_line::Line;

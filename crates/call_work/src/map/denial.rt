@@ -10,8 +10,8 @@ ghost use Rattle.base_memory.specs.declared.stopped.Stopped.TheVariants as stopp
 ghost use Rattle.file_study.specs.times.AxisWords.{what_words};
 
 use crate::load::{near_words, one_line, quoted_name};
-use crate::map::list::name_in_list;
 use base_memory::{Memory, Stopped};
+use call_choose::name_in_list;
 use file_study::times::{AxisFault, names_of};
 use itoa::Buffer;
 use judge_margins::map::MapFault;
@@ -124,8 +124,8 @@ fn words_line(alloc: Global, words: &[u8], fault: AxisFault) -> Result<Vec<u8>, 
     }
 }
 
-// The line of a name that stands for no parameter, with the nearest that does.
-fn unknown_line(
+/// The line of a name that stands for no parameter, with the nearest that does.
+pub(crate) fn unknown_line(
     alloc: Global,
     words: &[u8],
     number: usize,
@@ -200,8 +200,8 @@ fn name_line(alloc: Global, name: &[u8], what: &[u8], write: &[u8]) -> Result<Ve
     line_of(alloc, name, b"", b"", what, write)
 }
 
-// The line: the words or the parameter, where in the words, what is wrong, and what to write.
-fn line_of<'a>(
+/// The line: the words or the parameter, where in the words, what is wrong, and what to write.
+pub(crate) fn line_of<'a>(
     alloc: Global,
     words: &'a [u8],
     place: &'a [u8],
