@@ -19,4 +19,7 @@ mod told;
 mod top;
 
 pub use halt::{File, Halt, status_of};
+pub use record_refusal::{config_spot, config_words};
+pub use section_refusal::section_line;
+pub use told::Spot;
 pub use top::records;

@@ -30,8 +30,8 @@ fn at(line: usize, field: usize) -> Spot
     Spot { line, field }
 }
 
-// Where in a configuration it is wrong.
-fn config_spot(why: ConfigFault) -> Spot
+/// Where in a configuration it is wrong.
+pub fn config_spot(why: ConfigFault) -> Spot
     ensures { result ≡ config_spot why }
 {
     match why {
@@ -51,7 +51,8 @@ fn config_spot(why: ConfigFault) -> Spot
     }
 }
 
-fn config_words(why: ConfigFault) -> &'static str
+/// What is wrong in a configuration, and what to write.
+pub fn config_words(why: ConfigFault) -> &'static str
     ensures { result.now ≡ config_words why }
 {
     match why {

@@ -11,7 +11,8 @@ use file_comtrade::SectionFault;
 use itoa::Buffer;
 use std::alloc::Global;
 
-fn section_line(why: SectionFault) -> usize
+/// The line at which the sections of a record in one file are wrong.
+pub fn section_line(why: SectionFault) -> usize
     ensures { result ≡ section_line why }
 {
     match why {

@@ -16,10 +16,11 @@ fn file<'a>(what: &'static str, name: &'a str) -> Option<Input<'a>> {
 }
 
 /// The files that the words of a call name, in the order of the words. Those that a map of records
-/// names are not among them.
+/// names are not among them, nor those of any kind, whose names are all that is known of them.
 pub fn inputs_of<'a>(call: &Call<'a>) -> [Option<Input<'a>>; 3] {
     match call {
         Call::Study(ask) => of_ask(ask),
+        Call::Lint(_) => [None, None, None],
         Call::Records(ask) => of_records(ask),
         Call::Event(event) => of_ask(&event.config),
     }

@@ -71,6 +71,14 @@ const STUDY: Files = Files {
     help: "A study file; or a line file and a file of fault scripts",
 };
 
+// Files of any kind.
+const ANY: Files = Files {
+    least: 1,
+    most: 64,
+    names: &["FILE"],
+    help: "Studies, line files, scripts, timings, records, maps, trees, certificates, COMTRADE (.cfg, .cff)",
+};
+
 // The same, and a further file.
 const TIMINGS: Files = Files {
     least: 2,
@@ -261,8 +269,8 @@ const ANSWERS: &[Word] = &[
     },
     Word {
         name: "lint",
-        about: "What is suspicious in the files, or where and why one is refused",
-        files: STUDY,
+        about: "What is suspicious in files of any kind, or where and why one is refused",
+        files: ANY,
         options: &[],
         in_three: false,
     },

@@ -24,6 +24,8 @@ pub struct Words<'a> {
 pub enum Call<'a> {
     /// Work over a line and its scripts.
     Study(Ask<'a>),
+    /// What is found in files of any kind, which these are.
+    Lint(&'a [&'a str]),
     /// What relays recorded: as a script, a record or a table.
     Records(RecordsAsk<'a>),
     /// A play as a record.
@@ -73,7 +75,7 @@ pub fn words_of<'a>(matches: &'a ArgMatches<'a>) -> Result<Words<'a>, WordFault<
     // Only `comtrade` has commands below it.
     let (call, own) = match own.subcommand() {
         Some((name, own)) => (comtrade_of(name, own)?, own),
-        None => (study_of(name, own)?, own),
+        None => (call_of(name, own)?, own),
     };
     Ok(Words {
         call,
@@ -164,6 +166,14 @@ fn is_quotable(name: &str) -> bool {
     !name.is_empty()
 }
 
+// A command that has none below it.
+fn call_of<'a>(name: &'a str, own: &'a ArgMatches<'a>) -> Result<Call<'a>, WordFault<'a>> {
+    match name {
+        "lint" => Ok(Call::Lint(files_of(own, name)?)),
+        _ => study_of(name, own),
+    }
+}
+
 // Work over a line and its scripts.
 fn study_of<'a>(name: &'a str, own: &'a ArgMatches<'a>) -> Result<Call<'a>, WordFault<'a>> {
     let files = files_of(own, name)?;
@@ -189,7 +199,6 @@ fn work_of<'a>(
         "lines" => Work::Table(Table::Line),
         "scripts" => Work::Table(Table::Part(count_of(own, "part", "--part", 1)?)),
         "settle" => settled(own, analyses),
-        "lint" => Work::Lint,
         "verdicts" => Work::Table(verdicts_of(own, analyses)),
         "explain" => explained(own, *last, analyses)?,
         "map" => map_of(own, *last, files)?,

@@ -4,6 +4,7 @@ use crate::status::{MEMORY, SINK, USAGE};
 use crate::told::tell;
 use base_files::KeptStore;
 use base_text::store::{MemorySink, Sink};
+use call_inspect::inspect;
 use call_records::records;
 use call_study::study;
 use call_words::Call;
@@ -25,6 +26,9 @@ pub fn made<O: Sink>(
     };
     let status = match call {
         Call::Study(ask) => status_of(study(rt.alloc(), ask, store, out, &mut err)),
+        Call::Lint(names) => {
+            call_inspect::status_of(inspect(rt.alloc(), *names, store, out, &mut err))
+        }
         Call::Records(ask) => {
             call_records::status_of(&records(rt.alloc(), ask, store, out, &mut err))
         }

@@ -3,6 +3,7 @@
 use crate::fault::Fault;
 use base_text::store::{MemorySink, MemoryStore, put_all};
 use call_engine::NetEngine;
+use call_inspect::inspect;
 use call_pilot::top::pilot;
 use call_records::records;
 use call_study::study;
@@ -58,9 +59,9 @@ fn told(alloc: Global, error: &Error, err: &mut MemorySink) -> Result<u8, Fault>
 }
 
 // What the words that match the command line ask for.
-fn over_matches(
+fn over_matches<'a>(
     alloc: Global,
-    matches: &ArgMatches<'_>,
+    matches: &'a ArgMatches<'a>,
     store: &mut MemoryStore,
     out: &mut MemorySink,
     err: &mut MemorySink,
@@ -95,6 +96,9 @@ fn made(
 ) -> u8 {
     match call {
         Call::Study(ask) => status_of(study(alloc, ask, store, out, err)),
+        Call::Lint(names) => {
+            call_inspect::status_of(inspect(alloc, *names, store, out, err))
+        }
         Call::Records(ask) => call_records::status_of(&records(alloc, ask, store, out, err)),
         Call::Event(event) => event_made(alloc, event, store, out, err),
     }

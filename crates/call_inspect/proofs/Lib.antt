@@ -1,0 +1,4 @@
+pub mod Inspecting
+pub mod Fetching
+pub mod Closing
+pub mod ByScripts

@@ -1,0 +1,9 @@
+pub mod Kinds
+pub mod Given
+pub mod Grounds
+pub mod Found
+pub mod Inspected
+pub mod Files
+pub mod Halts
+pub mod Ends
+pub mod Clauses
