@@ -68,7 +68,7 @@ const SETTING: &str = "a setting has to stand behind the study, as west.z2.picku
 const NAME: &str = "what the names of three files begin with, without quotes and backslashes";
 
 /// What the words say, or which of them is wrong.
-pub fn words_of<'a>(matches: &'a ArgMatches<'a>) -> Result<Words<'a>, WordFault<'a>> {
+pub fn words_of<'m, 'a>(matches: &'m ArgMatches<'a>) -> Result<Words<'m>, WordFault<'m>> {
     let Some((name, own)) = matches.subcommand() else {
         return Err(nothing("study"));
     };
@@ -106,8 +106,12 @@ fn files_of<'s, 'a>(
         None => Err(nothing(name)),
     }
 }
+
 // Records of relays, in and out: what they recorded, of a line and a map, or a play as a record.
-fn comtrade_of<'a>(name: &'a str, own: &ArgMatches<'a>) -> Result<Call<'a>, WordFault<'a>> {
+fn comtrade_of<'m, 'a>(
+    name: &'a str,
+    own: &'m ArgMatches<'a>,
+) -> Result<Call<'m>, WordFault<'m>> {
     let files = files_of(own, name)?;
     let work = match name {
         "scripts" => RecordsWork::Scripts,
@@ -127,11 +131,11 @@ fn comtrade_of<'a>(name: &'a str, own: &ArgMatches<'a>) -> Result<Call<'a>, Word
 
 // A play as a record of files whose names begin as the output is called: what stands there behind the
 // last slash.
-fn event_of<'a>(
+fn event_of<'m, 'a>(
     command: &'a str,
-    own: &ArgMatches<'a>,
-    files: &[&'a str],
-) -> Result<Call<'a>, WordFault<'a>> {
+    own: &'m ArgMatches<'a>,
+    files: &'m [&'a str],
+) -> Result<Call<'m>, WordFault<'m>> {
     let (Some(output), Some(last)) = (own.get_str("output"), files.last()) else {
         return Err(nothing(command));
     };
@@ -167,7 +171,10 @@ fn is_quotable(name: &str) -> bool {
 }
 
 // A command that has none below it.
-fn call_of<'a>(name: &'a str, own: &'a ArgMatches<'a>) -> Result<Call<'a>, WordFault<'a>> {
+fn call_of<'m, 'a>(
+    name: &'a str,
+    own: &'m ArgMatches<'a>,
+) -> Result<Call<'m>, WordFault<'m>> {
     match name {
         "lint" => Ok(Call::Lint(files_of(own, name)?)),
         _ => study_of(name, own),
@@ -175,18 +182,21 @@ fn call_of<'a>(name: &'a str, own: &'a ArgMatches<'a>) -> Result<Call<'a>, WordF
 }
 
 // Work over a line and its scripts.
-fn study_of<'a>(name: &'a str, own: &'a ArgMatches<'a>) -> Result<Call<'a>, WordFault<'a>> {
+fn study_of<'m, 'a>(
+    name: &'a str,
+    own: &'m ArgMatches<'a>,
+) -> Result<Call<'m>, WordFault<'m>> {
     let files = files_of(own, name)?;
     let work = work_of(name, own, files)?;
     Ok(Call::Study(ask_of(work, own, files)?))
 }
 
 // Which work. The last file is the further one, where there is one.
-fn work_of<'a>(
+fn work_of<'m, 'a>(
     name: &'a str,
-    own: &'a ArgMatches<'a>,
-    files: &'a [&'a str],
-) -> Result<Work<'a>, WordFault<'a>> {
+    own: &'m ArgMatches<'a>,
+    files: &'m [&'a str],
+) -> Result<Work<'m>, WordFault<'m>> {
     let Some(last) = files.last() else {
         return Err(nothing(name));
     };
@@ -220,11 +230,11 @@ fn work_of<'a>(
 }
 
 // The work over these files. A table is over all scripts.
-fn ask_of<'a>(
-    work: Work<'a>,
-    own: &ArgMatches<'a>,
-    files: &[&'a str],
-) -> Result<Ask<'a>, WordFault<'a>> {
+fn ask_of<'m, 'a>(
+    work: Work<'m>,
+    own: &'m ArgMatches<'a>,
+    files: &'m [&'a str],
+) -> Result<Ask<'m>, WordFault<'m>> {
     Ok(Ask {
         source: source_of(work, files)?,
         script: if let Work::Table(_) = work {
@@ -332,7 +342,10 @@ fn map_of<'a>(
 }
 
 // Choices of the settings behind the study.
-fn choose_of<'a>(own: &'a ArgMatches<'a>, files: &'a [&'a str]) -> Result<Work<'a>, WordFault<'a>> {
+fn choose_of<'m, 'a>(
+    own: &'m ArgMatches<'a>,
+    files: &'m [&'a str],
+) -> Result<Work<'m>, WordFault<'m>> {
     let settings = &files[files.len().min(1)..];
     for word in settings {
         let bytes = word.as_bytes();

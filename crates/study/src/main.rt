@@ -64,7 +64,7 @@ fn without_matches(rt: &HostRuntime, error: &Error) -> u8 {
 }
 
 // The exit status of what the words that match the command line ask for.
-fn over_matches<'a>(rt: &HostRuntime, matches: &'a ArgMatches<'a>) -> u8 {
+fn over_matches(rt: &HostRuntime, matches: &ArgMatches<'_>) -> u8 {
     match words_of(matches) {
         Ok(words) => match (words.call, words.output) {
             (Call::Event(event), _) => to_three(rt, &event),

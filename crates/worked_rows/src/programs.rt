@@ -59,9 +59,9 @@ fn told(alloc: Global, error: &Error, err: &mut MemorySink) -> Result<u8, Fault>
 }
 
 // What the words that match the command line ask for.
-fn over_matches<'a>(
+fn over_matches(
     alloc: Global,
-    matches: &'a ArgMatches<'a>,
+    matches: &ArgMatches<'_>,
     store: &mut MemoryStore,
     out: &mut MemorySink,
     err: &mut MemorySink,
