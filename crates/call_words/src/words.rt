@@ -108,10 +108,7 @@ fn files_of<'s, 'a>(
 }
 
 // Records of relays, in and out: what they recorded, of a line and a map, or a play as a record.
-fn comtrade_of<'m, 'a>(
-    name: &'a str,
-    own: &'m ArgMatches<'a>,
-) -> Result<Call<'m>, WordFault<'m>> {
+fn comtrade_of<'a>(name: &'a str, own: &ArgMatches<'a>) -> Result<Call<'a>, WordFault<'a>> {
     let files = files_of(own, name)?;
     let work = match name {
         "scripts" => RecordsWork::Scripts,
@@ -131,11 +128,11 @@ fn comtrade_of<'m, 'a>(
 
 // A play as a record of files whose names begin as the output is called: what stands there behind the
 // last slash.
-fn event_of<'m, 'a>(
+fn event_of<'a>(
     command: &'a str,
-    own: &'m ArgMatches<'a>,
-    files: &'m [&'a str],
-) -> Result<Call<'m>, WordFault<'m>> {
+    own: &ArgMatches<'a>,
+    files: &[&'a str],
+) -> Result<Call<'a>, WordFault<'a>> {
     let (Some(output), Some(last)) = (own.get_str("output"), files.last()) else {
         return Err(nothing(command));
     };
@@ -177,26 +174,24 @@ fn call_of<'m, 'a>(
 ) -> Result<Call<'m>, WordFault<'m>> {
     match name {
         "lint" => Ok(Call::Lint(files_of(own, name)?)),
+        "choose" => Ok(Call::Study(choices_of(own, files_of(own, name)?)?)),
         _ => study_of(name, own),
     }
 }
 
 // Work over a line and its scripts.
-fn study_of<'m, 'a>(
-    name: &'a str,
-    own: &'m ArgMatches<'a>,
-) -> Result<Call<'m>, WordFault<'m>> {
+fn study_of<'a>(name: &'a str, own: &ArgMatches<'a>) -> Result<Call<'a>, WordFault<'a>> {
     let files = files_of(own, name)?;
     let work = work_of(name, own, files)?;
     Ok(Call::Study(ask_of(work, own, files)?))
 }
 
 // Which work. The last file is the further one, where there is one.
-fn work_of<'m, 'a>(
+fn work_of<'a>(
     name: &'a str,
-    own: &'m ArgMatches<'a>,
-    files: &'m [&'a str],
-) -> Result<Work<'m>, WordFault<'m>> {
+    own: &ArgMatches<'a>,
+    files: &[&'a str],
+) -> Result<Work<'a>, WordFault<'a>> {
     let Some(last) = files.last() else {
         return Err(nothing(name));
     };
@@ -212,7 +207,6 @@ fn work_of<'m, 'a>(
         "verdicts" => Work::Table(verdicts_of(own, analyses)),
         "explain" => explained(own, *last, analyses)?,
         "map" => map_of(own, *last, files)?,
-        "choose" => choose_of(own, files)?,
         "page" => Work::Page {
             analyses,
             made: MADE,
@@ -230,11 +224,11 @@ fn work_of<'m, 'a>(
 }
 
 // The work over these files. A table is over all scripts.
-fn ask_of<'m, 'a>(
-    work: Work<'m>,
-    own: &'m ArgMatches<'a>,
-    files: &'m [&'a str],
-) -> Result<Ask<'m>, WordFault<'m>> {
+fn ask_of<'a>(
+    work: Work<'a>,
+    own: &ArgMatches<'a>,
+    files: &[&'a str],
+) -> Result<Ask<'a>, WordFault<'a>> {
     Ok(Ask {
         source: source_of(work, files)?,
         script: if let Work::Table(_) = work {
@@ -341,11 +335,11 @@ fn map_of<'a>(
     }))
 }
 
-// Choices of the settings behind the study.
-fn choose_of<'m, 'a>(
+// Choices of the settings behind the study, of those of the line where none stands there.
+fn choices_of<'m, 'a>(
     own: &'m ArgMatches<'a>,
     files: &'m [&'a str],
-) -> Result<Work<'m>, WordFault<'m>> {
+) -> Result<Ask<'m>, WordFault<'m>> {
     let settings = &files[files.len().min(1)..];
     for word in settings {
         let bytes = word.as_bytes();
@@ -353,10 +347,13 @@ fn choose_of<'m, 'a>(
             return Err(WordFault::of(*word, SETTING));
         }
     }
-    Ok(Work::Choose(ChooseAsk {
-        settings,
-        room: room_of(own)?,
-    }))
+    let room = room_of(own)?;
+    let work = Work::Choose(ChooseAsk { settings, room });
+    Ok(Ask {
+        source: source_of(work, files)?,
+        script: None,
+        work,
+    })
 }
 
 // The room that is asked for, if it is.
