@@ -20,4 +20,5 @@ pub use fields::{
 pub use read::read_file;
 pub use reader::RecordReader;
 pub use reading::Reading;
+pub use rows::{next_row, rows_of};
 pub use write::push_record;
