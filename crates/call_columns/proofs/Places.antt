@@ -11,8 +11,8 @@ stays : (name : List ℕ) (header : Fields) (n more place : ℕ)
 stays name header n zero place is = simp unary_clauses is
 stays name header n (suc more) place is =
     simp unary_clauses (ap
-      (λ found. place_or found (bytes_eq (field_of header (n + more)) name) (n + more))
-      (stays name header n more place is))
+    (λ found. place_or found (bytes_eq (field_of header (n + more)) name) (n + more))
+    (stays name header n more place is))
 
 pub first_place : (name : List ℕ) (header : Fields) (place : ℕ) → place < length header
     → place_below name header place ≡ None → bytes_eq (field_of header place) name ≡ true

@@ -36,7 +36,7 @@ word_or None source = source
 abbrev pub source_of : Fields → Source
 source_of header = word_or (place_named (codes "answer") header)
     (numbers_at (place_named (codes "held") header) (place_named (codes "fails") header)
-      (place_named (codes "open") header))
+    (place_named (codes "open") header))
 
 abbrev pub number_or_none : Option ℕ → ℕ
 number_or_none None = 0
@@ -57,10 +57,10 @@ word_counted word =
 abbrev pub counted : Source → Fields → Counts
 counted (Word place) row = word_counted (field_of row place)
 counted (Numbers held fails unsure) row = record {
-    held = number_or_none (number_of (field_of row held));
-    failing = number_or_none (number_of (field_of row fails));
-    unsure = number_or_none (number_of (field_of row unsure));
-  }
+  held = number_or_none (number_of (field_of row held));
+  failing = number_or_none (number_of (field_of row fails));
+  unsure = number_or_none (number_of (field_of row unsure));
+}
 counted Nothing row = none_counted
 
 -- a sum, which stands still at the greatest number of 64 bits
@@ -69,10 +69,10 @@ sum a b = min (a + b) (2 ^ 64 - 1)
 
 abbrev pub sum_of : Counts → Counts → Counts
 sum_of before more = record {
-    held = sum before.held more.held;
-    failing = sum before.failing more.failing;
-    unsure = sum before.unsure more.unsure;
-  }
+  held = sum before.held more.held;
+  failing = sum before.failing more.failing;
+  unsure = sum before.unsure more.unsure;
+}
 
 abbrev pub with_row : Source → Counts → Fields → Counts
 with_row source before row = sum_of before (counted source row)

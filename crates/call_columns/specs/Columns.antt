@@ -40,11 +40,11 @@ kind_of name =
 -- the column at a place: figures stand at its right
 abbrev pub column_at : Fields → List Fields → ℕ → Column
 column_at header rows place = record {
-    place = place;
-    width = max (length (field_of header place)) (width_of rows place);
-    is_right = are_figures rows place;
-    kind = kind_of (field_of header place);
-  }
+  place = place;
+  width = max (length (field_of header place)) (width_of rows place);
+  is_right = are_figures rows place;
+  kind = kind_of (field_of header place);
+}
 
 -- those of the first places that are shown
 abbrev pub columns_below : Fields → List Fields → ℕ → List Column

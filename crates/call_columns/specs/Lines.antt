@@ -60,8 +60,8 @@ line_behind is_colored gap (column ∷ columns) row =
     if is_empty (field_of row column.place)
     then line_behind is_colored (gap ++ blanks column.width ++ space) columns row
     else gap ++ field_text is_colored column (field_of row column.place)
-      ++ line_behind is_colored (blanks (behind column (field_of row column.place)) ++ space) columns
-        row
+    ++ line_behind is_colored (blanks (behind column (field_of row column.place)) ++ space) columns
+    row
 
 abbrev pub line_of : Bool → List Column → Fields → List ℕ
 line_of is_colored columns row = line_behind is_colored [] columns row

@@ -223,12 +223,7 @@ fn push_stretch(text: &mut Vec<u8>, header: &ByteRecord, row: &ByteRecord) -> Re
     )
 }
 
-fn push_times(
-    text: &mut Vec<u8>,
-    fault: &[u8],
-    terminal: &[u8],
-    times: &[u8],
-) -> Result<(), Memory>
+fn push_times(text: &mut Vec<u8>, fault: &[u8], terminal: &[u8], times: &[u8]) -> Result<(), Memory>
     ensures { OnOk result (text.new.items
         ≡ text.old.items ++ stretch fault.now terminal.now times.now) }
 {

@@ -5,11 +5,13 @@
 mod build;
 mod fault;
 mod inputs;
+mod look;
 mod table;
 mod words;
 
 pub use build::BUILD;
 pub use fault::WordFault;
 pub use inputs::{Input, inputs_of};
+pub use look::{Colors, Form, Look, is_table};
 pub use table::command;
 pub use words::{Call, Event, Words, words_of};

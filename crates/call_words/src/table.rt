@@ -133,6 +133,30 @@ const FAULTS: Opt = Opt {
     help: "One record for each fault and terminal: how many scripts are held, and where not",
 };
 
+const CSV: Opt = Opt {
+    name: "csv",
+    value: None,
+    required: false,
+    beside: Beside::Without("table"),
+    help: "The table as records (CSV), on a terminal too",
+};
+
+const TABLE: Opt = Opt {
+    name: "table",
+    value: None,
+    required: false,
+    beside: Beside::Any,
+    help: "The table as columns, with what it comes to; so it is on a terminal",
+};
+
+const COLOR: Opt = Opt {
+    name: "color",
+    value: Some("WHEN"),
+    required: false,
+    beside: Beside::Any,
+    help: "Whether columns have colours: always, never or auto, on a terminal without NO_COLOR",
+};
+
 const PART: Opt = Opt {
     name: "part",
     value: Some("N"),
@@ -196,6 +220,9 @@ const SETTLE: &[Opt] = &[
         beside: Beside::With("timings"),
         help: "With --timings: the timings of the script of this name",
     },
+    TABLE,
+    CSV,
+    COLOR,
 ];
 
 // What `comtrade export` takes.
@@ -256,6 +283,9 @@ const EXPLAIN: &[Opt] = &[
         beside: Beside::Any,
         help: "It ends once so many analyses are made; 20000 without it",
     },
+    TABLE,
+    CSV,
+    COLOR,
 ];
 
 // The commands that answer.
@@ -264,7 +294,7 @@ const ANSWERS: &[Word] = &[
         name: "verdicts",
         about: "Whether each fault is met at each terminal, script by script, in milliseconds (CSV)",
         files: STUDY,
-        options: &[FAULTS, ANALYSES],
+        options: &[FAULTS, ANALYSES, TABLE, CSV, COLOR],
         in_three: false,
     },
     Word {
@@ -303,21 +333,21 @@ const CHOICES: &[Word] = &[
         name: "choose",
         about: "Which values of each setting hold, where it stands, and what to write (CSV)",
         files: SETTINGS,
-        options: &[ROOM],
+        options: &[ROOM, TABLE, CSV, COLOR],
         in_three: false,
     },
     Word {
         name: "margins",
         about: "How far each end of each interval can move with all held that is held today (CSV)",
         files: STUDY,
-        options: &[],
+        options: &[TABLE, CSV, COLOR],
         in_three: false,
     },
     Word {
         name: "races",
         about: "What each external fault has to spare, as what ends and what begins (CSV)",
         files: STUDY,
-        options: &[],
+        options: &[TABLE, CSV, COLOR],
         in_three: false,
     },
     Word {
@@ -399,7 +429,7 @@ const RECORDS: &[Word] = &[
         name: "show",
         about: "One record for each channel that the map names: its signal, and when it first changes (CSV)",
         files: MAP,
-        options: &[],
+        options: &[TABLE, CSV, COLOR],
         in_three: false,
     },
     Word {

@@ -4,6 +4,7 @@ ghost use Rattle.std.specs.Prelude.{◌≤◌, length};
 
 use crate::build::MADE;
 use crate::fault::WordFault;
+use crate::look::{Look, look_of};
 use base_text::store::number;
 use call_ask::{
     Ask, ChooseAsk, ExplainForm, Form, MapAsk, MapForm, RecordsAsk, RecordsWork, Source, Table,
@@ -12,11 +13,13 @@ use call_ask::{
 use clap::ArgMatches;
 use draw_shapes::Rows;
 
-/// What the words ask for, and the file that it is written to, if not standard output.
+/// What the words ask for, the file that it is written to, if not standard output, and how a table is
+/// told.
 #[derive(Clone, Copy)]
 pub struct Words<'a> {
     pub call: Call<'a>,
     pub output: Option<&'a str>,
+    pub look: Look,
 }
 
 /// What is called.
@@ -77,9 +80,11 @@ pub fn words_of<'m, 'a>(matches: &'m ArgMatches<'a>) -> Result<Words<'m>, WordFa
         Some((name, own)) => (comtrade_of(name, own)?, own),
         None => (call_of(name, own)?, own),
     };
+    let look = look_of(own, &call)?;
     Ok(Words {
         call,
         output: file_of(own.get_str("output")),
+        look,
     })
 }
 
@@ -168,10 +173,7 @@ fn is_quotable(name: &str) -> bool {
 }
 
 // A command that has none below it.
-fn call_of<'m, 'a>(
-    name: &'a str,
-    own: &'m ArgMatches<'a>,
-) -> Result<Call<'m>, WordFault<'m>> {
+fn call_of<'m, 'a>(name: &'a str, own: &'m ArgMatches<'a>) -> Result<Call<'m>, WordFault<'m>> {
     match name {
         "lint" => Ok(Call::Lint(files_of(own, name)?)),
         "choose" => Ok(Call::Study(choices_of(own, files_of(own, name)?)?)),

@@ -5,6 +5,7 @@
 mod call;
 mod event;
 mod inputs;
+mod look;
 mod output;
 mod status;
 mod told;
@@ -68,8 +69,8 @@ fn over_matches(rt: &HostRuntime, matches: &ArgMatches<'_>) -> u8 {
     match words_of(matches) {
         Ok(words) => match (words.call, words.output) {
             (Call::Event(event), _) => to_three(rt, &event),
-            (call, Some(name)) => to_file(rt, &call, name),
-            (call, None) => to_standard_output(rt, &call),
+            (call, Some(name)) => to_file(rt, &call, words.look, name),
+            (call, None) => to_standard_output(rt, &call, words.look),
         },
         Err(fault) => {
             tell_word(rt, &fault);

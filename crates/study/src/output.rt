@@ -1,17 +1,19 @@
 //! Where the text of a call goes: to standard output, or to a file.
 
-use crate::call::made;
+use crate::call::told_as;
 use crate::inputs::{is_input, was_read};
+use crate::look::{shown_in_file, shown_on_output};
 use crate::status::{DONE, SINK, USAGE};
 use crate::told::tell_unwritten;
 use base_files::{KeptStore, NewFile, WriterSink};
-use call_words::Call;
+use call_words::{Call, Look};
 
 /// The exit status of a call whose text goes to standard output.
-pub fn to_standard_output(rt: &HostRuntime, call: &Call<'_>) -> u8 {
+pub fn to_standard_output(rt: &HostRuntime, call: &Call<'_>, look: Look) -> u8 {
     let mut store = KeptStore::new(rt, rt.alloc());
     let mut out = WriterSink::new(rt.stdout());
-    let status = made(rt, call, &mut store, &mut out);
+    let shown = shown_on_output(rt, call, look);
+    let status = told_as(rt, call, shown, &mut store, &mut out);
     if status == SINK {
         tell_unwritten(rt, "standard output", out.reason());
     }
@@ -19,13 +21,14 @@ pub fn to_standard_output(rt: &HostRuntime, call: &Call<'_>) -> u8 {
 }
 
 /// The exit status of a call whose text goes to the file of this name, which is none that it reads.
-pub fn to_file(rt: &HostRuntime, call: &Call<'_>, name: &str) -> u8 {
+pub fn to_file(rt: &HostRuntime, call: &Call<'_>, look: Look, name: &str) -> u8 {
     if is_input(rt, call, name) {
         return USAGE;
     }
     let mut store = KeptStore::new(rt, rt.alloc());
     let mut out = NewFile::new(rt, rt.alloc(), name);
-    let mut status = made(rt, call, &mut store, &mut out);
+    let shown = shown_in_file(call, look);
+    let mut status = told_as(rt, call, shown, &mut store, &mut out);
     if status <= DONE && was_read(rt, &store, name) {
         status = USAGE;
     }

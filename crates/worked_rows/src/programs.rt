@@ -2,18 +2,22 @@
 
 use crate::fault::Fault;
 use base_text::store::{MemorySink, MemoryStore, put_all};
+use call_columns::as_columns;
 use call_engine::NetEngine;
 use call_inspect::inspect;
 use call_pilot::top::pilot;
 use call_records::records;
 use call_study::study;
-use call_words::{Call, Event, WordFault, command, words_of};
+use call_words::{Call, Colors, Event, Form, WordFault, Words, command, words_of};
 use call_work::load::status_of;
 use clap::{ArgMatches, Error};
 use std::alloc::Global;
 
 // The status of words that ask for nothing.
 const USAGE: u8 = 4;
+
+// The greatest length of a table that is told as columns here.
+const ROOM: u32 = 65536;
 
 /// Makes a call of these words over the store, the first of which names the program, and gives its
 /// status.
@@ -67,9 +71,31 @@ fn over_matches(
     err: &mut MemorySink,
 ) -> Result<u8, Fault> {
     match words_of(matches) {
-        Ok(words) => Ok(made(alloc, &words.call, store, out, err)),
+        Ok(words) => shown(alloc, &words, store, out, err),
         Err(fault) => word_told(&fault, err),
     }
+}
+
+// The status of a call, whose table is told as columns where that is asked for.
+fn shown(
+    alloc: Global,
+    words: &Words<'_>,
+    store: &mut MemoryStore,
+    out: &mut MemorySink,
+    err: &mut MemorySink,
+) -> Result<u8, Fault> {
+    let Form::Columns = words.look.form else {
+        return Ok(made(alloc, &words.call, store, out, err));
+    };
+    let is_colored = match words.look.colors {
+        Colors::Always => true,
+        Colors::Never | Colors::ByOutput => false,
+    };
+    let mut csv = MemorySink::new(alloc, ROOM)?;
+    let status = made(alloc, &words.call, store, &mut csv, err);
+    let columns = as_columns(alloc, csv.written(), is_colored)?;
+    put_all(out, columns.as_slice())?;
+    Ok(status)
 }
 
 // A word that is wrong: the line that the program tells, and the status.
@@ -96,9 +122,7 @@ fn made(
 ) -> u8 {
     match call {
         Call::Study(ask) => status_of(study(alloc, ask, store, out, err)),
-        Call::Lint(names) => {
-            call_inspect::status_of(inspect(alloc, *names, store, out, err))
-        }
+        Call::Lint(names) => { call_inspect::status_of(inspect(alloc, *names, store, out, err)) }
         Call::Records(ask) => call_records::status_of(&records(alloc, ask, store, out, err)),
         Call::Event(event) => event_made(alloc, event, store, out, err),
     }

@@ -8,5 +8,5 @@ use Rattle.call_columns.proofs.answers.push_summary.Given as goal
 abbrev pub invariant-loop-row : goal.invariant-loop-row
 invariant-loop-row l =
     l.text.items ++ flat_map (stretch_in (fields_of l.header))
-      (map fields_of (drop l.row-index l.rows))
+    (map fields_of (drop l.row-index l.rows))
     ≡ l.fn.text.items ++ summary (fields_of l.header) (map fields_of l.rows)

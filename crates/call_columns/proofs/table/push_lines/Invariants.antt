@@ -8,5 +8,5 @@ use Rattle.call_columns.proofs.table.push_lines.Given as goal
 abbrev pub invariant-loop-row : goal.invariant-loop-row
 invariant-loop-row l =
     l.text.items ++ flat_map (line_of l.is_colored l.columns)
-      (map fields_of (drop l.row-index l.rows))
+    (map fields_of (drop l.row-index l.rows))
     ≡ l.fn.text.items ++ flat_map (line_of l.is_colored l.columns) (map fields_of l.rows)
