@@ -106,7 +106,7 @@ fn denied(which: Table, scripts: &[Script]) -> Option<Denial>
         Table::Settled { .. } | Table::Verdicts { .. } | Table::Faults { .. } | Table::Races => {
             at_most(4_096_000, scripts)
         }
-        Table::Trees { .. } | Table::Margins => at_most(64, scripts),
+        Table::Trees { .. } | Table::Margins => at_most(4096, scripts),
         Table::Line => None,
         Table::Part(n) => {
             if is_part(n as usize, scripts) {
@@ -267,7 +267,7 @@ fn recheck_over(alloc: Global, loaded: &Loaded, trees: &[u8]) -> Result<Said, Ha
     requires { IsLoaded loaded.now }
     ensures { Gives (answer_by (recheck_of (as_read (studied loaded.now)) trees.now)) result }
 {
-    match at_most(64, loaded.study.scripts.as_slice()) {
+    match at_most(4096, loaded.study.scripts.as_slice()) {
         Some(why) => Err(Halt::Denied(why)),
         None => {
             let said = recheck_settled(alloc, &loaded.study, trees)?;

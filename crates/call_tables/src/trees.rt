@@ -48,7 +48,7 @@ pub fn settle_trees(alloc: Global, study: &Study, rows: &[Row]) -> Result<Vec<u8
 
 /// The rows of a script, in line order.
 pub(crate) fn rows_of<'a>(line: &Line, rows: &'a [Row], s: usize) -> &'a [Row]
-    requires few { s < 64 }
+    requires few { s < 4096 }
     requires within { s * terminal_count line.now + terminal_count line.now ≤ length rows.now }
     ensures { result.now ≡ rows_of_script line.now rows.now s }
 {

@@ -67,9 +67,9 @@ fn with_all(counts: Counts, results: &[TreeClaim]) -> Counts
     sum
 }
 
-/// The counts of what is said of at most 64 scripts.
+/// The counts of what is said of at most 4,096 scripts.
 pub(crate) fn counts_of(parts: &[Vec<TreeClaim>]) -> Counts
-    requires few { length parts.now ≤ 64 }
+    requires few { length parts.now ≤ 4096 }
     requires each { All (λ results. length results ≤ 3) (map results_in parts.now) }
     ensures { CountResults (map results_in parts.now) result }
 {

@@ -33,7 +33,7 @@ pub fn check_settle(
     cert: &[u8],
 ) -> Result<Counts, Stopped<SettleFault>>
     requires fits { All (Fits compiled.now.line.now) scripts.now }
-    requires few { length scripts.now ≤ 64 }
+    requires few { length scripts.now ≤ 4096 }
     ensures exact { MatchResult result
         (λ counts. IsAccepted compiled.now.line.now scripts.now cert.now counts)
         (OfFault (IsSettleFault compiled.now.line.now scripts.now cert.now)) }
@@ -57,7 +57,7 @@ fn check_scripts(
     parts: &[Vec<TreeClaim>],
 ) -> Result<Counts, Stopped<SettleFault>>
     requires fits { All (Fits compiled.now.line.now) scripts.now }
-    requires few { length scripts.now ≤ 64 }
+    requires few { length scripts.now ≤ 4096 }
     requires many { length parts.now ≡ length scripts.now }
     requires one_each { All (HasOneEach compiled.now.line.now) (map results_in parts.now) }
     ensures exact { (bytes : List ℕ) →

@@ -95,16 +95,16 @@ abbrev pub at_most : ℕ → ℕ → Option Denial
 at_most most scripts =
     if nat_le scripts most then None else Some (denial.TooManyScripts scripts most)
 
--- most work over all scripts takes 64, a map 4,096; the tables of settled obligations, of verdicts, of
--- faults and of races as many as a study can come to, 1,000 faults of 4,096; and there are as many
--- parts as hold 64 each
+-- most work over all scripts takes 4,096; the tables of settled obligations, of verdicts, of faults and
+-- of races as many as a study can come to, 1,000 faults of 4,096; an explanation 64; and there are as
+-- many parts as hold 64 each
 abbrev pub denied_of : Table → ℕ → Option Denial
 denied_of (tables.Settled analyses) scripts = at_most 4096000 scripts
 denied_of (tables.Verdicts analyses) scripts = at_most 4096000 scripts
 denied_of (tables.Faults analyses) scripts = at_most 4096000 scripts
 denied_of tables.Races scripts = at_most 4096000 scripts
-denied_of (tables.Trees analyses) scripts = at_most 64 scripts
-denied_of tables.Margins scripts = at_most 64 scripts
+denied_of (tables.Trees analyses) scripts = at_most 4096 scripts
+denied_of tables.Margins scripts = at_most 4096 scripts
 denied_of tables.Line scripts = None
 denied_of (tables.Part n) scripts =
     if is_part n scripts then None else Some (denial.UnknownPart (parts_of scripts))
@@ -137,7 +137,7 @@ timings_over given script halted holds =
 -- whether trees are accepted, over their bytes
 abbrev pub recheck_of : Given → List ℕ → Reading
 recheck_of given trees_bytes halted holds =
-    given halted (λ studied. unless_denied (at_most 64 (length studied.scripts)) halted
+    given halted (λ studied. unless_denied (at_most 4096 (length studied.scripts)) halted
     (holds (recheck studied trees_bytes)))
 
 -- the script of whose record is asked, if it is named, and if there is one of that name

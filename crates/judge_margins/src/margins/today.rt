@@ -31,7 +31,7 @@ pub fn held_today(
     scripts: &[Script],
 ) -> Result<Today, Memory>
     requires fit { All (Fits compiled.now.line.now) scripts.now }
-    requires few { length scripts.now ≤ 64 }
+    requires few { length scripts.now ≤ 4096 }
     ensures today { IfOk result (λ today. AreToday compiled.now.line.now scripts.now
         (length scripts.now) 0
         today.held.items today.others.items) }
@@ -60,7 +60,7 @@ fn of_script(
     others: &mut Vec<Lost>,
 ) -> Result<(), Memory>
     requires fit { All (Fits compiled.now.line.now) scripts.now }
-    requires few { length scripts.now ≤ 64 }
+    requires few { length scripts.now ≤ 4096 }
     requires script { s < length scripts.now }
     requires before { AreToday compiled.now.line.now scripts.now s 0 held.old.items
         others.old.items }

@@ -4,12 +4,12 @@ use Rattle.call_study.proofs.read.recheck_over.Goals as goal
 
 pub returns-in-Some : goal.returns-in-Some
 returns-in-Some c =
-    let is : at_most 64 (length c.args.loaded.now.study.scripts.items) ≡ Some c.in-Some.why =
+    let is : at_most 4096 (length c.args.loaded.now.study.scripts.items) ≡ Some c.in-Some.why =
     (rw c.as_slice.ensures.value at (sym c.at_most.ensures)) ∙ c.in-Some.is in
     rw is (refl, refl)
 
 pub returns-in_ok-said-in-None : goal.returns-in_ok-said-in-None
 returns-in_ok-said-in-None c =
-    let is : at_most 64 (length c.args.loaded.now.study.scripts.items) ≡ None =
+    let is : at_most 4096 (length c.args.loaded.now.study.scripts.items) ≡ None =
     (rw c.as_slice.ensures.value at (sym c.at_most.ensures)) ∙ c.in-None.is in
     rw is c.in_ok-said-in-None.ensures
