@@ -52,8 +52,8 @@ pub fn push_summary(
     Ok(())
 }
 
-// The place of a field in a header, if it is there.
-fn place_named(name: &[u8], header: &ByteRecord) -> Option<usize>
+/// The first place at which this field stands in a header, if it does.
+pub fn place_named(name: &[u8], header: &ByteRecord) -> Option<usize>
     ensures { result ≡ place_of_name name.now (fields_of header.now) }
 {
     for place in 0..header.len() {

@@ -8,4 +8,7 @@ mod rows;
 mod table;
 mod tone;
 
+pub use answers::place_named;
+pub use column::field_of;
+pub use rows::all_rows;
 pub use table::as_columns;

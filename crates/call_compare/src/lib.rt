@@ -1,0 +1,11 @@
+//! Two versions of a study side by side: what their verdicts by fault say of each fault at each terminal,
+//! and what changed from one to the other.
+#![tactic(auto)]
+
+mod change;
+mod compared;
+mod told;
+mod versions;
+
+pub use change::Change;
+pub use compared::{Compared, compare};
