@@ -29,7 +29,7 @@ unfoldable pub told : List Fields → Fields → Change → List Fields → Opti
     → Option Fields → List ℕ
 told table row change old was new now = row_text default_writer
     (fields_told (named (codes "fault") table row) (named (codes "terminal") table row) change old
-      was new now)
+    was new now)
 
 unfoldable pub is_of : Change → Change → Bool
 is_of group change = bytes_eq (word_of group) (word_of change)

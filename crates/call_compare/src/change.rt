@@ -60,13 +60,7 @@ fn change_by(was_held: bool, is_held: bool, same: bool) -> Change
     match (was_held, is_held) {
         (true, false) => Change::Lost,
         (false, true) => Change::Gained,
-        (true, true) | (false, false) => {
-            if same {
-                Change::Same
-            } else {
-                Change::Other
-            }
-        }
+        (true, true) | (false, false) => { if same { Change::Same } else { Change::Other } }
     }
 }
 

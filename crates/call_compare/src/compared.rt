@@ -51,7 +51,8 @@ fn table(alloc: Global, both: Versions<'_>) -> Result<Vec<u8>, Memory>
     Ok(text)
 }
 
-const HEADER: &[u8] = b"fault,terminal,change,held_was,held,fails_was,fails,open_was,open,not_held_ms_was,not_held_ms,margin_ms_was,margin_ms\n";
+const HEADER: &[u8] =
+    b"fault,terminal,change,held_was,held,fails_was,fails,open_was,open,not_held_ms_was,not_held_ms,margin_ms_was,margin_ms\n";
 
 fn loses_some(both: Versions<'_>) -> bool
     ensures { result ≡ is_lost (map fields_of both.entry.old.now) (map fields_of both.entry.new.now) }

@@ -115,7 +115,16 @@ fn push_if_gone<'a>(
 {
     match same_in(both.new, both.old, was) {
         Some(_) => Ok(()),
-        None => push_told(alloc, text, both.old, was, Change::Gone, both, Some(was), None),
+        None => push_told(
+            alloc,
+            text,
+            both.old,
+            was,
+            Change::Gone,
+            both,
+            Some(was),
+            None,
+        ),
     }
 }
 

@@ -1,6 +1,6 @@
 //! The files that a call reads by its words.
 
-use crate::words::Call;
+use crate::words::{Call, Versions};
 use call_ask::{Ask, RecordsAsk, Source, Work};
 
 /// A file that a call reads: what it is to the call, and its name.
@@ -21,6 +21,7 @@ pub fn inputs_of<'a>(call: &Call<'a>) -> [Option<Input<'a>>; 3] {
     match call {
         Call::Study(ask) => of_ask(ask),
         Call::Lint(_) => [None, None, None],
+        Call::Compare(both) => of_versions(both),
         Call::Records(ask) => of_records(ask),
         Call::Event(event) => of_ask(&event.config),
     }
@@ -54,6 +55,12 @@ fn further_of<'a>(work: Work<'a>) -> Option<Input<'a>> {
         | Work::Choose(_)
         | Work::Page { .. } => None,
     }
+}
+
+fn of_versions<'a>(both: &Versions<'a>) -> [Option<Input<'a>>; 3] {
+    let [old, _, _] = of_ask(&both.old);
+    let [new, _, _] = of_ask(&both.new);
+    [old, new, None]
 }
 
 fn of_records<'a>(ask: &RecordsAsk<'a>) -> [Option<Input<'a>>; 3] {

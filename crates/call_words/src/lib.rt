@@ -14,4 +14,4 @@ pub use fault::WordFault;
 pub use inputs::{Input, inputs_of};
 pub use look::{Colors, Form, Look, is_table};
 pub use table::command;
-pub use words::{Call, Event, Words, words_of};
+pub use words::{Call, Event, Versions, Words, words_of};

@@ -95,6 +95,7 @@ pub fn is_table(call: &Call<'_>) -> bool {
             RecordsWork::Show => true,
             RecordsWork::Scripts | RecordsWork::Record => false,
         },
+        Call::Compare(_) => true,
         Call::Lint(_) | Call::Event(_) => false,
     }
 }

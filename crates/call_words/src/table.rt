@@ -8,7 +8,7 @@ use std::alloc::{AllocError, Global};
 const VERSION: &str = "0.30.0";
 
 // What the help says behind the commands.
-const AFTER: &str = "Answer:    verdicts, lint, settle, recheck, explain
+const AFTER: &str = "Answer:    verdicts, compare, lint, settle, recheck, explain
 Choose:    choose, margins, races, map
 Show:      page, bands, run, vcd
 Exchange:  lines, scripts, comtrade
@@ -69,6 +69,14 @@ const STUDY: Files = Files {
     most: 2,
     names: &["STUDY | LINE", "SCRIPTS"],
     help: "A study file; or a line file and a file of fault scripts",
+};
+
+// Two versions of a study.
+const VERSIONS: Files = Files {
+    least: 2,
+    most: 2,
+    names: &["WAS", "NOW"],
+    help: "Two study files: the version before, and that of now",
 };
 
 // Files of any kind.
@@ -295,6 +303,13 @@ const ANSWERS: &[Word] = &[
         about: "Whether each fault is met at each terminal, script by script, in milliseconds (CSV)",
         files: STUDY,
         options: &[FAULTS, ANALYSES, TABLE, CSV, COLOR],
+        in_three: false,
+    },
+    Word {
+        name: "compare",
+        about: "What changed from one version of a study to another, what was held and is not first (CSV)",
+        files: VERSIONS,
+        options: &[ANALYSES, TABLE, CSV, COLOR],
         in_three: false,
     },
     Word {

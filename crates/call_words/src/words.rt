@@ -29,6 +29,8 @@ pub enum Call<'a> {
     Study(Ask<'a>),
     /// What is found in files of any kind, which these are.
     Lint(&'a [&'a str]),
+    /// Two versions of a study side by side.
+    Compare(Versions<'a>),
     /// What relays recorded: as a script, a record or a table.
     Records(RecordsAsk<'a>),
     /// A play as a record.
@@ -44,6 +46,13 @@ pub struct Event<'a> {
     pub map: Ask<'a>,
     pub output: &'a str,
     pub is_forced: bool,
+}
+
+/// The verdicts by fault of two versions of a study.
+#[derive(Clone, Copy)]
+pub struct Versions<'a> {
+    pub old: Ask<'a>,
+    pub new: Ask<'a>,
 }
 
 // How many analyses an obligation takes at most, where the words don't say it.
@@ -177,7 +186,28 @@ fn call_of<'m, 'a>(name: &'a str, own: &'m ArgMatches<'a>) -> Result<Call<'m>, W
     match name {
         "lint" => Ok(Call::Lint(files_of(own, name)?)),
         "choose" => Ok(Call::Study(choices_of(own, files_of(own, name)?)?)),
+        "compare" => versions_of(name, own),
         _ => study_of(name, own),
+    }
+}
+
+// The verdicts by fault of two versions.
+fn versions_of<'a>(name: &'a str, own: &ArgMatches<'a>) -> Result<Call<'a>, WordFault<'a>> {
+    let [old, new] = files_of(own, name)? else {
+        return Err(nothing(name));
+    };
+    let analyses = count_of(own, "analyses", "--analyses", ANALYSES)?;
+    Ok(Call::Compare(Versions {
+        old: verdicts_over(*old, analyses),
+        new: verdicts_over(*new, analyses),
+    }))
+}
+
+fn verdicts_over(study: &str, analyses: u32) -> Ask<'_> {
+    Ask {
+        source: Source::Study(study),
+        script: None,
+        work: Work::Table(Table::Faults { analyses }),
     }
 }
 

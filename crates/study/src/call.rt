@@ -1,15 +1,16 @@
 //! What is asked for, over files.
 
 use crate::look::Shown;
-use crate::status::{MEMORY, SINK, USAGE};
+use crate::status::{DONE, MEMORY, SINK, USAGE};
 use crate::told::tell;
 use base_files::KeptStore;
 use base_text::store::{MemorySink, Sink, put_all};
 use call_columns::as_columns;
+use call_compare::compare;
 use call_inspect::inspect;
 use call_records::records;
 use call_study::study;
-use call_words::Call;
+use call_words::{Call, Versions};
 use call_work::load::status_of;
 
 // The greatest length of a line on standard error.
@@ -61,6 +62,7 @@ pub fn made<O: Sink>(
         Call::Lint(names) => {
             call_inspect::status_of(inspect(rt.alloc(), *names, store, out, &mut err))
         }
+        Call::Compare(both) => compared(rt, both, store, out, &mut err),
         Call::Records(ask) => {
             call_records::status_of(&records(rt.alloc(), ask, store, out, &mut err))
         }
@@ -71,4 +73,36 @@ pub fn made<O: Sink>(
         tell(rt, &[err.written()]);
     }
     status
+}
+
+// The exit status of two versions side by side: 1 where something that was held is not now; else that of a
+// version that has no verdicts, whose line is told.
+fn compared<O: Sink>(
+    rt: &HostRuntime,
+    both: &Versions<'_>,
+    store: &mut KeptStore<'_, HostRuntime>,
+    out: &mut O,
+    err: &mut MemorySink,
+) -> u8 {
+    let (Ok(mut old), Ok(mut new)) = (
+        MemorySink::new(rt.alloc(), ROOM),
+        MemorySink::new(rt.alloc(), ROOM),
+    ) else {
+        return MEMORY;
+    };
+    let status = status_of(study(rt.alloc(), &both.old, store, &mut old, err));
+    if status > DONE {
+        return status;
+    }
+    let status = status_of(study(rt.alloc(), &both.new, store, &mut new, err));
+    if status > DONE {
+        return status;
+    }
+    let Ok(found) = compare(rt.alloc(), old.written(), new.written()) else {
+        return MEMORY;
+    };
+    match put_all(out, found.text.as_slice()) {
+        Ok(()) => u8::from(found.is_lost),
+        Err(_) => SINK,
+    }
 }

@@ -3,18 +3,24 @@
 use crate::fault::Fault;
 use base_text::store::{MemorySink, MemoryStore, put_all};
 use call_columns::as_columns;
+use call_compare::compare;
 use call_engine::NetEngine;
 use call_inspect::inspect;
 use call_pilot::top::pilot;
 use call_records::records;
 use call_study::study;
-use call_words::{Call, Colors, Event, Form, WordFault, Words, command, words_of};
+use call_words::{Call, Colors, Event, Form, Versions, WordFault, Words, command, words_of};
 use call_work::load::status_of;
 use clap::{ArgMatches, Error};
 use std::alloc::Global;
 
 // The status of words that ask for nothing.
 const USAGE: u8 = 4;
+
+// Want of memory, and the greatest status of a call that is done.
+const MEMORY: u8 = 8;
+
+const DONE: u8 = 3;
 
 // The greatest length of a table that is told as columns here.
 const ROOM: u32 = 65536;
@@ -123,8 +129,38 @@ fn made(
     match call {
         Call::Study(ask) => status_of(study(alloc, ask, store, out, err)),
         Call::Lint(names) => { call_inspect::status_of(inspect(alloc, *names, store, out, err)) }
+        Call::Compare(both) => compared(alloc, both, store, out, err),
         Call::Records(ask) => call_records::status_of(&records(alloc, ask, store, out, err)),
         Call::Event(event) => event_made(alloc, event, store, out, err),
+    }
+}
+
+// The status of two versions side by side.
+fn compared(
+    alloc: Global,
+    both: &Versions<'_>,
+    store: &mut MemoryStore,
+    out: &mut MemorySink,
+    err: &mut MemorySink,
+) -> u8 {
+    let (Ok(mut old), Ok(mut new)) = (MemorySink::new(alloc, ROOM), MemorySink::new(alloc, ROOM))
+    else {
+        return MEMORY;
+    };
+    let status = status_of(study(alloc, &both.old, store, &mut old, err));
+    if status > DONE {
+        return status;
+    }
+    let status = status_of(study(alloc, &both.new, store, &mut new, err));
+    if status > DONE {
+        return status;
+    }
+    let Ok(found) = compare(alloc, old.written(), new.written()) else {
+        return MEMORY;
+    };
+    match put_all(out, found.text.as_slice()) {
+        Ok(()) => u8::from(found.is_lost),
+        Err(_) => MEMORY,
     }
 }
 

@@ -8,6 +8,6 @@ use Rattle.call_compare.proofs.told.push_gone_rows.Given as goal
 abbrev pub invariant-loop-was : goal.invariant-loop-was
 invariant-loop-was l =
     l.text.items ++ flat_map (told_gone (map fields_of l.both.old.now) (map fields_of l.both.new.now))
-      (map fields_of (drop l.was-index l.rows))
+    (map fields_of (drop l.was-index l.rows))
     ≡ l.fn.text.items ++ flat_map (told_gone (map fields_of l.both.old.now)
-      (map fields_of l.both.new.now)) (map fields_of l.rows)
+    (map fields_of l.both.new.now)) (map fields_of l.rows)

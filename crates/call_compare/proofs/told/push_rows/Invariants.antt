@@ -8,6 +8,6 @@ use Rattle.call_compare.proofs.told.push_rows.Given as goal
 abbrev pub invariant-loop-now : goal.invariant-loop-now
 invariant-loop-now l =
     l.text.items ++ flat_map (told_in l.group (map fields_of l.both.old.now)
-      (map fields_of l.both.new.now)) (map fields_of (drop l.now-index l.rows))
+    (map fields_of l.both.new.now)) (map fields_of (drop l.now-index l.rows))
     ≡ l.fn.text.items ++ flat_map (told_in l.group (map fields_of l.both.old.now)
-      (map fields_of l.both.new.now)) (map fields_of l.rows)
+    (map fields_of l.both.new.now)) (map fields_of l.rows)
