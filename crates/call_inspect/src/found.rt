@@ -19,7 +19,11 @@ use call_refused::too_long;
 use std::alloc::Global;
 
 /// What is found in a file, and the text that tells it.
-pub fn found_in(alloc: Global, ground: &Ground<'_, '_>, file: &GivenFile<'_>) -> Result<Linted, Memory>
+pub fn found_in(
+    alloc: Global,
+    ground: &Ground<'_, '_>,
+    file: &GivenFile<'_>,
+) -> Result<Linted, Memory>
     ensures found { IfOk result (λ linted. IsFound ground.now file.now linted.outcome) }
     ensures said { IfOk result (λ linted.
         IsSaid file.now.name.now (content file.now) linted.outcome linted.text.items) }

@@ -66,10 +66,7 @@ fn ground_by<'a, 'b>(
 }
 
 // A study is read, and its faults come to scripts.
-fn study_ground<'a, 'b>(
-    alloc: Global,
-    file: &'a GivenFile<'b>,
-) -> Result<Ground<'a, 'b>, Memory>
+fn study_ground<'a, 'b>(alloc: Global, file: &'a GivenFile<'b>) -> Result<Ground<'a, 'b>, Memory>
     ensures { IfOk result
         (IsGroundOf (IsNoStudy (content_of file.now)) (StudySays (content_of file.now))) }
 {

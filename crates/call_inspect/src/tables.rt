@@ -99,7 +99,12 @@ pub fn map_found(
     }
 }
 
-fn map_of(alloc: Global, own: &LineGround<'_, '_>, name: &str, bytes: &[u8]) -> Result<Linted, Memory>
+fn map_of(
+    alloc: Global,
+    own: &LineGround<'_, '_>,
+    name: &str,
+    bytes: &[u8],
+) -> Result<Linted, Memory>
     ensures found { IfOk result (λ linted.
         IsMapFound bytes.now own.now.line (scripts_in own.now.scripts) linted.outcome) }
     ensures said { IfOk result (λ linted.

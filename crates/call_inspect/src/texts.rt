@@ -124,7 +124,12 @@ pub fn trees_found(
     }
 }
 
-fn trees_of(alloc: Global, own: &LineGround<'_, '_>, name: &str, bytes: &[u8]) -> Result<Linted, Memory>
+fn trees_of(
+    alloc: Global,
+    own: &LineGround<'_, '_>,
+    name: &str,
+    bytes: &[u8],
+) -> Result<Linted, Memory>
     ensures found { IfOk result (λ linted.
         AreTreesFound bytes.now own.now.line (scripts_in own.now.scripts) linted.outcome) }
     ensures said { IfOk result (λ linted.
