@@ -111,10 +111,11 @@ fn map_of(
         IsSaid name.now bytes.now linted.outcome linted.text.items) }
 {
     match read_map(alloc, &own.line, bytes) {
-        Ok(_) => Ok(Linted::clean(alloc)),
-        Err(Stopped::Memory) => Err(Memory),
+        Ok(_map) => {}
+        Err(Stopped::Memory) => return Err(Memory),
         Err(Stopped::Fault(fault)) => {
-            Ok(Linted::refused(refused_map(alloc, name, bytes, &fault)?))
+            return Ok(Linted::refused(refused_map(alloc, name, bytes, &fault)?));
         }
     }
+    Ok(Linted::clean(alloc))
 }
