@@ -24,7 +24,7 @@ pub fn shown_on_output(rt: &HostRuntime, call: &Call<'_>, look: Look) -> Shown {
         Colors::Never => false,
         Colors::ByOutput => is_terminal && env::var(rt, "NO_COLOR").is_err(),
     };
-    shown(call, is_columns, is_colored)
+    told(call, is_columns, is_colored)
 }
 
 /// How it is told in a file.
@@ -37,10 +37,10 @@ pub fn shown_in_file(call: &Call<'_>, look: Look) -> Shown {
         Colors::Always => true,
         Colors::Never | Colors::ByOutput => false,
     };
-    shown(call, is_columns, is_colored)
+    told(call, is_columns, is_colored)
 }
 
-fn shown(call: &Call<'_>, is_columns: bool, is_colored: bool) -> Shown {
+fn told(call: &Call<'_>, is_columns: bool, is_colored: bool) -> Shown {
     if is_columns && is_table(call) {
         Shown::AsColumns { is_colored }
     } else {
