@@ -1,6 +1,7 @@
 pub mod Rows
 pub mod Table
 pub mod Settled
+pub mod Slacks
 pub mod Margins
 pub mod Written
 pub mod Recheck

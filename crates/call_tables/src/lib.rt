@@ -8,6 +8,7 @@ mod margins;
 mod recheck;
 mod row;
 mod rows;
+mod slacks;
 mod table;
 mod timings;
 mod told;
