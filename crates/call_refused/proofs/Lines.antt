@@ -1,5 +1,5 @@
 -- The bytes before a place in its line, one byte further.
-use Rattle.std.proofs.Common.{◌≡◌, ◌+◌, ◌==◌, ℕ, List, get_or, add-one, if◌then◌else◌, refl}
+use Rattle.std.proofs.Common.{◌≡◌, ◌+◌, ◌==◌, ℕ, List, get_or, add-one, if◌then◌else◌}
 use Rattle.call_refused.specs.places.Places.{before_in_line}
 
 pub one_byte_more : (bytes : List ℕ) (i : ℕ)

@@ -19,3 +19,4 @@ pub mod CertificateLines
 pub mod Statuses
 pub mod MatchLines
 pub mod MatchStatuses
+pub mod SizeLaws

@@ -1,6 +1,6 @@
 //! The laws of the program's own certificate.
 
-ghost use Rattle.std.specs.Prelude.{◌≡◌, ◌∷◌, ◌++◌, [], List, length};
+ghost use Rattle.std.specs.Prelude.{◌≡◌, ◌≤◌, ◌∷◌, ◌++◌, [], List, length};
 ghost use Rattle.std.specs.List.{All};
 ghost use Rattle.run_signal.specs.declared.tern.Tern.{Tern};
 ghost use Rattle.model_line.specs.{declared.line.Line.Line, declared.script.Script.Script};
@@ -20,7 +20,10 @@ ghost use Rattle.cert_own.specs.Certified.{IsCertified, AreCertified};
 
 use crate::known::laws_below;
 use cert_claims::check::a_fault_refuses_the_certificate;
-use cert_claims::text::{a_text_has_one_meaning, printed_claims_are_a_certificate};
+use cert_claims::text::{
+    a_certificate_is_its_parts, a_text_has_one_meaning, printed_claims_are_a_certificate,
+};
+use model_line::laws::parameters_are_numbered;
 
 /// Keys and verdicts that `certify` may answer for a script are what is certified of it, as
 /// `cert_piece` writes them.
@@ -105,4 +108,16 @@ pub fn each_script_has_one_certificate()
         a ≡ b }
 {
     laws_below();
+}
+
+/// The certificate of at most 64 scripts that fit, of whatever can be written of them, is no longer than one
+/// that is read may be.
+pub fn a_certificate_is_short()
+    ensures { (line : Line) (scripts : List Script) (claims : List Claims) → length scripts ≤ 64 →
+        length claims ≡ length scripts → All (Fits line) scripts →
+        All (CanBeWritten line) claims →
+        length (certificate_text line scripts claims) ≤ 4194304 }
+{
+    a_certificate_is_its_parts();
+    parameters_are_numbered();
 }

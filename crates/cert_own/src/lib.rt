@@ -17,8 +17,8 @@ pub use headline_laws::{
     what_is_accepted_is_true, what_is_certified_is_true, what_is_matched_is_true,
 };
 pub use laws::{
-    a_certificate_grows_by_parts, answers_are_certified, each_script_has_one_certificate,
-    what_is_certified_is_accepted,
+    a_certificate_grows_by_parts, a_certificate_is_short, answers_are_certified,
+    each_script_has_one_certificate, what_is_certified_is_accepted,
 };
 pub use piece::cert_piece;
 pub use split_laws::{

@@ -4,3 +4,4 @@ pub mod Steps
 pub mod Taken
 pub mod OneFile
 pub mod ReadBack
+pub mod Lengths

@@ -3,3 +3,4 @@ pub mod Earlier
 pub mod SoFarInside
 pub mod Standing
 pub mod TableLaws
+pub mod Lengths

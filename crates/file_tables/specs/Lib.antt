@@ -1,2 +1,3 @@
 pub mod script
 pub mod timing
+pub mod FieldLaws

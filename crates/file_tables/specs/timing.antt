@@ -6,4 +6,5 @@ pub mod Opened
 pub mod Timings
 pub mod Faults
 pub mod Printed
+pub mod StepCountLaws
 pub mod SoFarInside

@@ -11,6 +11,6 @@ mod reading;
 mod steps;
 
 pub use fault::TimingFault;
-pub use laws::timings_are_read_back;
+pub use laws::{a_file_of_timings_is_short, timings_are_read_back};
 pub use print::print_timings;
 pub use read::read_timings;

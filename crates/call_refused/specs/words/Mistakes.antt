@@ -1,5 +1,5 @@
 -- What the bytes of a file show that was not meant, whatever they say.
-use Rattle.std.specs.Prelude.{◌&&◌, ◌||◌, ◌==◌, ℕ, Bool, List, [], ◌∷◌, Option, Some, None, not, codes}
+use Rattle.std.specs.Prelude.{◌&&◌, ◌||◌, ℕ, Bool, List, [], ◌∷◌, Option, Some, None, not, codes}
 use Rattle.std.specs.Prelude.{if◌then◌else◌, nat_eq}
 use Rattle.std.specs.List.{starts_with}
 use Rattle.call_refused.specs.declared.words.mistake.Mistake.{Mistake}

@@ -36,3 +36,8 @@ fn scanned(alloc: Global, bytes: &[u8], path: &[u8]) -> Result<Scan, Memory> {
     }
     Ok(scan)
 }
+
+/// What closes the arrays and the inline tables that these bytes leave open, on a line of its own.
+pub fn closing_of(alloc: Global, bytes: &[u8]) -> Result<Vec<u8>, Memory> {
+    scanned(alloc, bytes, b"")?.closing(alloc)
+}

@@ -21,9 +21,9 @@ pub fn column(bytes: &[u8], at: usize) -> usize
     before_in_line(bytes, at) + 1
 }
 
-// How many bytes stand before it in its line.
+/// How many bytes stand before it in its line.
 #[tactic(auto, unfolding(crate::specs::places::Places::before_in_line), using(crate::proofs::Lines::one_byte_more))]
-fn before_in_line(bytes: &[u8], at: usize) -> usize
+pub fn before_in_line(bytes: &[u8], at: usize) -> usize
     requires { at ≤ length bytes.now }
     ensures is { result ≡ before_in_line bytes.now at }
     ensures within { result ≤ at }

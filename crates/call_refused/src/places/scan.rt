@@ -86,6 +86,17 @@ impl Scan {
         self.depth
     }
 
+    /// What closes the arrays and the inline tables that are open, the innermost first, on a line of its own.
+    pub fn closing(&self, alloc: Global) -> Result<Vec<u8>, Memory> {
+        let mut text = Vec::new(alloc);
+        text.push(b'\n')?;
+        for i in 0..self.open.len() {
+            let open = self.open[self.open.len() - 1 - i];
+            text.push(if open.item.is_some() { b']' } else { b'}' })?;
+        }
+        Ok(text)
+    }
+
     /// Reads the byte at this place, where a key of this path is looked for.
     pub fn read(
         &mut self,

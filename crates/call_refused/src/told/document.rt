@@ -1,7 +1,7 @@
 //! Of a TOML document that is refused.
 
 ghost use Rattle.std.specs.Prelude.{◌≤◌, IfOk, length};
-ghost use Rattle.call_refused.specs.told.Told.{IsToldAt};
+ghost use Rattle.call_refused.specs.told.Told.{IsToldAt, IsToldOn};
 
 use crate::places::{joint, last_key, toml_place};
 use crate::told::one_line::told;
@@ -22,7 +22,8 @@ pub fn at_key(
     said: Said<'_>,
 ) -> Result<Vec<u8>, Memory>
     requires { at ≤ length bytes.now }
-    ensures { IfOk result (λ text. IsToldAt name.now bytes.now text.items) }
+    ensures told { IfOk result (λ text. IsToldAt name.now bytes.now text.items) }
+    ensures on { IfOk result (λ text. IsToldOn name.now bytes.now at text.items) }
 {
     let [first, second, third] = said.write;
     let more: [&[u8]; 8] = [
@@ -50,7 +51,8 @@ pub fn unknown_key(
     others: &str,
 ) -> Result<Vec<u8>, Memory>
     requires { at ≤ length bytes.now }
-    ensures { IfOk result (λ text. IsToldAt name.now bytes.now text.items) }
+    ensures told { IfOk result (λ text. IsToldAt name.now bytes.now text.items) }
+    ensures on { IfOk result (λ text. IsToldOn name.now bytes.now at text.items) }
 {
     let key = last_key(path);
     let mut write = Vec::new(alloc);

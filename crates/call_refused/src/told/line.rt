@@ -1,9 +1,10 @@
 //! Of a line file that is refused.
 
-ghost use Rattle.std.specs.Prelude.{IfOk};
-ghost use Rattle.call_refused.specs.told.Told.{IsToldAt};
+ghost use Rattle.std.specs.Prelude.{IfOk, IfSome};
+ghost use Rattle.file_document.specs.Faults.{place_of};
+ghost use Rattle.call_refused.specs.told.Told.{IsToldAt, IsToldOf};
 
-use crate::places::place_of_key;
+use crate::places::{place_of_fault, place_of_key};
 use crate::told::document::{at_key, refused_toml, unknown_key};
 use crate::words::lines::line_said;
 use crate::words::near::line_keys;
@@ -20,7 +21,10 @@ pub fn refused_line(
     bytes: &[u8],
     fault: &DocumentFault,
 ) -> Result<Vec<u8>, Memory>
-    ensures { IfOk result (λ text. IsToldAt name.now bytes.now text.items) }
+    ensures told { IfOk result (λ text. IsToldAt name.now bytes.now text.items) }
+    // It tells of the place of what the fault names.
+    ensures own { IfOk result (λ text. IfSome (place_of fault.now) (λ path.
+        IsToldOf name.now bytes.now path text.items)) }
 {
     match fault.place() {
         Some(path) => refused_key(alloc, name, bytes, fault, path.bytes()),
@@ -38,9 +42,10 @@ fn refused_key(
     fault: &DocumentFault,
     path: &[u8],
 ) -> Result<Vec<u8>, Memory>
-    ensures { IfOk result (λ text. IsToldAt name.now bytes.now text.items) }
+    ensures told { IfOk result (λ text. IsToldAt name.now bytes.now text.items) }
+    ensures own { IfOk result (λ text. IsToldOf name.now bytes.now path.now text.items) }
 {
-    let at = place_of_key(alloc, bytes, path)?;
+    let at = place_of_fault(alloc, bytes, path)?;
     match fault {
         DocumentFault::Unknown(_) => unknown_key(alloc, name, bytes, at, path, line_keys(path), ""),
         _ => at_key(alloc, name, bytes, at, path, line_said(fault, path)),

@@ -1,7 +1,7 @@
 //! One line of a place and of what is wrong there.
 
 ghost use Rattle.std.specs.Prelude.{◌≡◌, ◌≤◌, ◌<◌, ◌++◌, IfOk, OnOk, length, map};
-ghost use Rattle.call_refused.specs.told.Told.{IsToldAt, is_control, within_line, place_text};
+ghost use Rattle.call_refused.specs.told.Told.{IsToldAt, IsToldOn, is_control, within_line, place_text};
 
 use crate::places::{column, line_number};
 use base_memory::Memory;
@@ -21,7 +21,8 @@ pub fn told(
 ) -> Result<Vec<u8>, Memory>
     requires within { at ≤ length bytes.now }
     requires some { 0 < length rule.now }
-    ensures { IfOk result (λ text. IsToldAt name.now bytes.now text.items) }
+    ensures told { IfOk result (λ text. IsToldAt name.now bytes.now text.items) }
+    ensures on { IfOk result (λ text. IsToldOn name.now bytes.now at text.items) }
 {
     let mut text = Vec::new(alloc);
     push_place(&mut text, name, bytes, at)?;

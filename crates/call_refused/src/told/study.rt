@@ -1,9 +1,10 @@
 //! Of a study that is refused, and of a map of recorders.
 
-ghost use Rattle.std.specs.Prelude.{◌≤◌, IfOk, length};
-ghost use Rattle.call_refused.specs.told.Told.{IsToldAt};
+ghost use Rattle.std.specs.Prelude.{◌≤◌, IfOk, IfSome, length};
+ghost use Rattle.file_document.specs.Faults.{place_of};
+ghost use Rattle.call_refused.specs.told.Told.{IsToldAt, IsToldOf};
 
-use crate::places::place_of_key;
+use crate::places::{place_of_fault, place_of_key};
 use crate::told::document::{at_key, refused_toml, unknown_key};
 use crate::words::maps::{map_keys, map_others, map_said};
 use crate::words::near::study_keys;
@@ -22,7 +23,10 @@ pub fn refused_study(
     bytes: &[u8],
     fault: &DocumentFault,
 ) -> Result<Vec<u8>, Memory>
-    ensures { IfOk result (λ text. IsToldAt name.now bytes.now text.items) }
+    ensures told { IfOk result (λ text. IsToldAt name.now bytes.now text.items) }
+    // It tells of the place of what the fault names.
+    ensures own { IfOk result (λ text. IfSome (place_of fault.now) (λ path.
+        IsToldOf name.now bytes.now path text.items)) }
 {
     match fault.place() {
         Some(path) => refused_key(alloc, name, bytes, fault, path.bytes()),
@@ -37,9 +41,10 @@ fn refused_key(
     fault: &DocumentFault,
     path: &[u8],
 ) -> Result<Vec<u8>, Memory>
-    ensures { IfOk result (λ text. IsToldAt name.now bytes.now text.items) }
+    ensures told { IfOk result (λ text. IsToldAt name.now bytes.now text.items) }
+    ensures own { IfOk result (λ text. IsToldOf name.now bytes.now path.now text.items) }
 {
-    let at = place_of_key(alloc, bytes, path)?;
+    let at = place_of_fault(alloc, bytes, path)?;
     match fault {
         DocumentFault::Unknown(_) => {
             unknown_key(alloc, name, bytes, at, path, study_keys(path), others(path))
@@ -60,6 +65,34 @@ fn others(path: &[u8]) -> &'static str {
     }
 }
 
+// The line of a fault of a map, which names this path.
+fn refused_map_key(
+    alloc: Global,
+    name: &str,
+    bytes: &[u8],
+    fault: &DocumentFault,
+    path: &[u8],
+) -> Result<Vec<u8>, Memory>
+    ensures told { IfOk result (λ text. IsToldAt name.now bytes.now text.items) }
+    ensures own { IfOk result (λ text. IsToldOf name.now bytes.now path.now text.items) }
+{
+    let at = place_of_fault(alloc, bytes, path)?;
+    match fault {
+        DocumentFault::Unknown(_) => {
+            unknown_key(
+                alloc,
+                name,
+                bytes,
+                at,
+                path,
+                map_keys(path),
+                map_others(path),
+            )
+        }
+        _ => at_key(alloc, name, bytes, at, path, map_said(fault, path)),
+    }
+}
+
 /// The line of a fault of a map of recorders.
 pub fn refused_map(
     alloc: Global,
@@ -67,27 +100,13 @@ pub fn refused_map(
     bytes: &[u8],
     fault: &DocumentFault,
 ) -> Result<Vec<u8>, Memory>
-    ensures { IfOk result (λ text. IsToldAt name.now bytes.now text.items) }
+    ensures told { IfOk result (λ text. IsToldAt name.now bytes.now text.items) }
+    // It tells of the place of what the fault names.
+    ensures own { IfOk result (λ text. IfSome (place_of fault.now) (λ path.
+        IsToldOf name.now bytes.now path text.items)) }
 {
     match fault.place() {
-        Some(path) => {
-            let path = path.bytes();
-            let at = place_of_key(alloc, bytes, path)?;
-            match fault {
-                DocumentFault::Unknown(_) => {
-                    unknown_key(
-                        alloc,
-                        name,
-                        bytes,
-                        at,
-                        path,
-                        map_keys(path),
-                        map_others(path),
-                    )
-                }
-                _ => at_key(alloc, name, bytes, at, path, map_said(fault, path)),
-            }
-        }
+        Some(path) => refused_map_key(alloc, name, bytes, fault, path.bytes()),
         None => refused_toml(alloc, name, bytes),
     }
 }

@@ -141,7 +141,7 @@ const STUDY: &[Rule] = &[
 const FAULT: &[Rule] = &[
     Rule {
         key: "fault",
-        what: "a fault is a table of a list",
+        what: "a study has 1 to 1000 faults, each a table of a list",
         write: "[[fault]] before each",
     },
     Rule {

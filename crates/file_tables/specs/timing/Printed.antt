@@ -51,3 +51,8 @@ pub record AreOfOneFile (timings : List NamedValues) : Type 0 where
   pub few : length timings ≤ 16
   pub once : (j k : ℕ) → j < k → k < length timings
       → get_or (map (λ t. t.name) timings) j [] ≢ get_or (map (λ t. t.name) timings) k []
+
+-- how many steps these timings have
+abbrev pub steps_in : List NamedValues → ℕ
+steps_in [] = 0
+steps_in (t ∷ timings) = length t.timing.steps + steps_in timings

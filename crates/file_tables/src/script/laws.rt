@@ -2,7 +2,7 @@
 
 ghost use Rattle.std.specs.Prelude.{◌≡◌, ℕ, List, Ok};
 ghost use Rattle.model_line.specs.declared.line.Line.{Line};
-ghost use Rattle.file_tables.specs.script.ReadBack.{AreReadBack};
+ghost use Rattle.file_tables.specs.script.ReadBack.{AreReadBack, AreShort};
 ghost use Rattle.file_tables.specs.{script.Scripts.scripts_of, script.Values.AreOfOneFile, script.Values.ScriptValues};
 
 /// The scripts that a file says are as many as one may hold, no two of one name.
@@ -14,4 +14,9 @@ pub fn a_file_says_scripts_of_one_file()
 /// What is printed of scripts that fit a line and may stand in one file is read back as them.
 pub fn printed_scripts_are_read_back()
     ensures { AreReadBack }
+{}
+
+/// What is printed of at most 64 scripts that fit a line is no longer than a file of scripts may be.
+pub fn a_file_of_scripts_is_short()
+    ensures { AreShort }
 {}

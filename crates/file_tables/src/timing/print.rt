@@ -7,12 +7,12 @@ ghost use Rattle.model_line.specs.Parameters.{param_count};
 ghost use Rattle.file_tables.specs.script.Printed.{records_text};
 ghost use Rattle.file_tables.specs.timing.Printed.{number_record, number_records, step_record};
 ghost use Rattle.file_tables.specs.timing.Printed.{timing_records, file_records, MayStand};
-ghost use Rattle.file_tables.specs.timing.Printed.{AreOfOneFile};
+ghost use Rattle.file_tables.specs.timing.Printed.{AreOfOneFile, steps_in};
 ghost use Rattle.model_timing.specs.{declared.step.Step.Step};
 ghost use Rattle.model_timing.specs.NamedValues.{values_of};
 ghost use Rattle.file_tables.specs.timing.Timings.{timings_of};
 
-use crate::timing::laws::timings_are_read_back;
+use crate::timing::laws::{a_file_of_timings_is_short, timings_are_read_back};
 use base_records::{Memory, push_record};
 use base_text::pieces::text_of;
 use itoa::Buffer;
@@ -33,7 +33,13 @@ pub fn print_timings(alloc: Global, line: &Line, timings: &[NamedTiming]) -> Res
     // It is read back as the same timings.
     ensures read_back { IfOk result (λ v. timings_of line.now v.items
         ≡ Ok (map values_of timings.now)) }
+
+    // One of at most two timings, or of few steps, is no longer than a file that is read may be.
+    ensures two { IfOk result (λ v. length timings.now ≤ 2 → length v.items ≤ 4194304) }
+    ensures few_steps { IfOk result (λ v. steps_in (map values_of timings.now) ≤ 61000 →
+        length v.items ≤ 4194304) }
 {
+    a_file_of_timings_is_short();
     timings_are_read_back();
     delays_are_parameters();
     let mut text = Vec::new(alloc);
