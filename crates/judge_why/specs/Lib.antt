@@ -1,0 +1,5 @@
+pub mod Plays
+pub mod Facts
+pub mod Causes
+pub mod Reasons
+pub mod PlayLaws
