@@ -1,3 +1,3 @@
 pub mod MovedBack
-pub mod SharedMiddles
-pub mod Joined
+pub mod SharedEnds
+pub mod Within

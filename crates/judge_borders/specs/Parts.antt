@@ -2,11 +2,12 @@
 use Rattle.std.specs.Prelude.{◌≡◌, ◌≤◌, ◌<◌, ◌+◌, ◌*◌, ℕ, Bool, List, length, get_or}
 use Rattle.model_history.specs.Rails.{Ends, single}
 use Rattle.model_line.specs.declared.line.Line.{Line}
-use Rattle.model_line.specs.Parameters.{channel_count, param_count, delay_param}
+use Rattle.model_line.specs.Parameters.{channel_count, param_count, delay_param, terminal_count}
 use Rattle.model_logic.specs.{Choice.Choice, Choice.Box, Histories.History, Histories.MeetsBy}
 use Rattle.model_fine.specs.{Fine.IsFineWithin, Loose.IsShownHistory}
 use Rattle.model_borders.specs.Borders.{stands, AreLengthsIn, shown_at}
 use Rattle.run_borders.specs.LooseRuns.{steady_box}
+use Rattle.judge_verdict.specs.verdict.OneEach.{OneEach}
 use Rattle.judge_borders.specs.declared.fault.Fault.{Fault}
 use Rattle.judge_borders.specs.declared.fault.PartRule.{PartRule}
 use Rattle.judge_borders.specs.declared.fault.PartRule.TheVariants.{Held, Broken, Open}
@@ -54,3 +55,7 @@ RuleSays fault part k Held =
 RuleSays fault part k Broken =
     ForEachHistory fault part (λ n x h. ¬ (MeetsAt n x fault (length part) (h.trip k)))
 RuleSays fault part k Open = Unit {0}
+
+-- a rule for each terminal
+abbrev pub AreRules : Fault → List Ends → List PartRule → Type 0
+AreRules fault part rules = OneEach (RuleSays fault part) (terminal_count (line_of fault)) rules

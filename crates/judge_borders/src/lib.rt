@@ -1,15 +1,14 @@
 //! Faults whose times are not known to a tick: what the interval rules say of a part of the times, an
-//! interval for each, where one border stands still.
+//! interval for each, where one border stands still; and parts that differ in one time, which share an end.
 #![tactic(auto)]
 
-mod answered;
 mod fault;
+pub mod laws;
 mod middles;
 mod parts;
 mod ruled;
 mod view;
 
-pub use answered::{Part, answers};
 pub use fault::{Asked, Fault, PartRule};
-pub use middles::{TwoParts, halves};
-pub use parts::{part_answer, part_rule};
+pub use middles::{TwoParts, halves, parted};
+pub use parts::{no_rules, part_rules, rules_at, some_open};

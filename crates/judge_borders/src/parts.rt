@@ -1,8 +1,8 @@
-//! The rule of a part: with one border that stands still, and with each in turn.
+//! The rules of a part: with one border that stands still, and with each in turn.
 
-ghost use Rattle.std.specs.Prelude.{◌≤◌, ◌<◌, length, IfOk};
+ghost use Rattle.std.specs.Prelude.{◌≡◌, ◌≤◌, ◌<◌, ◌⊎◌, Some, length, slice_get, IfOk};
 ghost use Rattle.model_line.specs.Parameters.{terminal_count};
-ghost use Rattle.judge_borders.specs.Parts.{CanAsk, IsPart, RuleSays, line_of};
+ghost use Rattle.judge_borders.specs.Parts.{AreRules, CanAsk, IsPart, line_of};
 
 use crate::fault::{Fault, PartRule};
 use crate::ruled::rule_at;
@@ -16,20 +16,20 @@ use run_borders::{LooseRun, loose_waves};
 use run_signal::Within;
 use std::alloc::Global;
 
-/// What the interval rules say of a terminal over a part, an interval for each length that is not known, where one
-/// border stands still: of all lengths of the part, in fractions of a tick too. It is open where what is asked goes
-/// past the horizon, as it may where another border than the first stands still.
-pub fn part_rule(
+/// What the interval rules say of each terminal over a part, an interval for each length that is not known, where
+/// one border stands still: of all lengths of the part, in fractions of a tick too. What is known already stays. It
+/// is open where what is asked goes past the horizon, as it may where another border than the first stands still.
+pub fn rules_at(
     alloc: Global,
     fault: &Fault<'_>,
     part: &[Within],
     still: u32,
-    terminal: u32,
-) -> Result<PartRule, Memory>
+    known: &[PartRule],
+) -> Result<Vec<PartRule>, Memory>
     requires fault { CanAsk fault.now }
     requires part { IsPart part.now }
-    requires terminal { terminal < terminal_count (line_of fault.now) }
-    ensures { IfOk result (λ rule. RuleSays fault.now part.now terminal rule) }
+    requires known { AreRules fault.now part.now known.now }
+    ensures { IfOk result (λ rules. AreRules fault.now part.now rules.items) }
 {
     history_laws();
     histories_shift();
@@ -45,36 +45,78 @@ pub fn part_rule(
     };
     let waves = loose_waves(alloc, &run)?;
     let view = view_of(fault, part, still, place);
-    let rule = rule_at(&run, waves.as_slice(), terminal, fault.asked, view);
-    Ok(rule)
+    let mut rules = Vec::new(alloc);
+    for k in 0..fault.compiled.line.terminals.len() {
+        let rule = rule_at(&run, waves.as_slice(), k as u32, fault.asked, view);
+        let said = said_of(known, k);
+        rules.push(kept(said, rule))?;
+    }
+    Ok(rules)
 }
 
-/// The same with each border in turn, until one tells; open where none does.
-pub fn part_answer(
+/// The same with each border in turn, until all is known. Each run over the line is counted.
+pub fn part_rules(
     alloc: Global,
     fault: &Fault<'_>,
     part: &[Within],
-    terminal: u32,
-) -> Result<PartRule, Memory>
+    known: &[PartRule],
+    runs: &mut u32,
+) -> Result<Vec<PartRule>, Memory>
     requires fault { CanAsk fault.now }
     requires part { IsPart part.now }
-    requires terminal { terminal < terminal_count (line_of fault.now) }
+    requires known { AreRules fault.now part.now known.now }
     requires borders { length fault.now.script.now.borders.items ≤ 100 }
-    ensures { IfOk result (λ rule. RuleSays fault.now part.now terminal rule) }
+    ensures { IfOk result (λ rules. AreRules fault.now part.now rules.items) }
 {
+    let mut rules = Vec::from_slice(alloc, known)?;
     for still in 0..fault.script.borders.len() as u32 {
-        let rule = part_rule(alloc, fault, part, still, terminal)?;
-        if tells(rule) {
-            return Ok(rule);
+        if !some_open(rules.as_slice()) {
+            return Ok(rules);
         }
+        rules = rules_at(alloc, fault, part, still, rules.as_slice())?;
+        *runs = runs.saturating_add(1);
     }
-    Ok(PartRule::Open)
+    Ok(rules)
 }
 
-// Whether it is held or broken.
-fn tells(rule: PartRule) -> bool {
+/// Nothing is known of any terminal.
+pub fn no_rules(alloc: Global, fault: &Fault<'_>, part: &[Within]) -> Result<Vec<PartRule>, Memory>
+    ensures { IfOk result (λ rules. AreRules fault.now part.now rules.items) }
+{
+    let mut rules = Vec::new(alloc);
+    for i in 0..fault.compiled.line.terminals.len() {
+        let _terminal = i;
+        rules.push(PartRule::Open)?;
+    }
+    Ok(rules)
+}
+
+// What is known of a terminal.
+fn said_of(known: &[PartRule], terminal: usize) -> PartRule
+    requires { terminal < length known.now }
+    ensures { slice_get known.now terminal ≡ Some result }
+{
+    known[terminal]
+}
+
+// What is known, or else the rule.
+fn kept(known: PartRule, rule: PartRule) -> PartRule
+    ensures { (result ≡ known) ⊎ (result ≡ rule) }
+{
+    match known {
+        PartRule::Open => rule,
+        PartRule::Held | PartRule::Broken => known,
+    }
+}
+
+/// Whether of some terminal nothing is known.
+pub fn some_open(rules: &[PartRule]) -> bool {
+    rules.iter().any(|rule| is_open(*rule))
+}
+
+fn is_open(rule: PartRule) -> bool {
     match rule {
-        PartRule::Held | PartRule::Broken => true,
-        PartRule::Open => false,
+        PartRule::Open => true,
+        PartRule::Held | PartRule::Broken => false,
     }
 }

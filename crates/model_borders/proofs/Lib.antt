@@ -5,3 +5,4 @@ pub mod LaterTrees
 pub mod LengthSums
 pub mod Places
 pub mod LiesBetween
+pub mod Leasts

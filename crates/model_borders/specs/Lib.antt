@@ -1,3 +1,4 @@
 pub mod Later
 pub mod Borders
 pub mod Between
+pub mod Least

@@ -1,4 +1,0 @@
-use Rattle.judge_borders.proofs.answered.+answer_into.Given as goal
-
-abbrev pub decreases-answer_into : goal.decreases-answer_into
-decreases-answer_into l = l.depth
