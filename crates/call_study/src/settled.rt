@@ -4,6 +4,7 @@ ghost use Rattle.std.specs.Prelude.{◌≡◌, ◌∷◌, [], IfOk, length};
 ghost use Rattle.model_line.specs.declared.script.Script.{Script};
 ghost use Rattle.call_answer.specs.{Answers.Says, Study.IsStudy};
 ghost use Rattle.call_study.specs.Settled.{failing_answer, trees_answer};
+ghost use Rattle.call_tables.specs.Whole.{IsWhole};
 
 use call_answer::{Said, Study};
 use call_tables::{settle_all, settle_timings, settle_trees, table_of};
@@ -13,7 +14,7 @@ use std::alloc::Global;
 /// The trees and timings by which all obligations are settled, each with at most so many analyses;
 /// the status is that of their table.
 pub fn trees_said(alloc: Global, study: &Study, analyses: u32) -> Result<Said, Memory>
-    requires { IsStudy study.now }
+    requires { IsWhole study.now }
     ensures { IfOk result (Says (trees_answer study.now.line study.now.scripts.items)) }
 {
     let rows = settle_all(alloc, study, analyses)?;

@@ -1,8 +1,9 @@
 //! The margins of all times.
 
 ghost use Rattle.std.specs.Prelude.{◌≡◌, IfOk};
-ghost use Rattle.call_answer.specs.{Answers.Says, Study.IsStudy};
+ghost use Rattle.call_answer.specs.Answers.{Says};
 ghost use Rattle.call_tables.specs.Margins.{margins_answer, status_with};
+ghost use Rattle.call_tables.specs.Whole.{IsWhole};
 
 use crate::slacks::slacks_text;
 use call_answer::{Done, Said, Study};
@@ -18,7 +19,7 @@ use std::alloc::Global;
 /// inward it has to be moved so that each obligation is held that is not, where some move of it
 /// holds any. Status 2 where some obligation is not held today.
 pub fn margins_table(alloc: Global, study: &Study) -> Result<Said, Memory>
-    requires { IsStudy study.now }
+    requires { IsWhole study.now }
     ensures { IfOk result
         (Says (margins_answer study.now.line study.now.scripts.items)) }
 {

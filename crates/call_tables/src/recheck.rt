@@ -2,8 +2,9 @@
 
 ghost use Rattle.std.specs.Prelude.{◌≡◌, IfOk};
 ghost use Rattle.std.specs.List.{concat};
-ghost use Rattle.call_answer.specs.{Answers.Says, Study.IsStudy};
+ghost use Rattle.call_answer.specs.Answers.{Says};
 ghost use Rattle.call_tables.specs.Recheck.{recheck_answer, rejected_pieces, refused_pieces};
+ghost use Rattle.call_tables.specs.Whole.{IsWhole};
 
 use base_memory::{Memory, Stopped};
 use call_answer::{Said, Study, text_of};
@@ -18,7 +19,7 @@ use std::alloc::Global;
 /// The counts of what the obligations come to where the settled trees are accepted, and their first
 /// fault where they are rejected: then status 3.
 pub fn recheck_settled(alloc: Global, study: &Study, trees: &[u8]) -> Result<Said, Memory>
-    requires { IsStudy study.now }
+    requires { IsWhole study.now }
     ensures { IfOk result
         (Says (recheck_answer study.now.line study.now.scripts.items trees.now)) }
 {

@@ -6,8 +6,8 @@ ghost use Rattle.cert_claims.specs.declared.check.counts.Counts.{Counts};
 ghost use Rattle.cert_settle.specs.{Grammar.HasOneEach, Grammar.fails, Text.part_text};
 ghost use Rattle.cert_settle.specs.Reading.{result_in};
 ghost use Rattle.cert_settle.specs.Check.{IsAccepted};
-ghost use Rattle.call_answer.specs.Study.{IsStudy};
-ghost use Rattle.call_tables.specs.{Rows.AreRows, Written.result_of, Written.results_of};
+ghost use Rattle.call_tables.specs.{Rows.AreRows, Whole.IsWhole};
+ghost use Rattle.call_tables.specs.{Written.result_of, Written.results_of};
 ghost use Rattle.call_tables.specs.Written.{rows_of as rows_of_script, trees_text};
 
 use crate::laws::{rows_are_printable, what_settle_writes_is_accepted};
@@ -25,7 +25,7 @@ use std::alloc::Global;
 /// The text of the trees and failing timings of these rows, script by script: what `check_settle`
 /// takes.
 pub fn settle_trees(alloc: Global, study: &Study, rows: &[Row]) -> Result<Vec<u8>, Memory>
-    requires study { IsStudy study.now }
+    requires study { IsWhole study.now }
     requires rows { AreRows study.now.line study.now.scripts.items rows.now }
     ensures text { IfOk result (λ text. text.items
         ≡ trees_text study.now.line study.now.scripts.items rows.now) }
