@@ -87,6 +87,8 @@ pub enum Table {
     Faults { analyses: u32 },
     /// What each external fault has to spare at each terminal, as what ends and what begins.
     Races,
+    /// Why the first obligation that fails does so, with at most so many analyses for each obligation.
+    Why { analyses: u32 },
     /// The line, as a line file.
     Line,
     /// The part of this number of its scripts, 64 a part, as a scripts file. The first is 1.

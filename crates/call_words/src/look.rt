@@ -74,7 +74,7 @@ fn colors_of<'a>(own: &ArgMatches<'a>) -> Result<Colors, WordFault<'a>> {
 fn may_be_table(call: &Call<'_>) -> bool {
     match call {
         Call::Study(ask) => match ask.work {
-            Work::Table(Table::Line | Table::Part(_)) => false,
+            Work::Table(Table::Line | Table::Part(_) | Table::Why { .. }) => false,
             Work::Table(_) | Work::Timings { .. } | Work::Explain { .. } | Work::Choose(_) => true,
             Work::Bands { .. }
             | Work::Play { .. }
@@ -108,7 +108,7 @@ fn is_table_of(work: Work<'_>) -> bool {
             | Table::Verdicts { .. }
             | Table::Faults { .. }
             | Table::Races => true,
-            Table::Trees { .. } | Table::Line | Table::Part(_) => false,
+            Table::Trees { .. } | Table::Why { .. } | Table::Line | Table::Part(_) => false,
         },
         Work::Explain { form, .. } => match form {
             ExplainForm::Changes => true,

@@ -8,7 +8,7 @@ use std::alloc::{AllocError, Global};
 const VERSION: &str = "0.31.0";
 
 // What the help says behind the commands.
-const AFTER: &str = "Answer:    verdicts, compare, lint, settle, recheck, explain
+const AFTER: &str = "Answer:    verdicts, why, compare, lint, settle, recheck, explain
 Choose:    choose, margins, races, map
 Show:      page, bands, run, vcd
 Exchange:  lines, scripts, comtrade
@@ -303,6 +303,13 @@ const ANSWERS: &[Word] = &[
         about: "Whether each fault is met at each terminal, script by script, in milliseconds (CSV)",
         files: STUDY,
         options: &[FAULTS, ANALYSES, TABLE, CSV, COLOR],
+        in_three: false,
+    },
+    Word {
+        name: "why",
+        about: "Why the first obligation that fails does so: a choice of times, and what waits for what",
+        files: STUDY,
+        options: &[ANALYSES],
         in_three: false,
     },
     Word {

@@ -246,6 +246,7 @@ fn work_of<'a>(
         "recheck" => Work::Recheck { trees: *last },
         "margins" => Work::Table(Table::Margins),
         "races" => Work::Table(Table::Races),
+        "why" => Work::Table(Table::Why { analyses }),
         "run" => played(own, *last, diagram(own)),
         "vcd" => played(own, *last, Form::Dump),
         _ => Work::Bands {
