@@ -1,5 +1,5 @@
 -- The records of slacks, one end more; and the obligations that are not held today.
-use Rattle.std.proofs.Common.{◌≡◌, ◌<◌, ◌+◌, ◌++◌, ◌∙◌, ℕ, List, ap, sym, add-one, append_assoc}
+use Rattle.std.proofs.Common.{◌≡◌, ◌+◌, ◌++◌, ◌∙◌, ℕ, List, ap, sym, add-one, append_assoc}
 use Rattle.std.specs.Prelude.{slice_get}
 use Rattle.model_line.specs.{declared.line.Line.Line, declared.script.Script.Script}
 use Rattle.judge_report.specs.declared.upper_end.Lost.{Lost}

@@ -1,4 +1,4 @@
-use Rattle.std.proofs.Common.{◌≡◌, ◌++◌, ◌∙◌, ℕ, List, [], length, ap, arith}
+use Rattle.std.proofs.Common.{◌≡◌, ◌++◌, ◌∙◌, ℕ, length, ap, arith}
 use Rattle.csv.specs.Writing.{row_text, default_writer}
 use Rattle.call_tables.specs.Slacks.{slack_rows, slacks_header}
 use Rattle.call_tables.proofs.SlackLaws.{rows_more}
