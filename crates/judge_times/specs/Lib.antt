@@ -1,0 +1,5 @@
+pub mod Scripts
+pub mod Answers
+pub mod Ends
+pub mod Told
+pub mod Nexts
