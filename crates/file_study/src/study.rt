@@ -17,7 +17,7 @@ mod ticks;
 mod units;
 
 pub use print::line_text;
-pub use read::read_study;
+pub use read::{read_loose_study, read_study};
 pub use stage::{Shown, Stage, SweptFault};
 pub use study::Study;
 pub use units::Units;

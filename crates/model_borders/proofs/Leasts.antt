@@ -1,17 +1,17 @@
 -- The spans at the least lengths of a part show what is shown there.
-use Rattle.std.proofs.Common.{◌≡◌, ◌<◌, ◌≤◌, ◌+◌, ◌*◌, ◌&&◌, ◌||◌, ◌++◌, ℕ, Bool, true, false, List, [], ◌∷◌}
+use Rattle.std.proofs.Common.{◌≡◌, ◌<◌, ◌+◌, ◌*◌, ◌&&◌, ◌||◌, ◌++◌, ℕ, Bool, true, false, List, [], ◌∷◌}
 use Rattle.std.proofs.Common.{length, refl, sym, ap, arith, ◌∙◌}
 use Rattle.std.proofs.lemmas.List.{append-nil, take_more}
 use Rattle.std.proofs.lemmas.Grind.{flat_map-append}
 use Rattle.std.specs.Prelude.{get_or, nat_le, nat_lt, take, if◌then◌else◌}
 use Rattle.std.specs.List.{list_any}
 use Rattle.model_history.specs.Rails.{Ends, single}
-use Rattle.model_line.specs.Seen.{is_of_place, is_of_loss, is_seen, is_lost, shows, loses}
-use Rattle.model_line.specs.declared.script.{Place.Place, SeenSpan.SeenSpan, What.What}
+use Rattle.model_line.specs.Seen.{is_of_place, is_of_loss}
+use Rattle.model_line.specs.declared.script.{SeenSpan.SeenSpan, What.What}
 use Rattle.model_borders.specs.Borders.{alone, earliest_alone, fixed_in, holds_at, shown_at, stands}
 use Rattle.model_borders.specs.Borders.{sum_below, times_in}
 use Rattle.model_borders.specs.declared.script.{Border.Border, LooseScript.LooseScript, LooseSpan.LooseSpan}
-use Rattle.model_borders.specs.Least.{ShowTheLeast, least_lengths, least_span, least_spans, least_tick, with_tick}
+use Rattle.model_borders.specs.Least.{ShowTheLeast, least_lengths, least_span, least_spans, with_tick}
 
 pub stands_least : (borders : List Border) (part : List Ends) (b : ℕ)
     → earliest_alone borders part b ≡ stands 1 borders (length part) (least_lengths part) b

@@ -83,18 +83,18 @@ pub lost_more : (line : LineValues) (path : List ℕ) (i : ℕ) (vs : List Value
 unfolding all_lost
 lost_more line path i vs d done h = rw (items_view-drop vs i d h)
 
-pub stages_more : (kind : Kind) (units : Units) (line : LineValues) (path : List ℕ) (i : ℕ)
+pub stages_more : (loose : Bool) (kind : Kind) (units : Units) (line : LineValues) (path : List ℕ) (i : ℕ)
     (vs : List Value) (d : Value) (done : List StageValues) → i < length vs
-    → (stage_at kind units line (numbered path i) (view (get_or vs i d)) >>= λ stage.
-    stages_in kind units line path (i + 1) (items_view (drop (i + 1) vs)) (done ++ stage ∷ []))
-    ≡ stages_in kind units line path i (items_view (drop i vs)) done
+    → (stage_at loose kind units line (numbered path i) (view (get_or vs i d)) >>= λ stage.
+    stages_in loose kind units line path (i + 1) (items_view (drop (i + 1) vs)) (done ++ stage ∷ []))
+    ≡ stages_in loose kind units line path i (items_view (drop i vs)) done
 unfolding stages_in
-stages_more kind units line path i vs d done h = rw (items_view-drop vs i d h)
+stages_more loose kind units line path i vs d done h = rw (items_view-drop vs i d h)
 
-pub faults_more : (units : Units) (line : LineValues) (path : List ℕ) (i : ℕ) (vs : List Value)
+pub faults_more : (loose : Bool) (units : Units) (line : LineValues) (path : List ℕ) (i : ℕ) (vs : List Value)
     (d : Value) (done : List FaultValues) → i < length vs
-    → (fault_at units line (numbered path i) (fault_names done) (view (get_or vs i d)) >>= λ new.
-    faults_in units line path (i + 1) (items_view (drop (i + 1) vs)) (done ++ new ∷ []))
-    ≡ faults_in units line path i (items_view (drop i vs)) done
+    → (fault_at loose units line (numbered path i) (fault_names done) (view (get_or vs i d)) >>= λ new.
+    faults_in loose units line path (i + 1) (items_view (drop (i + 1) vs)) (done ++ new ∷ []))
+    ≡ faults_in loose units line path i (items_view (drop i vs)) done
 unfolding faults_in
-faults_more units line path i vs d done h = rw (items_view-drop vs i d h)
+faults_more loose units line path i vs d done h = rw (items_view-drop vs i d h)

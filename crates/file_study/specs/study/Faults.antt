@@ -13,18 +13,20 @@ use Rattle.file_document.specs.declared.fault.DocumentFault.TheVariants as fault
 use Rattle.file_study.specs.declared.study.units.Units.{Units}
 use Rattle.file_study.specs.declared.study.stage.{Shown.Shown, Stage.Stage, SweptFault.SweptFault}
 use Rattle.file_document.specs.{Paths.under, Paths.numbered, Keys.text_at, Keys.array_in}
-use Rattle.file_study.specs.study.Moments.{moments_of}
+use Rattle.file_study.specs.study.Moments.{moments_of, Lasting, lasts_of}
 use Rattle.file_document.specs.{Keys.all_known, Keys.table_in, Keys.counted}
 use Rattle.file_document.specs.Words.{kind_of}
 use Rattle.file_study.specs.study.Shows.{shows_of}
 
--- A stage: how long it lasts, in ticks, a number for each value of its sweep; and what it shows.
+-- A stage: how long it lasts, in ticks, a number for each value of its sweep, or the ends of an interval
+-- where it lasts for any time between; and what it shows.
 pub record StageValues : Type 0 where
   pub lasts : List ℕ
+  pub between : Bool
   pub shows : List Shown
 
 abbrev pub stage_values : Stage → StageValues
-stage_values s = record { lasts = s.lasts.items; shows = s.shows.items }
+stage_values s = record { lasts = s.lasts.items; between = s.between; shows = s.shows.items }
 
 -- A fault. A time is a number of ticks for each value of its sweep; `trip_within` of an external
 -- fault is 0.
@@ -64,6 +66,12 @@ moments_at upward units path key ms = do
   text ← text_at path key ms
   moments_of upward units (under path key) text
 
+-- how long a stage lasts, under a required key
+unfoldable pub lasts_at : Bool → Bool → Units → List ℕ → Members → Result Lasting DocumentFault
+lasts_at loose upward units path ms = do
+  text ← text_at path (codes "lasts") ms
+  lasts_of loose upward units (under path (codes "lasts")) text
+
 -- by when an internal fault has to be tripped, counted from its start
 abbrev pub within_at : Kind → Units → List ℕ → Members → Result (List ℕ) DocumentFault
 within_at Internal units path ms = moments_at false units path (codes "trip_within") ms
@@ -102,77 +110,78 @@ stage_keys = codes "lasts" ∷ codes "lost" ∷ []
 abbrev pub terminal_names : LineValues → List (List ℕ)
 terminal_names line = map (λ t. t.name) line.terminals
 
--- the stage that a table says
-unfoldable pub stage_in : Kind → Units → LineValues → List ℕ → Members
+-- The stage that a table says. It may last for an interval where `loose`.
+unfoldable pub stage_in : Bool → Kind → Units → LineValues → List ℕ → Members
     → Result StageValues DocumentFault
-stage_in kind units line path ms = do
-  lasts ← moments_at (is_longer kind) units path (codes "lasts") ms
-  shows ← shows_of (is_later kind) units line lasts path ms
-  Ok (record { lasts = lasts; shows = shows })
+stage_in loose kind units line path ms = do
+  lasts ← lasts_at loose (is_longer kind) units path ms
+  shows ← shows_of (is_later kind) units line lasts.ticks path ms
+  Ok (record { lasts = lasts.ticks; between = lasts.between; shows = shows })
 
-unfoldable pub stage_at : Kind → Units → LineValues → List ℕ → Data → Result StageValues DocumentFault
-stage_at kind units line path d = do
+unfoldable pub stage_at : Bool → Kind → Units → LineValues → List ℕ → Data
+    → Result StageValues DocumentFault
+stage_at loose kind units line path d = do
   ms ← table_in path d
   _ ← all_known path (stage_keys ++ terminal_names line) ms
-  stage_in kind units line path ms
+  stage_in loose kind units line path ms
 
 -- the stages of an array, from item i on, behind those that are there
-unfoldable pub stages_in : Kind → Units → LineValues → List ℕ → ℕ → Items → List StageValues
+unfoldable pub stages_in : Bool → Kind → Units → LineValues → List ℕ → ℕ → Items → List StageValues
     → Result (List StageValues) DocumentFault
-stages_in kind units line path i no_items done = Ok done
-stages_in kind units line path i (item d ds) done = do
-  stage ← stage_at kind units line (numbered path i) d
-  stages_in kind units line path (i + 1) ds (done ++ stage ∷ [])
+stages_in loose kind units line path i no_items done = Ok done
+stages_in loose kind units line path i (item d ds) done = do
+  stage ← stage_at loose kind units line (numbered path i) d
+  stages_in loose kind units line path (i + 1) ds (done ++ stage ∷ [])
 
 -- 1 to 20 stages
-unfoldable pub several_stages : Kind → Units → LineValues → List ℕ → Data
+unfoldable pub several_stages : Bool → Kind → Units → LineValues → List ℕ → Data
     → Result (List StageValues) DocumentFault
-several_stages kind units line path d = do
+several_stages loose kind units line path d = do
   all ← array_in path d
   ds ← counted path 1 20 all
-  stages_in kind units line path 0 ds []
+  stages_in loose kind units line path 0 ds []
 
 -- the fault itself as its only stage
-unfoldable pub only_stage : Kind → Units → LineValues → List ℕ → Members
+unfoldable pub only_stage : Bool → Kind → Units → LineValues → List ℕ → Members
     → Result (List StageValues) DocumentFault
-only_stage kind units line path ms = do
-  stage ← stage_in kind units line path ms
+only_stage loose kind units line path ms = do
+  stage ← stage_in loose kind units line path ms
   Ok (stage ∷ [])
 
 -- the stages of a fault, which has no other keys
-abbrev pub stages_or_one : Kind → Units → LineValues → List ℕ → Members → Option Data
+abbrev pub stages_or_one : Bool → Kind → Units → LineValues → List ℕ → Members → Option Data
     → Result (List StageValues) DocumentFault
-stages_or_one kind units line path ms None = do
+stages_or_one loose kind units line path ms None = do
   _ ← all_known path (whole_keys kind ++ terminal_names line) ms
-  only_stage kind units line path ms
-stages_or_one kind units line path ms (Some d) = do
+  only_stage loose kind units line path ms
+stages_or_one loose kind units line path ms (Some d) = do
   _ ← all_known path (head_keys kind) ms
-  several_stages kind units line (under path (codes "stage")) d
+  several_stages loose kind units line (under path (codes "stage")) d
 
-unfoldable pub stages_of : Kind → Units → LineValues → List ℕ → Members
+unfoldable pub stages_of : Bool → Kind → Units → LineValues → List ℕ → Members
     → Result (List StageValues) DocumentFault
-stages_of kind units line path ms =
-    stages_or_one kind units line path ms (get_member (codes "stage") ms)
+stages_of loose kind units line path ms =
+    stages_or_one loose kind units line path ms (get_member (codes "stage") ms)
 
 -- a fault, which has a name that those before it have not
-unfoldable pub fault_at : Units → LineValues → List ℕ → List (List ℕ) → Data
+unfoldable pub fault_at : Bool → Units → LineValues → List ℕ → List (List ℕ) → Data
     → Result FaultValues DocumentFault
-fault_at units line path before d = do
+fault_at loose units line path before d = do
   ms ← table_in path d
   name ← name_at path before ms
   kind ← kind_at path ms
   start ← moments_at false units path (codes "start") ms
   within ← within_at kind units path ms
-  stages ← stages_of kind units line path ms
+  stages ← stages_of loose kind units line path ms
   Ok (record { name = name; kind = kind; start = start; trip_within = within; stages = stages })
 
 abbrev pub fault_names : List FaultValues → List (List ℕ)
 fault_names fs = map (λ f. f.name) fs
 
 -- the faults of an array, from item i on, behind those that are there
-unfoldable pub faults_in : Units → LineValues → List ℕ → ℕ → Items → List FaultValues
+unfoldable pub faults_in : Bool → Units → LineValues → List ℕ → ℕ → Items → List FaultValues
     → Result (List FaultValues) DocumentFault
-faults_in units line path i no_items done = Ok done
-faults_in units line path i (item d ds) done = do
-  new ← fault_at units line (numbered path i) (fault_names done) d
-  faults_in units line path (i + 1) ds (done ++ new ∷ [])
+faults_in loose units line path i no_items done = Ok done
+faults_in loose units line path i (item d ds) done = do
+  new ← fault_at loose units line (numbered path i) (fault_names done) d
+  faults_in loose units line path (i + 1) ds (done ++ new ∷ [])

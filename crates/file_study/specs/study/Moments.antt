@@ -1,5 +1,5 @@
 -- Times of a study in ticks: intervals, instants, and the values of a sweep.
-use Rattle.std.specs.Prelude.{◌+◌, ◌++◌, ℕ, zero, suc, Bool, List, [], ◌∷◌}
+use Rattle.std.specs.Prelude.{◌+◌, ◌++◌, ◌&&◌, ℕ, zero, suc, Bool, true, false, not, List, [], ◌∷◌}
 use Rattle.std.specs.Prelude.{Result, Ok, Err, if◌then◌else◌, nat_le}
 use Rattle.file_study.specs.declared.times.fraction.Fraction.{Fraction}
 use Rattle.file_document.specs.declared.time_fault.TimeFault.{TimeFault}
@@ -11,6 +11,7 @@ use Rattle.base_memory.specs.Gives.{◌>>=◌}
 use Rattle.file_document.specs.declared.fault.DocumentFault.{DocumentFault}
 use Rattle.file_document.specs.declared.fault.DocumentFault.TheVariants as fault
 use Rattle.file_study.specs.declared.study.units.Units.{Units}
+use Rattle.file_study.specs.declared.study.ticks.Lasting.{Lasting as Declared}
 use Rattle.file_study.specs.study.Rounding.{down, up, rounded}
 
 -- what the text of a time says, at a path
@@ -73,6 +74,35 @@ moments_in upward tick_us path (time.Interval ends) = do
   n ← instant_at upward tick_us path ends
   Ok (n ∷ [])
 moments_in upward tick_us path (time.Sweep sweep) = swept_in upward tick_us path sweep
+
+-- How long a stage lasts: numbers of ticks, one for each value of its sweep; or an interval, by its ends,
+-- where it lasts for any time between.
+pub record Lasting : Type 0 where
+  pub ticks : List ℕ
+  pub between : Bool
+
+abbrev pub lasts_values : Declared → Lasting
+lasts_values l = record { ticks = l.ticks.items; between = l.between }
+
+-- an interval, by its ends
+abbrev pub between_of : Bounds → Lasting
+between_of ends = record { ticks = ends.least ∷ ends.greatest ∷ []; between = true }
+
+abbrev pub exactly : List ℕ → Lasting
+exactly ticks = record { ticks = ticks; between = false }
+
+-- an instant, the values of a sweep, or where it may be one an interval, rounded outward
+abbrev pub lasts_in : Bool → Bool → ℕ → List ℕ → Time → Result Lasting DocumentFault
+lasts_in loose upward tick_us path (time.Interval ends) =
+    if loose && not (is_instant ends)
+    then (bounds_in tick_us path (time.Interval ends) >>= λ bounds. Ok (between_of bounds))
+    else (instant_at upward tick_us path ends >>= λ n. Ok (exactly (n ∷ [])))
+lasts_in loose upward tick_us path (time.Sweep sweep) =
+    swept_in upward tick_us path sweep >>= λ values. Ok (exactly values)
+
+unfoldable pub lasts_of : Bool → Bool → Units → List ℕ → List ℕ → Result Lasting DocumentFault
+lasts_of loose upward units path text =
+    told path (time_of units.hertz text) >>= lasts_in loose upward units.tick_us path
 
 unfoldable pub moments_of : Bool → Units → List ℕ → List ℕ → Result (List ℕ) DocumentFault
 moments_of upward units path text =

@@ -1,5 +1,6 @@
 -- What a study says.
-use Rattle.std.specs.Prelude.{◌≡◌, ℕ, List, [], ◌∷◌, Result, Ok, Err, codes, map, string_bytes}
+use Rattle.std.specs.Prelude.{◌≡◌, ℕ, Bool, true, false, List, [], ◌∷◌, Result, Ok, Err, codes, map}
+use Rattle.std.specs.Prelude.{string_bytes}
 use Rattle.toml.specs.Data.{Members}
 use Rattle.base_memory.specs.Gives.{◌>>=◌}
 use Rattle.file_document.specs.Keys.{document_of}
@@ -36,32 +37,36 @@ study_values s = record {
   faults = map fault_values s.faults.items;
 }
 
--- the faults, 1 to 1,000
-unfoldable pub faults_of : Units → LineValues → Members → Result (List FaultValues) DocumentFault
-faults_of units line top = do
+-- The faults, 1 to 1,000. Their stages may last for intervals where `loose`.
+unfoldable pub faults_of : Bool → Units → LineValues → Members → Result (List FaultValues) DocumentFault
+faults_of loose units line top = do
   all ← array_at [] (codes "fault") top
   ds ← counted (under [] (codes "fault")) 1 1000 all
-  faults_in units line (under [] (codes "fault")) 0 ds []
+  faults_in loose units line (under [] (codes "fault")) 0 ds []
 
 -- what a document of this title and these units says
-unfoldable pub study_with : List ℕ → Units → Members → Result StudyValues DocumentFault
-study_with title units top = do
+unfoldable pub study_with : Bool → List ℕ → Units → Members → Result StudyValues DocumentFault
+study_with loose title units top = do
   line ← line_of_study units top
-  faults ← faults_of units line top
+  faults ← faults_of loose units line top
   Ok (record { title = title; units = units; line = line; faults = faults })
 
 -- what a document says
-unfoldable pub study_in : Members → Result StudyValues DocumentFault
-study_in top = do
+unfoldable pub study_in : Bool → Members → Result StudyValues DocumentFault
+study_in loose top = do
   version ← number_at [] (codes "study") 1 1 top
   _ ← all_known [] top_keys top
   title ← text_at [] (codes "title") top
   units ← units_of top
-  study_with title units top
+  study_with loose title units top
 
--- what these bytes say
+-- what these bytes say; each stage lasts for one time, or for those of a sweep
 unfoldable pub study_of : List ℕ → Result StudyValues DocumentFault
-study_of bytes = opened (document_of bytes) >>= study_in
+study_of bytes = opened (document_of bytes) >>= study_in false
+
+-- what they say where a stage may last for an interval too
+unfoldable pub loose_study_of : List ℕ → Result StudyValues DocumentFault
+loose_study_of bytes = opened (document_of bytes) >>= study_in true
 
 -- a text is a line file of the study's line
 abbrev pub HasLine : Result StudyValues DocumentFault → List ℕ → Type 0

@@ -12,11 +12,12 @@ ghost use Rattle.file_study.specs.study.Faults.{kind_at, moments_at, within_at, 
 ghost use Rattle.file_study.specs.study.Faults.{name_at, head_keys, whole_keys, stage_keys};
 ghost use Rattle.file_study.specs.study.Faults.{terminal_names, stage_in, stage_at, stages_in};
 ghost use Rattle.file_study.specs.study.Faults.{several_stages, only_stage, stages_or_one, stages_of};
-ghost use Rattle.file_study.specs.study.Faults.{fault_at, faults_in};
+ghost use Rattle.file_study.specs.study.Faults.{fault_at, faults_in, lasts_at};
+ghost use Rattle.file_study.specs.study.Moments.{lasts_values};
 
 use crate::study::shows::shows;
 use crate::study::stage::{Stage, SweptFault};
-use crate::study::ticks::moments;
+use crate::study::ticks::{Lasting, lasts, moments};
 use crate::study::units::Units;
 use base_memory::Stopped;
 use file_document::keys::{counted, find, items_of, only, table_of, text};
@@ -122,6 +123,30 @@ fn moments_at(
     )
 }
 
+// How long a stage lasts, under a required key.
+#[tactic(auto, unfolding(crate::specs::study::Faults::lasts_at))]
+fn lasts_at(
+    alloc: Global,
+    loose: bool,
+    upward: bool,
+    units: Units,
+    path: Path,
+    table: &Table,
+) -> Result<Lasting, Stopped<DocumentFault>>
+    requires { 0 < units.tick_us }
+    ensures { Gives lasts_values result (lasts_at loose upward units path (table_view table.now)) }
+{
+    let text = text(path, "lasts", table)?;
+    lasts(
+        alloc,
+        loose,
+        upward,
+        units,
+        path.key(b"lasts"),
+        text.as_bytes(),
+    )
+}
+
 // By when an internal fault has to be tripped.
 fn within(
     alloc: Global,
@@ -143,6 +168,7 @@ fn within(
 #[tactic(auto, unfolding(crate::specs::study::Faults::stage_in))]
 fn stage_in(
     alloc: Global,
+    loose: bool,
     kind: Kind,
     units: Units,
     line: &Line,
@@ -151,17 +177,22 @@ fn stage_in(
 ) -> Result<Stage, Stopped<DocumentFault>>
     requires { 0 < units.tick_us }
     ensures { Gives stage_values result
-        (stage_in kind units (line_values line.now) path (table_view table.now)) }
+        (stage_in loose kind units (line_values line.now) path (table_view table.now)) }
 {
-    let lasts = moments_at(alloc, is_longer(kind), units, path, "lasts", table)?;
-    let shows = shows(alloc, is_later(kind), units, line, &lasts, path, table)?;
-    Ok(Stage { lasts, shows })
+    let Lasting { ticks, between } = lasts_at(alloc, loose, is_longer(kind), units, path, table)?;
+    let shows = shows(alloc, is_later(kind), units, line, &ticks, path, table)?;
+    Ok(Stage {
+        lasts: ticks,
+        between,
+        shows,
+    })
 }
 
 // A stage, which has no other keys.
 #[tactic(auto, unfolding(crate::specs::study::Faults::stage_at))]
 fn stage(
     alloc: Global,
+    loose: bool,
     kind: Kind,
     units: Units,
     line: &Line,
@@ -172,16 +203,17 @@ fn stage(
     requires tick { 0 < units.tick_us }
     requires names { names.now ≡ terminal_names (line_values line.now) }
     ensures { Gives stage_values result
-        (stage_at kind units (line_values line.now) path (view value.now)) }
+        (stage_at loose kind units (line_values line.now) path (view value.now)) }
 {
     let table = table_of(path, value)?;
     only(path, &["lasts", "lost"], names, table)?;
-    stage_in(alloc, kind, units, line, path, table)
+    stage_in(alloc, loose, kind, units, line, path, table)
 }
 
 // The stages of an array.
 fn stages_in(
     alloc: Global,
+    loose: bool,
     kind: Kind,
     units: Units,
     line: &Line,
@@ -192,11 +224,11 @@ fn stages_in(
     requires tick { 0 < units.tick_us }
     requires names { names.now ≡ terminal_names (line_values line.now) }
     ensures { Gives (λ v. map stage_values v.items) result
-        (stages_in kind units (line_values line.now) path 0 (items_view items.now) []) }
+        (stages_in loose kind units (line_values line.now) path 0 (items_view items.now) []) }
 {
     let mut stages = Vec::new(alloc);
     for (i, value) in items.iter().enumerate() {
-        let stage = stage(alloc, kind, units, line, names, path.item(i), value)?;
+        let stage = stage(alloc, loose, kind, units, line, names, path.item(i), value)?;
         stages.push(stage)?;
     }
     Ok(stages)
@@ -206,6 +238,7 @@ fn stages_in(
 #[tactic(auto, unfolding(crate::specs::study::Faults::several_stages))]
 fn several_stages(
     alloc: Global,
+    loose: bool,
     kind: Kind,
     units: Units,
     line: &Line,
@@ -216,16 +249,17 @@ fn several_stages(
     requires tick { 0 < units.tick_us }
     requires names { names.now ≡ terminal_names (line_values line.now) }
     ensures { Gives (λ v. map stage_values v.items) result
-        (several_stages kind units (line_values line.now) path (view value.now)) }
+        (several_stages loose kind units (line_values line.now) path (view value.now)) }
 {
     let items = counted(path, 1, 20, items_of(path, value)?)?;
-    stages_in(alloc, kind, units, line, names, path, items)
+    stages_in(alloc, loose, kind, units, line, names, path, items)
 }
 
 // The fault itself as its only stage.
 #[tactic(auto, unfolding(crate::specs::study::Faults::only_stage))]
 fn only_stage(
     alloc: Global,
+    loose: bool,
     kind: Kind,
     units: Units,
     line: &Line,
@@ -234,9 +268,9 @@ fn only_stage(
 ) -> Result<Vec<Stage>, Stopped<DocumentFault>>
     requires { 0 < units.tick_us }
     ensures { Gives (λ v. map stage_values v.items) result
-        (only_stage kind units (line_values line.now) path (table_view table.now)) }
+        (only_stage loose kind units (line_values line.now) path (table_view table.now)) }
 {
-    let stage = stage_in(alloc, kind, units, line, path, table)?;
+    let stage = stage_in(alloc, loose, kind, units, line, path, table)?;
     Ok(vec![in alloc; stage]?)
 }
 
@@ -244,6 +278,7 @@ fn only_stage(
 #[tactic(auto, unfolding(crate::specs::study::Faults::stages_of))]
 fn stages(
     alloc: Global,
+    loose: bool,
     kind: Kind,
     units: Units,
     line: &Line,
@@ -254,16 +289,25 @@ fn stages(
     requires tick { 0 < units.tick_us }
     requires names { names.now ≡ terminal_names (line_values line.now) }
     ensures { Gives (λ v. map stage_values v.items) result
-        (stages_of kind units (line_values line.now) path (table_view table.now)) }
+        (stages_of loose kind units (line_values line.now) path (table_view table.now)) }
 {
     match find(table, "stage") {
         Some(value) => {
             only(path, head_keys(kind), &[], table)?;
-            several_stages(alloc, kind, units, line, names, path.key(b"stage"), value)
+            several_stages(
+                alloc,
+                loose,
+                kind,
+                units,
+                line,
+                names,
+                path.key(b"stage"),
+                value,
+            )
         }
         None => {
             only(path, whole_keys(kind), names, table)?;
-            only_stage(alloc, kind, units, line, path, table)
+            only_stage(alloc, loose, kind, units, line, path, table)
         }
     }
 }
@@ -272,6 +316,7 @@ fn stages(
 #[tactic(auto, unfolding(crate::specs::study::Faults::fault_at))]
 fn fault(
     alloc: Global,
+    loose: bool,
     units: Units,
     line: &Line,
     names: &[Name],
@@ -282,7 +327,7 @@ fn fault(
     requires tick { 0 < units.tick_us }
     requires names { names.now ≡ terminal_names (line_values line.now) }
     ensures { Gives fault_values result
-        (fault_at units (line_values line.now) path (map (λ f. f.name) before.now)
+        (fault_at loose units (line_values line.now) path (map (λ f. f.name) before.now)
         (view value.now)) }
 {
     let table = table_of(path, value)?;
@@ -290,7 +335,7 @@ fn fault(
     let kind = kind(path, table)?;
     let start = moments_at(alloc, false, units, path, "start", table)?;
     let trip_within = within(alloc, kind, units, path, table)?;
-    let stages = stages(alloc, kind, units, line, names, path, table)?;
+    let stages = stages(alloc, loose, kind, units, line, names, path, table)?;
     Ok(SweptFault {
         name,
         kind,
@@ -300,9 +345,10 @@ fn fault(
     })
 }
 
-/// The faults of an array.
+/// The faults of an array. Their stages may last for intervals where `loose`.
 pub fn faults_in(
     alloc: Global,
+    loose: bool,
     units: Units,
     line: &Line,
     names: &[Name],
@@ -312,11 +358,20 @@ pub fn faults_in(
     requires tick { 0 < units.tick_us }
     requires names { names.now ≡ terminal_names (line_values line.now) }
     ensures { Gives (λ v. map fault_values v.items) result
-        (faults_in units (line_values line.now) path 0 (items_view items.now) []) }
+        (faults_in loose units (line_values line.now) path 0 (items_view items.now) []) }
 {
     let mut faults = Vec::new(alloc);
     for (i, value) in items.iter().enumerate() {
-        let fault = fault(alloc, units, line, names, path.item(i), &faults, value)?;
+        let fault = fault(
+            alloc,
+            loose,
+            units,
+            line,
+            names,
+            path.item(i),
+            &faults,
+            value,
+        )?;
         faults.push(fault)?;
     }
     Ok(faults)

@@ -10,10 +10,12 @@ pub struct Shown {
     pub after: u32,
 }
 
-/// A stage of a fault: how long it lasts, a number for each value of its sweep, and what it shows.
+/// A stage of a fault: how long it lasts, a number for each value of its sweep, or where `between` both
+/// ends of an interval, for any time of which it may last; and what it shows.
 #[derive(Drop)]
 pub struct Stage {
     pub lasts: Vec<u32>,
+    pub between: bool,
     pub shows: Vec<Shown>,
 }
 

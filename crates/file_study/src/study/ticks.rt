@@ -6,7 +6,8 @@ ghost use Rattle.file_study.specs.study.Rounding.{down, up, rounded};
 ghost use Rattle.base_memory.specs.Gives.{Gives};
 ghost use Rattle.file_study.specs.study.Moments.{limited, bounds_of, bounds_in, instant_at, instant_of};
 ghost use Rattle.file_study.specs.study.Moments.{told, instant_in, swept_in, moments_in};
-ghost use Rattle.file_study.specs.study.Moments.{moments_of};
+ghost use Rattle.file_study.specs.study.Moments.{lasts_in, lasts_of, lasts_values, moments_of};
+ghost use Rattle.file_study.specs.declared.times.time.Time.TheVariants as time;
 ghost use Rattle.file_study.specs.times.Times.{time_of};
 
 use crate::study::units::Units;
@@ -129,6 +130,66 @@ pub fn instant(upward: bool, units: Units, path: Path, text: &[u8]) -> Result<u3
 {
     let time = told(path, units.hertz, text)?;
     instant_in(upward, units.tick_us, path, time)
+}
+
+/// How long a stage lasts, in ticks: an instant or the values of a sweep, or where `between` the least and the
+/// greatest of an interval.
+#[derive(Drop)]
+pub struct Lasting {
+    pub ticks: Vec<u32>,
+    pub between: bool,
+}
+
+/// How long a text says that a stage lasts. It may be an interval where `loose`.
+#[tactic(auto, unfolding(crate::specs::study::Moments::lasts_of))]
+pub fn lasts(
+    alloc: Global,
+    loose: bool,
+    upward: bool,
+    units: Units,
+    path: Path,
+    text: &[u8],
+) -> Result<Lasting, Stopped<DocumentFault>>
+    requires { 0 < units.tick_us }
+    ensures { Gives lasts_values result (lasts_of loose upward units path text.now) }
+{
+    match told(path, units.hertz, text)? {
+        Time::Interval(ends) => lasts_between(alloc, loose, upward, units.tick_us, path, ends),
+        Time::Sweep(sweep) => {
+            let ticks = swept(alloc, upward, units.tick_us, path, sweep)?;
+            Ok(Lasting {
+                ticks,
+                between: false,
+            })
+        }
+    }
+}
+
+// The same of an instant or an interval.
+fn lasts_between(
+    alloc: Global,
+    loose: bool,
+    upward: bool,
+    tick_us: u32,
+    path: Path,
+    ends: Interval,
+) -> Result<Lasting, Stopped<DocumentFault>>
+    requires tick { 0 < tick_us }
+    requires readable { IsReadable (time.Interval ends) }
+    ensures { Gives lasts_values result (lasts_in loose upward tick_us path (time.Interval ends)) }
+{
+    if loose && !ends.is_instant() {
+        let bounds = bounds_in(tick_us, path, Time::Interval(ends))?;
+        return Ok(Lasting {
+            ticks: vec![in alloc; bounds.least, bounds.greatest]?,
+            between: true,
+        });
+    }
+    let instant = instant_at(upward, tick_us, path, ends)?;
+    Ok(Lasting {
+        ticks: vec![in alloc; instant]?,
+        between: false,
+    })
 }
 
 /// The instant of a text, or the values of its sweep, in ticks.

@@ -1,5 +1,4 @@
-use Rattle.std.proofs.Common.{List, sym, subst}
-use Rattle.model_line.specs.declared.script.SeenSpan.{SeenSpan}
+use Rattle.std.proofs.Common.{sym, subst}
 use Rattle.model_borders.specs.Least.{ShowTheLeast}
 use Rattle.model_borders.proofs.Leasts.{show_least}
 use Rattle.model_borders.proofs.least.least_shown.Goals as goal

@@ -10,7 +10,7 @@ use Rattle.file_study.proofs.study.faults.faults_in.Goals as goal
 pub returns-in_err-fault : goal.returns-in_err-fault
 returns-in_err-fault c =
     let told = err_from_is_err_and c.from_residual.result c.from_residual.ensures.1 in
-    let more = faults_more c.args.units (line_values c.args.line.now) c.args.path
+    let more = faults_more c.args.loose c.args.units (line_values c.args.line.now) c.args.path
     c.loop-i.i c.args.items.now c.index-items-i.result
     (map fault_values c.loop-i.faults.items) c.loop-i-test.true in
     let named = rw (names_same c.loop-i.faults.items) at more in
@@ -22,7 +22,7 @@ returns-in_err-fault c =
 
 pub loop-i-preserved : goal.loop-i-preserved
 loop-i-preserved c =
-    let more = faults_more c.args.units (line_values c.args.line.now) c.args.path
+    let more = faults_more c.args.loose c.args.units (line_values c.args.line.now) c.args.path
     c.loop-i.i c.args.items.now c.index-items-i.result
     (map fault_values c.loop-i.faults.items) c.loop-i-test.true in
     let named = rw (names_same c.loop-i.faults.items) at more in

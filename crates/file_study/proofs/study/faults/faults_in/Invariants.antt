@@ -6,6 +6,6 @@ use Rattle.file_study.proofs.study.faults.faults_in.Given as goal
 
 abbrev pub invariant-loop-i : goal.invariant-loop-i
 invariant-loop-i l =
-    faults_in l.units (line_values l.line) l.path l.i (items_view (drop l.i l.items))
+    faults_in l.loose l.units (line_values l.line) l.path l.i (items_view (drop l.i l.items))
     (map fault_values l.faults.items)
-    ≡ faults_in l.units (line_values l.line) l.path 0 (items_view l.items) []
+    ≡ faults_in l.loose l.units (line_values l.line) l.path 0 (items_view l.items) []

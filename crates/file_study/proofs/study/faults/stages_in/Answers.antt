@@ -10,7 +10,7 @@ use Rattle.file_study.proofs.study.faults.stages_in.Goals as goal
 pub returns-in_err-stage : goal.returns-in_err-stage
 returns-in_err-stage c =
     let told = err_from_is_err_and c.from_residual.result c.from_residual.ensures.1 in
-    let more = stages_more c.args.kind c.args.units (line_values c.args.line.now) c.args.path
+    let more = stages_more c.args.loose c.args.kind c.args.units (line_values c.args.line.now) c.args.path
     c.loop-i.i c.args.items.now c.index-items-i.result
     (map stage_values c.loop-i.stages.items) c.loop-i-test.true in
     let here = rw (← c.index-items-i.is, ← c.item.ensures) at more in
@@ -20,7 +20,7 @@ returns-in_err-stage c =
 
 pub loop-i-preserved : goal.loop-i-preserved
 loop-i-preserved c =
-    let more = stages_more c.args.kind c.args.units (line_values c.args.line.now) c.args.path
+    let more = stages_more c.args.loose c.args.kind c.args.units (line_values c.args.line.now) c.args.path
     c.loop-i.i c.args.items.now c.index-items-i.result
     (map stage_values c.loop-i.stages.items) c.loop-i-test.true in
     let here = rw (← c.index-items-i.is, ← c.item.ensures) at more in
