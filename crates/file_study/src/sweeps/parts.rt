@@ -1,6 +1,6 @@
 //! Scripts in parts of 64, as a file holds them.
 
-ghost use Rattle.std.specs.Prelude.{◌≡◌, ◌&&◌, IfOk, IfSome, is_some, length, map, nat_le, take};
+ghost use Rattle.std.specs.Prelude.{◌≡◌, ◌≤◌, ◌&&◌, IfOk, IfSome, is_some, length, map, nat_le, take};
 ghost use Rattle.std.specs.List.{All};
 ghost use Rattle.model_line.specs.Fits.{Fits};
 ghost use Rattle.file_tables.specs.{script.SoFar.AreOnce, script.Values.values_of};
@@ -8,7 +8,9 @@ ghost use Rattle.file_tables.specs.script.ReadBack.{SaysScripts};
 ghost use Rattle.file_study.specs.sweeps.Parts.{is_part, part, parts_of};
 ghost use Rattle.file_study.specs.sweeps.Studies.{script_names};
 
-use file_tables::script::{print_scripts, printed_scripts_are_read_back};
+use file_tables::script::{
+    a_file_of_scripts_is_short, print_scripts, printed_scripts_are_read_back,
+};
 use model_line::{Line, Memory, Script};
 use std::alloc::Global;
 
@@ -60,8 +62,11 @@ pub fn part_text(
     requires once { AreOnce (script_names scripts.now) }
     ensures says { IfOk result (λ o. IfSome o (λ text.
         SaysScripts line.now (map values_of (part n scripts.now)) text.items)) }
+    // It is no longer than a file that is read may be.
+    ensures short { IfOk result (λ o. IfSome o (λ text. length text.items ≤ 1048576)) }
     ensures exists { IfOk result (λ o. is_some o ≡ is_part n (length scripts.now)) }
 {
+    a_file_of_scripts_is_short();
     printed_scripts_are_read_back();
     match part_of(scripts, n) {
         Some(part) => {
