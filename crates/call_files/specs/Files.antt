@@ -17,6 +17,7 @@ limit_of file.Timings = 4194304
 limit_of file.Cert = 4194304
 limit_of file.Record = 1048576
 limit_of file.Trees = 4194304
+limit_of file.Settled = 67108864
 limit_of file.Study = 1048576
 
 -- a file that a command reads: which one it is, and its name

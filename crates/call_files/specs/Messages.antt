@@ -19,6 +19,7 @@ file_word file.Timings = codes "timings"
 file_word file.Cert = codes "cert"
 file_word file.Record = codes "record"
 file_word file.Trees = codes "trees"
+file_word file.Settled = codes "trees"
 file_word file.Study = codes "study"
 
 -- the word for what is refused

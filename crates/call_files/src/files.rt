@@ -11,11 +11,12 @@ use std::alloc::Global;
 // The most bytes that a file may have.
 fn limit_of(file: File) -> u32
     ensures is { result ≡ limit file }
-    ensures most { result ≤ 4194304 }
+    ensures most { result ≤ 67108864 }
 {
     match file {
         File::Line | File::Scripts | File::Record | File::Study => 1_048_576,
         File::Timings | File::Cert | File::Trees => 4_194_304,
+        File::Settled => 67_108_864,
     }
 }
 

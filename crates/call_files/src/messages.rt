@@ -19,7 +19,7 @@ fn word_of_file(file: File) -> &'static [u8]
         File::Timings => b"timings",
         File::Cert => b"cert",
         File::Record => b"record",
-        File::Trees => b"trees",
+        File::Trees | File::Settled => b"trees",
         File::Study => b"study",
     }
 }

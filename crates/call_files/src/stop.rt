@@ -45,6 +45,8 @@ pub enum File {
     Cert,
     Record,
     Trees,
+    /// Settled trees, which the program beside this one reads alone.
+    Settled,
     /// A study file, which the program beside this one reads alone.
     Study,
 }

@@ -87,6 +87,6 @@ abbrev pub limit_of : Kind → ℕ
 limit_of kind.Timings = 4194304
 limit_of kind.Certificate = 4194304
 limit_of kind.Splits = 4194304
-limit_of kind.Trees = 4194304
+limit_of kind.Trees = 67108864
 limit_of kind.OneFile = 67108864
 limit_of other = 1048576

@@ -36,8 +36,8 @@ impl Kind {
         ensures { result ≡ limit self }
     {
         match self {
-            Kind::Timings | Kind::Certificate | Kind::Splits | Kind::Trees => 4_194_304,
-            Kind::OneFile => 67_108_864,
+            Kind::Timings | Kind::Certificate | Kind::Splits => 4_194_304,
+            Kind::Trees | Kind::OneFile => 67_108_864,
             Kind::Study | Kind::Line | Kind::Scripts | Kind::Record | Kind::Map | Kind::Config =>
                 1_048_576,
         }

@@ -112,6 +112,7 @@ module _ (files : List ℕ → Option (List ℕ)) where
   beside_told (request.play form name timing) b file.Cert are = tt
   beside_told (request.play form name timing) b file.Record are = tt
   beside_told (request.play form name timing) b file.Trees are = tt
+  beside_told (request.play form name timing) b file.Settled are = tt
   beside_told (request.play form name timing) b file.Study are = tt
   beside_told (request.table which) b f are = tt
   beside_told (request.timings analyses) b f are = tt
@@ -120,7 +121,8 @@ module _ (files : List ℕ → Option (List ℕ)) where
   beside_told (request.recheck name) b file.Timings are = tt
   beside_told (request.recheck name) b file.Cert are = tt
   beside_told (request.recheck name) b file.Record are = tt
-  beside_told (request.recheck name) b file.Trees are = are.0.1
+  beside_told (request.recheck name) b file.Trees are = tt
+  beside_told (request.recheck name) b file.Settled are = are.0.1
   beside_told (request.recheck name) b file.Study are = tt
   beside_told request.lint b f are = tt
   beside_told (request.explain name within form) b file.Line are = tt
@@ -129,6 +131,7 @@ module _ (files : List ℕ → Option (List ℕ)) where
   beside_told (request.explain name within form) b file.Cert are = tt
   beside_told (request.explain name within form) b file.Record are = are.0.1
   beside_told (request.explain name within form) b file.Trees are = tt
+  beside_told (request.explain name within form) b file.Settled are = tt
   beside_told (request.explain name within form) b file.Study are = tt
   beside_told (request.map form x y made) b f are = tt
   beside_told (request.choose settings room) b f are = tt
@@ -143,6 +146,7 @@ module _ (files : List ℕ → Option (List ℕ)) where
   bytes_told r f are file.Cert = beside_told r.asked f.further.items file.Cert are.further
   bytes_told r f are file.Record = beside_told r.asked f.further.items file.Record are.further
   bytes_told r f are file.Trees = beside_told r.asked f.further.items file.Trees are.further
+  bytes_told r f are file.Settled = beside_told r.asked f.further.items file.Settled are.further
   bytes_told r f are file.Study = study_told r.source f.source are.source
 
   pub has_told : (r : Request) (f : Fetched) → AreFetched files r f → (of : File) (b : List ℕ)

@@ -107,7 +107,7 @@ name_in_source source f = None
 
 abbrev pub name_beside : Asked → File → Option (List ℕ)
 name_beside (request.play form name timing) file.Timings = Some name
-name_beside (request.recheck name) file.Trees = Some name
+name_beside (request.recheck name) file.Settled = Some name
 name_beside (request.explain name within form) file.Record = Some name
 name_beside asked f = None
 

@@ -84,7 +84,7 @@ fn fetch_further<S: Store>(alloc: Global, work: Work<'_>, store: &mut S) -> Resu
 {
     match work {
         Work::Play { timings, .. } => fetch(alloc, store, File::Timings, timings),
-        Work::Recheck { trees } => fetch(alloc, store, File::Trees, trees),
+        Work::Recheck { trees } => fetch(alloc, store, File::Settled, trees),
         Work::Explain { record, .. } => fetch(alloc, store, File::Record, record),
         Work::Bands { .. }
         | Work::Table(_)
@@ -127,7 +127,9 @@ impl Fetched {
             File::Line => self.source.line(),
             File::Scripts => self.source.scripts(),
             File::Study => self.source.study(),
-            File::Timings | File::Cert | File::Record | File::Trees => self.further.as_slice(),
+            File::Timings | File::Cert | File::Record | File::Trees | File::Settled => {
+                self.further.as_slice()
+            }
         }
     }
 }
@@ -169,7 +171,9 @@ pub fn name_at<'a>(ask: &Ask<'a>, file: File) -> Option<&'a str>
 {
     match file {
         File::Line | File::Scripts | File::Study => name_in_source(ask.source, file),
-        File::Timings | File::Cert | File::Record | File::Trees => name_beside(ask.work, file),
+        File::Timings | File::Cert | File::Record | File::Trees | File::Settled => {
+            name_beside(ask.work, file)
+        }
     }
 }
 
@@ -189,7 +193,7 @@ fn name_beside(work: Work<'_>, file: File) -> Option<&str>
 {
     match (work, file) {
         (Work::Play { timings, .. }, File::Timings) => Some(timings),
-        (Work::Recheck { trees }, File::Trees) => Some(trees),
+        (Work::Recheck { trees }, File::Settled) => Some(trees),
         (Work::Explain { record, .. }, File::Record) => Some(record),
         _ => None,
     }

@@ -78,6 +78,7 @@ fn limit_of(file: File) -> usize
     match file {
         File::Line | File::Scripts | File::Record | File::Study => 1_048_576,
         File::Timings | File::Cert | File::Trees => 4_194_304,
+        File::Settled => 67_108_864,
     }
 }
 
