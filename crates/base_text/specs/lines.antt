@@ -11,3 +11,4 @@ pub mod WholeLaws
 pub mod Milliseconds
 pub mod SpacedNumbers
 pub mod SpacedLaws
+pub mod SpacedNumberLaws

@@ -4,8 +4,7 @@ use Rattle.std.specs.Prelude.{Option, Some, length, get_or, slice_get, take, dro
 use Rattle.csv.specs.Writing.{row_text, default_writer}
 use Rattle.file_study.specs.declared.sweeps.group.Group.{Group}
 use Rattle.model_line.specs.{declared.line.Line.Line, declared.script.Script.Script}
-use Rattle.model_line.specs.declared.script.Kind.{Kind}
-use Rattle.model_line.specs.declared.script.Kind.TheVariants.{Internal, External}
+use Rattle.model_line.specs.Kinds.{is_external as of_kind}
 use Rattle.model_line.specs.Parameters.{terminal_count}
 use Rattle.model_logic.specs.{Choice.declared_box, Logic.set_tree, Tree.Tree}
 use Rattle.model_logic.specs.Histories.{PairHistory, IsPairHistory}
@@ -69,13 +68,9 @@ AtTerminals line group scripts zero = IsNothing
 AtTerminals line group scripts (suc n) =
     Both (AtTerminals line group scripts n) (IsAtTerminal line group scripts n)
 
-abbrev pub is_external_kind : Kind → Bool
-is_external_kind Internal = false
-is_external_kind External = true
-
 -- a fault is external if its scripts are
 abbrev pub is_external : List Script → Bool
-is_external scripts = get_or (map (λ script. is_external_kind script.kind) scripts) 0 false
+is_external scripts = get_or (map (λ script. of_kind script.kind) scripts) 0 false
 
 -- nothing of an internal fault
 abbrev pub if_external : Bool → Telling → Telling

@@ -5,6 +5,7 @@ use Rattle.csv.specs.Writing.{row_text, default_writer}
 use Rattle.model_line.specs.{declared.line.Line.Line, declared.script.Script.Script}
 use Rattle.model_line.specs.NamesByNumber.{script_name, terminal_name}
 use Rattle.judge_settle.specs.declared.settle.answer.Answer.{Answer}
+use Rattle.judge_settle.specs.settle.Answers.{is_failing as fails_so, is_open as is_left}
 use Rattle.judge_settle.specs.settle.Words.{by_word, choices_word}
 use Rattle.judge_settle.specs.declared.settle.answer.Answer.TheVariants.{Held, Fails, Open}
 use Rattle.call_tables.specs.declared.row.Row.{Row}
@@ -44,22 +45,11 @@ abbrev pub table_text : Line → List Script → List Row → List ℕ
 table_text line scripts rows =
     flat_map (row_text default_writer) (header_record ∷ map (row_record line scripts) rows)
 
--- the obligation fails; it is open
-abbrev pub fails_so : Answer → Bool
-fails_so (Held nodes) = false
-fails_so (Fails timing every) = true
-fails_so (Open nodes) = false
-
 -- for every choice
 abbrev pub fails_for_every : Answer → Bool
 fails_for_every (Held nodes) = false
 fails_for_every (Fails timing every) = every
 fails_for_every (Open nodes) = false
-
-abbrev pub is_left : Answer → Bool
-is_left (Held nodes) = false
-is_left (Fails timing every) = false
-is_left (Open nodes) = true
 
 abbrev pub is_failing : Row → Bool
 is_failing row = fails_so row.settled.answer

@@ -10,11 +10,6 @@ use Rattle.judge_why.specs.{Plays.PlayOf, PlayLaws.AreAlike, PlayLaws.with_level
 use Rattle.judge_why.specs.declared.fact.Spot.{Spot}
 use Rattle.call_why.specs.Reasons.{IsDecidedAt, IsToldIn}
 
-pub if_ok_more : {T E : Type 0} (r : Result T E) (P Q : T → Type 0) → ((x : T) → P x → Q x)
-    → IfOk r P → IfOk r Q
-if_ok_more (Ok x) P Q more h = more x h
-if_ok_more (Err e) P Q more h = h
-
 -- a text that grew from nothing by three pieces
 pub three_pieces : (t0 t1 t2 t3 a b d : List ℕ) → t0 ≡ [] → t1 ≡ t0 ++ a → t2 ≡ t1 ++ b
     → t3 ≡ t2 ++ d → t3 ≡ a ++ b ++ d

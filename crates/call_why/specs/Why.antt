@@ -4,22 +4,11 @@ use Rattle.std.specs.Prelude.{codes, slice_get, if◌then◌else◌}
 use Rattle.model_line.specs.{declared.line.Line.Line, declared.script.Script.Script}
 use Rattle.call_answer.specs.{Answers.Answers, Answers.status_by, declared.done.Done.Done}
 use Rattle.call_answer.specs.declared.done.Done.TheVariants.{SomeNo}
-use Rattle.judge_settle.specs.settle.Answers.{AreAnswers}
-use Rattle.judge_settle.specs.declared.settle.answer.{Answer.Answer, Settled.Settled}
-use Rattle.judge_settle.specs.declared.settle.answer.Answer.TheVariants.{Held, Fails, Open}
+use Rattle.judge_settle.specs.settle.Answers.{AreAnswers, is_failing, is_open}
+use Rattle.judge_settle.specs.declared.settle.answer.Settled.{Settled}
 use Rattle.call_why.specs.declared.why.Found.{Found}
 use Rattle.call_why.specs.declared.why.Found.TheVariants.{Told, Quiet}
 use Rattle.call_why.specs.Reasons.{IsToldWhy}
-
-abbrev pub is_failing : Answer → Bool
-is_failing (Held nodes) = false
-is_failing (Fails timing every) = true
-is_failing (Open nodes) = false
-
-abbrev pub is_open : Answer → Bool
-is_open (Held nodes) = false
-is_open (Fails timing every) = false
-is_open (Open nodes) = true
 
 -- the obligation at terminal k is asked about: all are, or that of one terminal
 abbrev pub is_asked : Option ℕ → ℕ → Bool

@@ -6,8 +6,9 @@ ghost use Rattle.model_line.specs.{Fits.Fits, Parameters.terminal_count};
 ghost use Rattle.call_answer.specs.{Answers.Says, Answers.status_by};
 ghost use Rattle.judge_settle.specs.settle.Answers.{AreAnswers, IsAnswer};
 ghost use Rattle.call_why.specs.Why.{IsFound, IsToldOf, first_failing as first_failing_of};
-ghost use Rattle.call_why.specs.Why.{is_asked as is_asked_of, is_failing as is_failing_of};
-ghost use Rattle.call_why.specs.Why.{is_open as is_open_of, none_text, some_open as some_open_of};
+ghost use Rattle.call_why.specs.Why.{is_asked as is_asked_of};
+ghost use Rattle.judge_settle.specs.settle.Answers.{is_failing as is_failing_of, is_open as is_open_of};
+ghost use Rattle.call_why.specs.Why.{none_text, some_open as some_open_of};
 ghost use Rattle.call_why.specs.Why.{why_answer};
 
 use crate::reasons::told_why;

@@ -10,6 +10,7 @@ use Rattle.model_line.specs.Parameters.{param_count, terminal_count}
 use Rattle.run_signal.specs.declared.tern.Tern.{Tern}
 use Rattle.run_waves.specs.waves.Text.{begin_with, item_text, level_letter, runs_of, runs_text}
 use Rattle.run_waves.specs.waves.Waves.{run_of}
+use Rattle.base_text.specs.lines.SpacedNumberLaws.{numbers_short}
 use Rattle.base_text.specs.lines.SpacedNumbers.{numbers_text}
 use Rattle.cert_claims.specs.text.Grammar.{Claims, HasNumbers, Place, Said, Verdict, key_of, verdict_of}
 use Rattle.cert_claims.specs.text.Grammar.{yes, no, undecided, says_key, says_verdict, script_text, key_text}
@@ -109,19 +110,6 @@ key_short name wave short few =
       wave_short wave few,
       length-append name (32 ∷ text),
       length-append (key_text name wave) (10 ∷ []),
-    )
-
-numbers_short : (numbers : List ℕ) → All (λ n. n < 2 ^ 32) numbers
-    → length (numbers_text numbers) ≤ 11 * length numbers
-numbers_short [] small = omega arith
-numbers_short (n ∷ numbers) small =
-    let P : ℕ → Type 0 = λ k. k < 2 ^ 32 in
-    let here : n < 2 ^ 32 = All-head P n numbers small in
-    omega (
-      arith,
-      length-decimal-le 10 n (omega arith) (omega arith) (omega arith),
-      numbers_short numbers (All-tail P n numbers small),
-      length-append (decimal n) (numbers_text numbers),
     )
 
 words_short : (line : Line) (few : param_count line ≤ 63) (v : Verdict) → HasNumbers line v

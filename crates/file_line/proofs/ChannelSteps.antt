@@ -14,7 +14,7 @@ use Rattle.model_line.specs.{Making.least_ends}
 use Rattle.model_line.specs.{FirstPositionLaws.position_within}
 use Rattle.file_document.specs.Keys.{table_in}
 use Rattle.file_line.specs.Places.{Places, only_keys, key_text}
-use Rattle.file_line.specs.ChannelTables.{channel_keys, terminal_called, sender}
+use Rattle.file_line.specs.ChannelTables.{channel_keys, terminal_called, terminal_in}
 use Rattle.file_line.specs.ChannelTables.{receiver, from_at, to_at, ends_at}
 use Rattle.file_line.specs.ChannelTables.{channel_at}
 use Rattle.file_line.specs.{Times.time_at, Times.required_times}
@@ -35,10 +35,10 @@ called_within :
 called_within ts name k e =
     let h : k < 0 + length ts = position_within (λ t. bytes_eq t.name name) 0 k ts e in omega arith
 
-sender_ok :
-    (path : List ℕ) (o : Option ℕ) (k : ℕ) → sender path o ≡ Ok k → o ≡ Some k
-sender_ok path None k e = absurd (cc)
-sender_ok path (Some n) k e = let same : n ≡ k = cc in ap Some same
+terminal_ok :
+    (path : List ℕ) (o : Option ℕ) (k : ℕ) → terminal_in path o ≡ Ok k → o ≡ Some k
+terminal_ok path None k e = absurd (cc)
+terminal_ok path (Some n) k e = let same : n ≡ k = cc in ap Some same
 
 other_ok :
     (path : List ℕ) (from : ℕ) (o : Option ℕ) (k : ℕ) → receiver path from o ≡ Ok k
@@ -62,7 +62,7 @@ ends_at-ok places ts before ms x e =
     passed (key_text places (codes "from") ms) _ from from_is in
     let record { value = other; was = other_is; rest = to_ok } =
     passed (key_text places (codes "to") ms) _ to to_is in
-    let from_called = sender_ok _ (terminal_called ts name) from from_ok in
+    let from_called = terminal_ok _ (terminal_called ts name) from from_ok in
     let to_called = other_ok _ from (terminal_called ts other) to to_ok in
     let same : record { from = from; to = to } ≡ x = cc in
     subst (λ c. AreNewEnds ts before c) same (record {

@@ -26,10 +26,10 @@ channel_keys _ = codes "from" ∷ codes "to" ∷ time_key Delay ∷ []
 abbrev pub terminal_called : List Terminal → List ℕ → Option ℕ
 terminal_called ts name = position_from (λ t. bytes_eq t.name name) 0 ts
 
--- a terminal that sends: one of the line
-abbrev pub sender : List ℕ → Option ℕ → Result ℕ DocumentFault
-sender path None = Err (fault.BadName path)
-sender path (Some k) = Ok k
+-- a terminal that is named, as the one that sends on a channel: one of the line
+abbrev pub terminal_in : List ℕ → Option ℕ → Result ℕ DocumentFault
+terminal_in path None = Err (fault.BadName path)
+terminal_in path (Some k) = Ok k
 
 -- a terminal that receives: another one of the line
 abbrev pub receiver : List ℕ → ℕ → Option ℕ → Result ℕ DocumentFault
@@ -40,7 +40,7 @@ receiver path from (Some k) = if k == from then Err (fault.BadName path) else Ok
 unfoldable pub from_at : Places → List Terminal → Members → Result ℕ DocumentFault
 from_at places ts ms = do
   name ← key_text places (codes "from") ms
-  sender (places.key (codes "from")) (terminal_called ts name)
+  terminal_in (places.key (codes "from")) (terminal_called ts name)
 
 unfoldable pub to_at : Places → List Terminal → ℕ → Members → Result ℕ DocumentFault
 to_at places ts from ms = do

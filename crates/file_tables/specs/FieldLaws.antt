@@ -6,11 +6,12 @@ use Rattle.std.proofs.lemmas.Bool.{leb-true}
 use Rattle.std.proofs.lemmas.Fmt.{decimal_by_steps, length-decimal-le}
 use Rattle.std.proofs.lemmas.List.Folds.{list_all-append}
 use Rattle.std.proofs.lemmas.List.{get_or-map}
-use Rattle.std.specs.Prelude.{nat_le, slice_get, unwrap_or}
+use Rattle.std.specs.Prelude.{IsTrue, nat_le, slice_get, unwrap_or}
 use Rattle.std.specs.List.{AllByRecursion, list_all, list_any, position_from}
 use Rattle.csv.specs.Writing.{default_writer, field_text, fields_text, is_blank, needs_byte, row_text}
 use Rattle.base_text.specs.lines.LineLaws.{both_true}
 use Rattle.model_line.specs.PlainNames.{is_plain_byte, is_plain_name}
+use Rattle.model_line.specs.Terminals.{are_plain_names}
 use Rattle.model_line.specs.ParamNames.{setting_text, name_at, channel_name, owner_name, param_name}
 use Rattle.model_line.specs.Settings.{OwnedSetting, line_settings, is_owned_setting, same_owner, same_setting}
 use Rattle.model_line.specs.NumberLaws.{delay_number, length-line_settings}
@@ -137,18 +138,14 @@ name_stands name plain =
     let bytes = both_true (nat_le (length name) 16) (list_all is_plain_byte name) long.1 in
     record { bare = plain_bare name bytes.1; short = leb-true (length name) 16 bytes.0 }
 
--- the terminals have plain names
-abbrev ArePlain : List Terminal → Type 0
-ArePlain terminals = list_all (λ t. is_plain_name t.name) terminals ≡ true
-
-pub name_at_stands : (ts : List Terminal) (k : ℕ) → ArePlain ts → IsFieldUpTo 16 (name_at ts k)
+pub name_at_stands : (ts : List Terminal) (k : ℕ) → IsTrue (are_plain_names ts) → IsFieldUpTo 16 (name_at ts k)
 name_at_stands [] k all = record { bare = refl; short = omega arith }
 name_at_stands (t ∷ ts) zero all =
     name_stands t.name (both_true (is_plain_name t.name) (list_all (λ x. is_plain_name x.name) ts) all).0
 name_at_stands (t ∷ ts) (suc k) all =
     name_at_stands ts k (both_true (is_plain_name t.name) (list_all (λ x. is_plain_name x.name) ts) all).1
 
-pub channel_stands : (ts : List Terminal) (c : Option Channel) → ArePlain ts
+pub channel_stands : (ts : List Terminal) (c : Option Channel) → IsTrue (are_plain_names ts)
     → IsFieldUpTo 33 (channel_name ts c)
 channel_stands ts None all = record { bare = refl; short = omega arith }
 channel_stands ts (Some c) all =
@@ -159,14 +156,14 @@ setting_stands : (s : Setting) → IsFieldUpTo 17 (setting_text s)
 setting_stands setting.Z1Pickup = record { bare = refl; short = omega arith }
 setting_stands _ = record { bare = refl; short = omega arith }
 
-owner_stands : (ts : List Terminal) (cs : List Channel) (o : Owner) → ArePlain ts
+owner_stands : (ts : List Terminal) (cs : List Channel) (o : Owner) → IsTrue (are_plain_names ts)
     → IsFieldUpTo 33 (owner_name ts cs o)
 owner_stands ts cs (owner.Terminal k) all =
     let name = name_at_stands ts k all in
     record { bare = name.bare; short = omega (arith, name.short) }
 owner_stands ts cs (owner.Channel c) all = channel_stands ts (slice_get cs c) all
 
-dotted_stands : (ts : List Terminal) (cs : List Channel) (owned : OwnedSetting) → ArePlain ts
+dotted_stands : (ts : List Terminal) (cs : List Channel) (owned : OwnedSetting) → IsTrue (are_plain_names ts)
     → IsFieldUpTo 51 (param_name ts cs owned)
 unfolding param_name
 dotted_stands ts cs owned all =
@@ -174,7 +171,7 @@ dotted_stands ts cs owned all =
     (owner_stands ts cs owned.owner all) (setting_stands owned.setting)
 
 each_stands : (ts : List Terminal) (cs : List Channel) (all : List OwnedSetting) (i : ℕ)
-    → ArePlain ts → IsFieldUpTo 51 (get_or (map (param_name ts cs) all) i [])
+    → IsTrue (are_plain_names ts) → IsFieldUpTo 51 (get_or (map (param_name ts cs) all) i [])
 each_stands ts cs [] i plain = record { bare = refl; short = omega arith }
 each_stands ts cs (owned ∷ all) zero plain = dotted_stands ts cs owned plain
 each_stands ts cs (owned ∷ all) (suc i) plain = each_stands ts cs all i plain
@@ -220,7 +217,7 @@ delay_word setting.UnblockPickup same = absurd (let e = same in cc)
 delay_word setting.UnblockWindow same = absurd (let e = same in cc)
 delay_word setting.UnblockRestore same = absurd (let e = same in cc)
 
-delay_dotted : (ts : List Terminal) (cs : List Channel) (owned : OwnedSetting) → ArePlain ts
+delay_dotted : (ts : List Terminal) (cs : List Channel) (owned : OwnedSetting) → IsTrue (are_plain_names ts)
     → same_setting setting.Delay owned.setting ≡ true → IsFieldUpTo 39 (param_name ts cs owned)
 unfolding param_name
 delay_dotted ts cs owned all same =

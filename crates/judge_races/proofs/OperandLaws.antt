@@ -2,24 +2,13 @@
 use Rattle.std.proofs.Common.{◌≡◌, ◌⊎◌, ◌+◌, ◌&&◌, ◌||◌, ℕ, zero, suc, Bool, true, false, List, [], ◌∷◌, ◌++◌, length}
 use Rattle.std.proofs.Common.{inl, inr, refl, sym, ◌∙◌, ap, ⊎_elim}
 use Rattle.std.specs.Prelude.{Some, IsTrue, ◌↔◌, slice_get, if◌then◌else◌}
+use Rattle.model_history.specs.TruthLaws.{or_split, or_left, or_right}
 use Rattle.model_history.specs.ListLaws.{at_append, before_append, after_append}
 use Rattle.model_logic.specs.Mean.{World, Signals, mean}
 use Rattle.model_logic.specs.PairMean.{PairWorld, PairSignals, pair_mean}
 use Rattle.model_logic.specs.Tree.{Tree, Const, Seen, Loss, Raw, Not, And, Or, Timer, Seal}
 use Rattle.judge_races.specs.Operands.{alternatives, operands, is_raw}
 use Rattle.judge_races.specs.Spare.{SomeComplete}
-
-one_of : (a b : Bool) → IsTrue (a || b) → IsTrue a ⊎ IsTrue b
-one_of true b on = inl refl
-one_of false b on = inr on
-
-left_so : (a b : Bool) → IsTrue a → IsTrue (a || b)
-left_so true b on = refl
-left_so false b on = absurd (cc)
-
-right_so : (a b : Bool) → IsTrue b → IsTrue (a || b)
-right_so true b on = refl
-right_so false b on = on
 
 parts : (a b : Bool) → IsTrue (a && b) ↔ (IsTrue a × IsTrue b)
 parts true b = (λ on. (refl, on), λ p. p.1)
@@ -58,7 +47,7 @@ module _ (f : Tree → Bool) (ors : (x y : Tree) → f (Or x y) ≡ (f x || f y)
         after_append (alternatives x) (alternatives y) one.0 ∙ one.2,
         one.3,
       ))
-      (one_of (f x) (f y) (sym (ors x y) ∙ on))
+      (or_split (f x) (f y) (sym (ors x y) ∙ on))
   some_alternative (Timer x p d) on = (0, Timer x p d, refl, on)
   some_alternative (Seal x y) on = (0, Seal x y, refl, on)
 
@@ -72,8 +61,8 @@ module _ (f : Tree → Bool) (ors : (x y : Tree) → f (Or x y) ≡ (f x || f y)
   by_alternative (And a b) i y at on = itself (And a b) y i at on
   by_alternative (Or a b) i y at on =
       ors a b
-      ∙ ⊎_elim (λ first. left_so (f a) (f b) (by_alternative a i y first on))
-      (λ h. right_so (f a) (f b) (by_alternative b h.0 y h.2 on))
+      ∙ ⊎_elim (λ first. or_left (f a) (f b) (by_alternative a i y first on))
+      (λ h. or_right (f a) (f b) (by_alternative b h.0 y h.2 on))
       (at_append (alternatives a) (alternatives b) i y at)
   by_alternative (Timer x p d) i y at on = itself (Timer x p d) y i at on
   by_alternative (Seal a b) i y at on = itself (Seal a b) y i at on

@@ -21,7 +21,7 @@ use Rattle.run_waves.specs.derived.Claims.{AreGateWaves, pairs_of}
 use Rattle.judge_verdict.specs.verdict.Verdicts.{AreKeys}
 use Rattle.judge_races.specs.Stretches.{AreOffs, Longest}
 use Rattle.judge_races.specs.Lacks.{IsColumn}
-use Rattle.judge_races.specs.Gates.{trees_of}
+use Rattle.net_gates.specs.Formulas.{trees_of}
 use Rattle.judge_races.specs.declared.stretch.Stretch.{Stretch}
 
 -- the keys that waves were taken of are those of the interval history

@@ -1,16 +1,12 @@
 -- The gates of operands.
-use Rattle.std.specs.Prelude.{◌≡◌, ◌<◌, false, List, Vec, map, length, get_or}
+use Rattle.std.specs.Prelude.{◌≡◌, ◌<◌, false, List, Vec, length, get_or}
 use Rattle.std.specs.List.{All}
 use Rattle.std.specs.declared.alloc.Global.{Global}
 use Rattle.model_logic.specs.Tree.{Tree, Const}
 use Rattle.net_gates.specs.declared.{gate.Gate.Gate, gate.GateId.GateId}
-use Rattle.net_gates.specs.Formulas.{formula_of}
+use Rattle.net_gates.specs.Formulas.{trees_of}
 use Rattle.judge_verdict.specs.verdict.OneEach.{OneEach}
 use Rattle.judge_races.specs.Operands.{operands}
-
--- the trees that gates stand for
-abbrev pub trees_of : List Gate → List GateId → List Tree
-trees_of gates ids = map (λ id. formula_of gates id.0) ids
 
 -- each is a gate of the net
 abbrev pub AreIn : List Gate → List GateId → Type 0

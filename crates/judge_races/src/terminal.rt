@@ -6,7 +6,8 @@ ghost use Rattle.model_line.specs.Parameters.{terminal_count};
 ghost use Rattle.model_line.specs.declared.script.Script.{Script};
 ghost use Rattle.net_gates.specs.Formulas.{formula_of};
 ghost use Rattle.run_waves.specs.waves.Waves.{AreWaves};
-ghost use Rattle.judge_races.specs.Gates.{trees_of, AreIn};
+ghost use Rattle.net_gates.specs.Formulas.{trees_of};
+ghost use Rattle.judge_races.specs.Gates.{AreIn};
 ghost use Rattle.judge_races.specs.Lasting.{AreColumns, AreHistoryWaves, IsColumnOf, IsTripOf};
 ghost use Rattle.judge_races.specs.Races.{columns_of};
 

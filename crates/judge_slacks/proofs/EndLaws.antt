@@ -16,36 +16,11 @@ use Rattle.model_logic.specs.Tree.{Tree, Const, Seen, Loss, Raw, Not, And, Or, T
 use Rattle.model_settle.specs.Sides.{IsReadOn, Rail, Sides, number_at, turned}
 use Rattle.model_settle.specs.SideLaws.{number_within}
 use Rattle.model_settle.specs.Known.{IsReadOver}
+use Rattle.model_settle.specs.KnownLaws.{read_stays}
 use Rattle.model_settle.specs.Schemes.{IsOneRailedBy, all_terminals, end_for, scheme_sides, setting_at}
 use Rattle.model_settle.specs.Worst.{IsOrdered, deciding, worst_choice}
 use Rattle.judge_slacks.specs.Known.{Known}
 use Rattle.judge_slacks.specs.SlackLaws.{AnObligationReadsOneEnd}
-
--- what is read whatever is known is read
-read_stays : (known : Tree → Type 0) (from : ℕ → ℕ) (cone : ℕ → Bool) (sides : Sides)
-    (rail : Rail) (x : Tree) → IsReadOn from cone sides rail x
-    → IsReadOver known from cone sides rail x
-unfolding IsReadOn IsReadOver
-read_stays known from cone sides rail (Const b) read = tt
-read_stays known from cone sides rail (Seen p) read = tt
-read_stays known from cone sides rail (Loss c) read = tt
-read_stays known from cone sides rail (Raw c) read = inr read
-read_stays known from cone sides rail (Not x) read =
-    read_stays known from cone sides (turned rail) x read
-read_stays known from cone sides rail (And x y) read = inr (
-  read_stays known from cone sides rail x read.0,
-  read_stays known from cone sides rail y read.1,
-)
-read_stays known from cone sides rail (Or x y) read = inr (
-  read_stays known from cone sides rail x read.0,
-  read_stays known from cone sides rail y read.1,
-)
-read_stays known from cone sides rail (Timer x p d) read =
-    inr (read_stays known from cone sides rail x read.0, read.1)
-read_stays known from cone sides rail (Seal x y) read = inr (
-  read_stays known from cone sides rail x read.0,
-  read_stays known from cone sides rail y read.1,
-)
 
 from_one_within : (line : Line) (choice : Choice) (box : Box) → LeastFromOne line box
     → IsWithin line choice box → DelaysFromOne line choice

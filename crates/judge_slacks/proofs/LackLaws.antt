@@ -10,9 +10,7 @@ use Rattle.judge_margins.specs.margins.Widened.{param_at, side_at}
 use Rattle.judge_slacks.specs.Inward.{CanMoveIn}
 use Rattle.judge_slacks.specs.Lacks.{AreDeep, AreLacks, AreNeeds, AreOff, IsFurthest, IsShort}
 use Rattle.judge_slacks.specs.Lacks.{NoneIsHeld, need_with}
-
-before_or_here : (i n : ℕ) → i < n + 1 → (i < n) ⊎ (i ≡ n)
-before_or_here i n lt = grind arith
+use Rattle.judge_slacks.proofs.MoveSpans.{before_or_here}
 
 -- what stands at a place is one need
 one_need : (needs : List Need) (n i : ℕ) (a b : Need) → slice_get needs n ≡ Some a → i ≡ n

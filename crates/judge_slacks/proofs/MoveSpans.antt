@@ -6,7 +6,7 @@ use Rattle.std.specs.Prelude.{slice_index, slice_set, ◌⊎◌}
 use Rattle.model_history.specs.Rails.{Ends}
 use Rattle.judge_verdict.specs.boxes.Spans.{SpanLists, span_ends}
 
-before_or_here : (i n : ℕ) → i < n + 1 → (i < n) ⊎ (i ≡ n)
+pub before_or_here : (i n : ℕ) → i < n + 1 → (i < n) ⊎ (i ≡ n)
 before_or_here i n lt = grind arith
 
 pub set_more : (xs : List ℕ) (f : ℕ → ℕ) (n x : ℕ) → n < length xs

@@ -6,7 +6,8 @@ use Rattle.net_gates.specs.declared.gate.Gate.TheVariants.{Const, Seen, Loss, Ra
 use Rattle.net_gates.specs.declared.gate.Gate.TheVariants.{Timer, Seal}
 use Rattle.net_gates.specs.NetOf.{key_of}
 use Rattle.judge_why.specs.declared.fact.{Spot.Spot, Fact.Fact}
-use Rattle.judge_why.specs.Plays.{PlayOf, agree}
+use Rattle.model_logic.specs.SameTree.{same_value}
+use Rattle.judge_why.specs.Plays.{PlayOf}
 
 abbrev pub spot_at : ℕ → ℕ → Option Spot
 spot_at gate tick = Some (record { gate = gate; tick = tick })
@@ -15,7 +16,7 @@ spot_at gate tick = Some (record { gate = gate; tick = tick })
 -- that is off always has it; of others, the operands that decide have it
 abbrev pub if_alike : PlayOf → Fact → ℕ → Option Spot
 if_alike play fact gate =
-    if agree (play.level gate fact.tick) fact.level then spot_at gate fact.tick else None
+    if same_value (play.level gate fact.tick) fact.level then spot_at gate fact.tick else None
 
 -- what lasts looks at its input where it came on, and what is off at the tick of the fact
 abbrev pub looked_at : Fact → ℕ

@@ -7,7 +7,8 @@ use Rattle.net_gates.specs.declared.gate.Gate.TheVariants.{Const, Seen, Loss, Ra
 use Rattle.net_gates.specs.declared.gate.Gate.TheVariants.{Timer, Seal}
 use Rattle.net_gates.specs.Gates.{AreGates}
 use Rattle.judge_why.specs.declared.fact.{Spot.Spot, Fact.Fact}
-use Rattle.judge_why.specs.Plays.{PlayOf, agree}
+use Rattle.model_logic.specs.SameTree.{same_value}
+use Rattle.judge_why.specs.Plays.{PlayOf}
 use Rattle.judge_why.specs.Facts.{IsFact, IsStretch}
 use Rattle.judge_why.specs.Causes.{first_by, second_by, first_cause, second_cause, of_gate, if_alike}
 use Rattle.judge_why.specs.Causes.{spot_at}
@@ -58,7 +59,7 @@ module _ (play : PlayOf) (level : ℕ → ℕ → Bool) (told : ℕ → Bool) (a
   operand_alike : (fact : Fact) (x : ℕ) → x < length play.net.gates → fact.tick < play.horizon
       → if_alike play fact x ≡ if_alike (with_levels play level told) fact x
   operand_alike fact x there early =
-      ap (λ (v : Bool). cond (agree v fact.level) (spot_at x fact.tick) None)
+      ap (λ (v : Bool). cond (same_value v fact.level) (spot_at x fact.tick) None)
       (alike.levels x fact.tick there early)
 
   first_of_gate : (fact : Fact) (o : Option Gate) → slice_get play.net.gates fact.gate ≡ o

@@ -35,8 +35,3 @@ pub record IsPlay (play : Play) : Type 0 where
 pub record IsSpot (play : PlayOf) (spot : Spot) : Type 0 where
   pub gate : spot.gate < length play.net.gates
   pub tick : spot.tick < play.horizon
-
--- both levels are on, or neither
-abbrev pub agree : Bool → Bool → Bool
-agree true level = level
-agree false level = not level

@@ -1,7 +1,8 @@
 //! The levels of gates.
 
 ghost use Rattle.std.specs.Prelude.{◌≡◌, ◌<◌};
-ghost use Rattle.judge_why.specs.Plays.{IsPlay, IsSpot, agree, play_of};
+ghost use Rattle.judge_why.specs.Plays.{IsPlay, IsSpot, play_of};
+ghost use Rattle.model_logic.specs.SameTree.{same_value};
 
 use crate::fact::Spot;
 use crate::play::Play;
@@ -21,14 +22,14 @@ pub fn is_on(play: &Play<'_>, spot: Spot) -> bool
 pub fn has_level(play: &Play<'_>, spot: Spot, level: bool) -> bool
     requires play { IsPlay play.now }
     requires spot { IsSpot (play_of play.now) spot }
-    ensures { result ≡ agree ((play_of play.now).level spot.gate spot.tick) level }
+    ensures { result ≡ same_value ((play_of play.now).level spot.gate spot.tick) level }
 {
     same(is_on(play, spot), level)
 }
 
 // Whether both are on, or neither.
 fn same(one: bool, other: bool) -> bool
-    ensures { result ≡ agree one other }
+    ensures { result ≡ same_value one other }
 {
     if one { other } else { !other }
 }

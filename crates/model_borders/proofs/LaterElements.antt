@@ -4,11 +4,8 @@ use Rattle.std.proofs.Common.{◌∙◌, ⊎_elim}
 use Rattle.std.proofs.lemmas.Bool.{cases_lt}
 use Rattle.std.proofs.lemmas.Bool.Decides.{Decides-like, same_from_decides}
 use Rattle.std.specs.Prelude.{IsTrue, Decides}
-use Rattle.model_history.specs.{Laws.HistoryLaws, TruthLaws.not_both}
+use Rattle.model_history.specs.{Laws.HistoryLaws, TruthLaws.not_both, TruthLaws.on_at}
 use Rattle.model_history.specs.Elements.{timed, sealed, Holds, IsTimed, IsSealed}
-
-on_at : (u : ℕ → Bool) (r s : ℕ) → r ≡ s → IsTrue (u r) → IsTrue (u s)
-on_at u r s e on = subst (λ (x : ℕ). IsTrue (u x)) e on
 
 -- v is u, d ticks later, at each tick up to t + d, and off before
 pub record Comes_later (d : ℕ) (u v : ℕ → Bool) (t : ℕ) : Type 0 where

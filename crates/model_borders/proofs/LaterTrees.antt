@@ -30,9 +30,6 @@ module _ (laws : HistoryLaws) where
       laws.one_delay.value u d (t + d) (omega arith)
       ∙ ap u (omega arith)
 
-  delayed-early : (u : ℕ → Bool) (d t : ℕ) → t < d → delayed u d t ≡ false
-  delayed-early u d t lt = laws.one_delay.value_before u d t lt
-
   module _ (d : ℕ) (line : Line) (shown : Shown) (choice late : Choice)
       (is_late : IsChoiceLater d choice late) (h : History) where
     abbrev w : World
@@ -58,7 +55,7 @@ module _ (laws : HistoryLaws) where
         (λ short. laws.one_delay.value_before (λ s. delayed (h.key (w.from c)) d s) (late.delay c t) t
         short)
         (λ long. laws.one_delay.value (λ s. delayed (h.key (w.from c)) d s) (late.delay c t) t long
-        ∙ delayed-early (h.key (w.from c)) d (t - late.delay c t) (omega arith))
+        ∙ laws.one_delay.value_before (h.key (w.from c)) d (t - late.delay c t) (omega arith))
         (cases_lt t (late.delay c t))
 
     -- what arrives after q ticks
@@ -69,7 +66,7 @@ module _ (laws : HistoryLaws) where
         ⊎_elim
         (λ before. laws.one_delay.value_before (λ s. delayed u d s) q (t + d) before)
         (λ long. laws.one_delay.value (λ s. delayed u d s) q (t + d) long
-        ∙ delayed-early u d (t + d - q) (omega arith))
+        ∙ laws.one_delay.value_before u d (t + d - q) (omega arith))
         (cases_lt (t + d) q)
         ∙ sym (laws.one_delay.value_before u q t short))
         (λ long.
@@ -127,8 +124,8 @@ module _ (laws : HistoryLaws) where
     value_before : (x : Tree) (t : ℕ) → t < d → Rests x → moved x t ≡ rest x
     unfolding mean Rests rest shown_world_of shown_later history_later
     value_before (Const b) t lt r = refl
-    value_before (Seen p) t lt r = delayed-early (shown.seen p) d t lt
-    value_before (Loss c) t lt r = delayed-early (shown.lost c) d t lt
+    value_before (Seen p) t lt r = laws.one_delay.value_before (shown.seen p) d t lt
+    value_before (Loss c) t lt r = laws.one_delay.value_before (shown.lost c) d t lt
     value_before (Raw c) t lt r = received_early c t lt
     value_before (Not x) t lt r = ap not (value_before x t lt r)
     value_before (And x y) t lt r =
@@ -179,7 +176,7 @@ module _ (laws : HistoryLaws) where
         → ((r : ℕ) → r < end → u r ≡ now x r) → (t : ℕ) → t < end → delayed u d t ≡ moved x t
     at_tick u x end off same t lt =
         ⊎_elim
-        (λ early. delayed-early u d t early ∙ sym (value_before x t early off.rests ∙ off.off))
+        (λ early. laws.one_delay.value_before u d t early ∙ sym (value_before x t early off.rests ∙ off.off))
         (λ from.
         let e : t - d + d ≡ t = omega arith in
         subst (λ (s : ℕ). delayed u d s ≡ moved x s) e

@@ -7,7 +7,7 @@ use Rattle.std.proofs.lemmas.Nat.{le-div, div_below}
 use Rattle.std.specs.Prelude.{IsTrue, Decides, map, nat_le, nat_lt}
 use Rattle.std.specs.List.{list_any}
 use Rattle.model_history.specs.{Laws.HistoryLaws, Elements.delayed, Rails.Ends}
-use Rattle.model_history.specs.TruthLaws.{Decides-le, and_both}
+use Rattle.model_history.specs.TruthLaws.{Decides-le, and_both, or_split, or_left, or_right}
 use Rattle.model_line.specs.Seen.{is_of_place, is_of_loss, is_seen, is_lost}
 use Rattle.model_line.specs.{declared.line.Line.Line, declared.script.Script.Script}
 use Rattle.model_line.specs.{declared.script.What.What, declared.script.SeenSpan.SeenSpan}
@@ -22,17 +22,6 @@ use Rattle.model_borders.specs.declared.script.LooseScript.{LooseScript}
 use Rattle.model_borders.proofs.Places.{stands_from, stands_to}
 
 -- ---- lists of which some element passes
-
-or_split : (a b : Bool) → IsTrue (a || b) → IsTrue a ⊎ IsTrue b
-or_split true b on = inl refl
-or_split false b on = inr on
-
-or_left : (a b : Bool) → IsTrue a → IsTrue (a || b)
-or_left a b on = ap (λ (v : Bool). v || b) on
-
-or_right : (a b : Bool) → IsTrue b → IsTrue (a || b)
-or_right true b on = refl
-or_right false b on = on
 
 module _ {A B : Type 0} (p : B → Bool) (g : A → Bool) (f : A → B) where
   -- what passes there says so much, and that it passes here

@@ -4,16 +4,13 @@ use Rattle.std.proofs.Common.{⊎_elim}
 use Rattle.std.proofs.lemmas.Bool.{cases_lt}
 use Rattle.std.proofs.lemmas.Bool.Decides.{Decides-like, same_from_decides}
 use Rattle.std.specs.Prelude.{IsTrue}
-use Rattle.model_history.specs.{Laws.HistoryLaws, Comes.Comes}
+use Rattle.model_history.specs.{Laws.HistoryLaws, Comes.Comes, TruthLaws.on_at}
 use Rattle.model_history.specs.Elements.{timed, sealed, delayed, Holds, IsTimed, IsSealed}
 use Rattle.model_fine.specs.Cut.{cut}
 use Rattle.model_fine.proofs.Floors.{begins, ends, at_or_after, up_to, later, times}
 use Rattle.model_fine.proofs.Floors.{below_back, within, first, earlier}
 
 module _ (n : ℕ) (some : 1 ≤ n) where
-  on_at : (u : ℕ → Bool) (r s : ℕ) → r ≡ s → IsTrue (u r) → IsTrue (u s)
-  on_at u r s e on = subst (λ (x : ℕ). IsTrue (u x)) e on
-
   -- ---- the timed element
 
   holds_whole : (u : ℕ → Bool) (p s : ℕ) → Holds (cut n u) (p * n) s → Holds u p (s / n)

@@ -25,7 +25,7 @@ delay_at line c i lt same =
     (eq-eqb (delay_param line c) i same)
 
 -- and each delay has the number of some channel's
-delay_where : (line : Line) (i : ℕ) → IsTrue (is_delay line i)
+pub delay_where : (line : Line) (i : ℕ) → IsTrue (is_delay line i)
     → (c : ℕ) × (c < channel_count line) × (delay_param line c ≡ i)
 unfolding is_delay
 delay_where line i is =

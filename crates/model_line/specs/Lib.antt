@@ -3,6 +3,7 @@ pub mod DelayLaws
 pub mod FirstPositionLaws
 pub mod Fits
 pub mod Intervals
+pub mod Kinds
 pub mod Making
 pub mod NameOfBytes
 pub mod NumberLaws

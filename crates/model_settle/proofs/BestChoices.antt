@@ -19,7 +19,7 @@ use Rattle.model_settle.specs.Schemes.{IsOneRailedBy, scheme_sides, all_terminal
 use Rattle.model_settle.proofs.WorstHistories.{trip_is_rail}
 use Rattle.model_settle.proofs.WorstRules.{declared_ordered}
 use Rattle.model_settle.proofs.WorstTimings.{worst_inside}
-use Rattle.model_settle.proofs.TreesOnRails.{read_stays}
+use Rattle.model_settle.specs.KnownLaws.{read_stays}
 use Rattle.model_settle.proofs.SchemeSides.{reads_key_tree, reads_trip_tree}
 
 -- a trip that is the rail which does not decide meets what is not broken

@@ -60,32 +60,6 @@ known_value Must x b known cover = both_ways b x.must (λ on. known ∙ cover.ma
 known_value May x b known cover =
     both_ways b x.may cover.may (λ on. cover.must (known ∙ on))
 
--- what is read whatever is known is read
-pub read_stays : (known : Tree → Type 0) (from : ℕ → ℕ) (cone : ℕ → Bool) (sides : Sides)
-    (rail : Rail) (x : Tree) → IsReadOn from cone sides rail x
-    → IsReadOver known from cone sides rail x
-unfolding IsReadOn IsReadOver
-read_stays known from cone sides rail (Const b) read = tt
-read_stays known from cone sides rail (Seen p) read = tt
-read_stays known from cone sides rail (Loss c) read = tt
-read_stays known from cone sides rail (Raw c) read = inr read
-read_stays known from cone sides rail (Not x) read =
-    read_stays known from cone sides (turned rail) x read
-read_stays known from cone sides rail (And x y) read = inr (
-  read_stays known from cone sides rail x read.0,
-  read_stays known from cone sides rail y read.1,
-)
-read_stays known from cone sides rail (Or x y) read = inr (
-  read_stays known from cone sides rail x read.0,
-  read_stays known from cone sides rail y read.1,
-)
-read_stays known from cone sides rail (Timer x p d) read =
-    inr (read_stays known from cone sides rail x read.0, read.1)
-read_stays known from cone sides rail (Seal x y) read = inr (
-  read_stays known from cone sides rail x read.0,
-  read_stays known from cone sides rail y read.1,
-)
-
 -- ---- a world that is the worst one for keys of pairs
 
 pub record IsWorstWorld (line : Line) (sides : Sides) (v : World) (w : PairWorld)

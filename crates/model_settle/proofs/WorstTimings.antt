@@ -12,7 +12,7 @@ use Rattle.model_settle.specs.Worst.{worst_choice, deciding}
 use Rattle.model_settle.specs.Schemes.{IsOneRailedBy, scheme_sides, all_terminals, WorstTiming}
 use Rattle.model_settle.proofs.WorstHistories.{choice_within}
 use Rattle.model_settle.proofs.WorstRules.{worst_meets, declared_ordered}
-use Rattle.model_settle.proofs.TreesOnRails.{read_stays}
+use Rattle.model_settle.specs.KnownLaws.{read_stays}
 use Rattle.model_settle.proofs.SchemeSides.{reads_key_tree, reads_trip_tree}
 
 module _ (laws : HistoryLaws) (line_laws : LineLaws) (in_order : DeclaredIntervalsAreInOrder)

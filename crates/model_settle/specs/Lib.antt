@@ -8,6 +8,7 @@ pub mod Demands
 pub mod EchoLaws
 pub mod Worst
 pub mod Known
+pub mod KnownLaws
 pub mod Choices
 pub mod PolarityLaws
 pub mod Schemes

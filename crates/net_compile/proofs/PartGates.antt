@@ -10,21 +10,22 @@ use Rattle.net_gates.specs.{declared.gate.Gate.Gate, declared.gate.GateId.GateId
 use Rattle.net_gates.specs.{Formulas.formula_of, Formulas.Stands, Named.KeepsNames}
 use Rattle.net_gates.specs.NetOf.{AreGatesOf, id_at}
 use Rattle.net_compile.specs.Growing.{Grows, Extends, ExtendsByParts}
-use Rattle.net_compile.specs.Compiled.{trees_at, ArePartGates}
+use Rattle.net_gates.specs.Formulas.{trees_of}
+use Rattle.net_compile.specs.Compiled.{ArePartGates}
 
 within_less : (id : GateId) (ids : List GateId) (n : ℕ) → AreGatesOf (id ∷ ids) n → AreGatesOf ids n
 within_less id ids n within k lt = within (suc k) (omega arith)
 
 -- gates that stand already keep their trees
 pub trees_kept : (old new : List Gate) (ids : List GateId) → AreGatesOf ids (length old)
-    → Grows old new → trees_at new ids ≡ trees_at old ids
+    → Grows old new → trees_of new ids ≡ trees_of old ids
 trees_kept old new [] within grows = refl
 trees_kept old new (id ∷ ids) within grows =
     let first : formula_of new id.0 ≡ formula_of old id.0 =
     grows.same id.0 (within 0 (omega arith)) in
-    let rest : trees_at new ids ≡ trees_at old ids =
+    let rest : trees_of new ids ≡ trees_of old ids =
     trees_kept old new ids (within_less id ids (length old) within) grows in
-    ap (λ t. t ∷ trees_at new ids) first ∙ ap (λ ts. formula_of old id.0 ∷ ts) rest
+    ap (λ t. t ∷ trees_of new ids) first ∙ ap (λ ts. formula_of old id.0 ∷ ts) rest
 
 pub within_kept : (old new : List Gate) (ids : List GateId) → AreGatesOf ids (length old)
     → Grows old new → AreGatesOf ids (length new)
@@ -32,7 +33,7 @@ within_kept old new ids within grows k lt = omega (arith, within k lt, grows.lon
 
 -- the tree of the part at a place
 pub part_is : (gates : List Gate) (ids : List GateId) (n : ℕ) (id : GateId) → n < length ids
-    → id ≡ get_or ids n id → formula_of gates id.0 ≡ part_at (trees_at gates ids) n
+    → id ≡ get_or ids n id → formula_of gates id.0 ≡ part_at (trees_of gates ids) n
 part_is gates ids n id lt is =
     ap (λ i. formula_of gates i.0) is
     ∙ sym (get_or-map (λ i. formula_of gates i.0) ids n id _ lt)
@@ -46,7 +47,7 @@ within_push (id ∷ ids) last n within lt (suc k) le =
     within_push ids last n (within_less id ids n within) lt k (omega arith)
 
 trees_push : (gates : List Gate) (ids : List GateId) (last : GateId)
-    → trees_at gates (ids ++ last ∷ []) ≡ trees_at gates ids ++ formula_of gates last.0 ∷ []
+    → trees_of gates (ids ++ last ∷ []) ≡ trees_of gates ids ++ formula_of gates last.0 ∷ []
 trees_push gates [] last = refl
 trees_push gates (id ∷ ids) last = ap (λ ts. formula_of gates id.0 ∷ ts) (trees_push gates ids last)
 
@@ -54,7 +55,7 @@ trees_push gates (id ∷ ids) last = ap (λ ts. formula_of gates id.0 ∷ ts) (t
 pub record HaveParts (initial net : List Gate) (ids : List GateId) (all rest : List Formula)
     : Type 0 where
   pub within : AreGatesOf ids (length net)
-  pub trees : trees_after (trees_at net ids) rest ≡ trees_after [] all
+  pub trees : trees_after (trees_of net ids) rest ≡ trees_after [] all
   pub grows : Grows initial net
   pub few : length net + operations_of rest ≤ length initial + operations_of all
   pub named : (line : Line) → AreNamed line all → KeepsNames line initial net × AreNamed line rest
@@ -86,7 +87,7 @@ module _ (initial mid new : List Gate) (ids : List GateId) (all rest : List Form
         more.named line (have.named line names).1.0 n ((have.named line names).0 n before);
   }
 
-  pub parts_more : (id : GateId) → Stands new id.0 (tree_of (trees_at mid ids) f)
+  pub parts_more : (id : GateId) → Stands new id.0 (tree_of (trees_of mid ids) f)
       → HaveParts initial new (ids ++ id ∷ []) all rest
   parts_more id stands = record {
     within =
@@ -96,7 +97,7 @@ module _ (initial mid new : List Gate) (ids : List GateId) (all rest : List Form
         ap (λ ts. trees_after ts rest)
         (trees_push new ids id
         ∙ ap (λ ts. ts ++ formula_of new id.0 ∷ []) (trees_kept mid new ids have.within more.grows)
-        ∙ ap (λ t. trees_at mid ids ++ t ∷ []) stands.is)
+        ∙ ap (λ t. trees_of mid ids ++ t ∷ []) stands.is)
         ∙ have.trees;
     grows = extends_so_far.grows;
     few = omega (arith, have.few, more.few);
@@ -118,7 +119,7 @@ all_parts initial net ids all have = (
 -- the gate of a part stands for its tree
 pub part_stands : (gates : List Gate) (ids : List GateId) (n : ℕ) (id : GateId)
     → AreGatesOf ids (length gates) → n < length ids → id ≡ get_or ids n id
-    → Stands gates id.0 (part_at (trees_at gates ids) n)
+    → Stands gates id.0 (part_at (trees_of gates ids) n)
 part_stands gates ids n id within lt is =
     let number : id_at ids n ≡ id.0 =
     get_or-map (λ i. i.0) ids n id 0 lt ∙ ap (λ i. i.0) (sym is) in

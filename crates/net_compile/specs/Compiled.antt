@@ -1,22 +1,18 @@
 -- The gates of a program.
-use Rattle.std.specs.Prelude.{◌≡◌, ℕ, List, [], length, map}
+use Rattle.std.specs.Prelude.{◌≡◌, ℕ, List, [], length}
 use Rattle.model_line.specs.declared.line.Line.{Line}
 use Rattle.model_logic.specs.{Tree.Tree, Logic.key_tree, Logic.trip_tree}
 use Rattle.model_plain.specs.declared.formula.{Formula.Formula, Program.Program}
 use Rattle.model_plain.specs.Formulas.{tree_of, trees_after, part_trees}
 use Rattle.net_gates.specs.{declared.gate.Gate.Gate, declared.gate.GateId.GateId}
-use Rattle.net_gates.specs.{Formulas.formula_of, Formulas.Stands, NetOf.AreGatesOf}
+use Rattle.net_gates.specs.{Formulas.Stands, Formulas.trees_of, NetOf.AreGatesOf}
 use Rattle.net_compile.specs.declared.program_gates.Ends.{Ends}
-
--- the trees that these gates stand for
-abbrev pub trees_at : List Gate → List GateId → List Tree
-trees_at gates ids = map (λ id. formula_of gates id.0) ids
 
 -- the gates of parts, in order
 pub record ArePartGates (parts : List Formula) (gates : List Gate) (ids : List GateId)
     : Type 0 where
   pub within : AreGatesOf ids (length gates)
-  pub trees : trees_at gates ids ≡ trees_after [] parts
+  pub trees : trees_of gates ids ≡ trees_after [] parts
 
 -- the gates stand for the program's key and its trip
 pub record AreEnds (program : Program) (gates : List Gate) (ends : Ends) : Type 0 where

@@ -4,7 +4,8 @@ ghost use Rattle.std.specs.Prelude.{◌<◌, ◌≤◌, ◌+◌, false, length, 
 ghost use Rattle.model_plain.specs.Formulas.{operations, own_tree, part_at, tree_of};
 ghost use Rattle.model_logic.specs.Tree.{And, Const};
 ghost use Rattle.net_gates.specs.{Formulas.Stands, NetOf.AreGatesOf};
-ghost use Rattle.net_compile.specs.{Growing.Extends, Compiled.trees_at};
+ghost use Rattle.net_compile.specs.Growing.{Extends};
+ghost use Rattle.net_gates.specs.Formulas.{trees_of};
 
 use crate::builder::NetBuilder;
 use model_line::Memory;
@@ -24,7 +25,7 @@ pub fn compile_formula(
     requires parts { AreGatesOf parts.now (length net.old) }
     ensures adds { Extends (own_tree formula.now) net.old net.new }
     ensures made { IfOk result (λ id.
-        Stands net.new id.0 (tree_of (trees_at net.old parts.now) formula.now)) }
+        Stands net.new id.0 (tree_of (trees_of net.old parts.now) formula.now)) }
 {
     match formula {
         Formula::Part(part) => part_gate(net, parts, *part),
@@ -70,9 +71,9 @@ fn both(
     ensures few { length net.new
         ≤ length net.old + operations (own_tree x.now) + operations (own_tree y.now) }
     ensures first { IfOk result (λ ids.
-        Stands net.new ids.0.0 (tree_of (trees_at net.old parts.now) x.now)) }
+        Stands net.new ids.0.0 (tree_of (trees_of net.old parts.now) x.now)) }
     ensures second { IfOk result (λ ids.
-        Stands net.new ids.1.0 (tree_of (trees_at net.old parts.now) y.now)) }
+        Stands net.new ids.1.0 (tree_of (trees_of net.old parts.now) y.now)) }
 {
     let first = compile_formula(net, parts, x)?;
     let second = compile_formula(net, parts, y)?;
@@ -85,7 +86,7 @@ fn part_gate(net: &mut NetBuilder, parts: &[GateId], part: u32) -> Result<GateId
     requires parts { AreGatesOf parts.now (length net.old) }
     ensures adds { Extends (Const false) net.old net.new }
     ensures made { IfOk result (λ id.
-        Stands net.new id.0 (part_at (trees_at net.old parts.now) part)) }
+        Stands net.new id.0 (part_at (trees_of net.old parts.now) part)) }
 {
     if (part as usize) < parts.len() {
         Ok(parts[part as usize])

@@ -1,8 +1,8 @@
 -- The trees that gates stand for.
-use Rattle.std.specs.Prelude.{◌≡◌, ◌<◌, ◌++◌, ℕ, false, List, [], ◌∷◌, length, get_or}
+use Rattle.std.specs.Prelude.{◌≡◌, ◌<◌, ◌++◌, ℕ, false, List, [], ◌∷◌, length, get_or, map}
 use Rattle.model_logic.specs.Tree.{Tree}
 use Rattle.model_logic.specs.Tree as tree
-use Rattle.net_gates.specs.declared.gate.Gate.{Gate}
+use Rattle.net_gates.specs.declared.gate.{Gate.Gate, GateId.GateId}
 use Rattle.net_gates.specs.declared.gate.Gate.TheVariants.{Const, Seen, Loss, Raw, Not, And, Or}
 use Rattle.net_gates.specs.declared.gate.Gate.TheVariants.{Timer, Seal}
 
@@ -30,6 +30,10 @@ formulas_after trees (g ∷ gs) = formulas_after (trees ++ tree_with (tree_at tr
 -- the tree that the gate with this number stands for
 unfoldable pub formula_of : List Gate → ℕ → Tree
 formula_of gates id = tree_at (formulas_after [] gates) id
+
+-- the trees that these gates stand for
+abbrev pub trees_of : List Gate → List GateId → List Tree
+trees_of gates ids = map (λ id. formula_of gates id.0) ids
 
 -- the tree that a further gate over these would stand for
 abbrev pub kind_over : List Gate → Gate → Tree

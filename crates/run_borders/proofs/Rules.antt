@@ -6,10 +6,6 @@ pub on_unless : (b : Bool) → (IsFalse b → ⊥) → IsTrue b
 on_unless true never = refl
 on_unless false never = absurd (never refl)
 
-pub denied_unless : (b : Bool) → (IsTrue b → ⊥) → IsTrue (not b)
-denied_unless true never = absurd (never refl)
-denied_unless false never = refl
-
 pub off_by_denial : (b : Bool) → IsTrue (not b) → IsFalse b
 off_by_denial true on = absurd (cc)
 off_by_denial false on = refl

@@ -11,32 +11,12 @@ use Rattle.run_waves.specs.derived.Stretches.{holds}
 use Rattle.run_borders.specs.declared.run.LooseRun.{LooseRun}
 use Rattle.run_borders.specs.{LooseRuns.CanRun, LooseWaves.shown_rails}
 
--- no tick is of any values
-pub of_none : (wave : List Tern) (value : ℕ → Rails) → wave ≡ [] → IsWaveOf wave (length wave) value
-of_none wave value none = record {
-  long = refl;
-  values = λ t early. absurd (omega (arith, early, ap length none));
-}
-
--- one value at all ticks
-pub of_one : WavesGrow → (wave new : List Tern) (level : Tern) (n : ℕ) (value : ℕ → Rails) → wave ≡ []
-    → new ≡ wave ++ replicate n level → ((k : ℕ) → k < n → tern_rails level ≡ value k)
-    → IsWaveOf new n value
-of_one grow wave new level n value none more same =
-    let empty : length wave ≡ 0 = ap length none in
-    let long : length new ≡ n = omega (arith, grow.long wave new level n more, empty) in
-    subst (λ (j : ℕ). IsWaveOf new j value) long
-    (grow.ticks wave new level n value (of_none wave value none) more
-    (λ k low high. same k (omega (arith, high, empty))))
-
-abbrev pub pair : Bool → Bool → Rails
-pair must may = record { must = must; may = may }
-
 -- a value that is made with two rails has them, whatever they are called
 pub rails_with : (a b must may : Bool) (x : Rails) → a ≡ must → b ≡ may
-    → (IsSound (pair a b) → x ≡ pair a b) → IsSound (pair must may) → x ≡ pair must may
+    → (IsSound (record { must = a; may = b }) → x ≡ record { must = a; may = b })
+    → IsSound (record { must = must; may = may }) → x ≡ record { must = must; may = may }
 rails_with a b must may x e f made sound =
-    let P : Bool → Bool → Type 0 = λ v w. IsSound (pair v w) → x ≡ pair v w in
+    let P : Bool → Bool → Type 0 = λ v w. IsSound (record { must = v; may = w }) → x ≡ record { must = v; may = w } in
     subst (λ (w : Bool). P must w) f (subst (λ (v : Bool). P v b) e made) sound
 
 -- what is shown for certain is perhaps shown

@@ -3,3 +3,4 @@ pub mod Text
 pub mod WaveLaws
 pub mod FirstTick
 pub mod FirstTickLaws
+pub mod LevelLaws

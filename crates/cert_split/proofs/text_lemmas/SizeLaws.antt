@@ -10,6 +10,7 @@ use Rattle.model_line.specs.{declared.line.Line.Line, declared.script.Script.Scr
 use Rattle.model_logic.specs.Choice.{Box, declared_box}
 use Rattle.model_line.specs.NamesByNumber.{parameter_name}
 use Rattle.base_text.specs.lines.SpacedNumbers.{numbers_text}
+use Rattle.base_text.specs.lines.SpacedNumberLaws.{numbers_short}
 use Rattle.cert_claims.specs.text.Grammar.{no_words, script_text, end_text, terminal_names}
 use Rattle.cert_claims.specs.text.Text.{fed}
 use Rattle.judge_split.specs.declared.node.Node.{Node}
@@ -80,21 +81,6 @@ tree_short line (suc n) box (Split param mid first second) low splits high =
     )
 
 -- ---- results
-
-numbers_short : (numbers : List ℕ) → All (λ n. n < 2 ^ 32) numbers
-    → length (numbers_text numbers) ≤ 11 * length numbers
-numbers_short [] small = omega arith
-numbers_short (n ∷ numbers) small =
-    let P : ℕ → Type 0 = λ k. k < 2 ^ 32 in
-    let here : n < 2 ^ 32 = All-head P n numbers small in
-    let digits : length (decimal n) ≤ 10 =
-    length-decimal-le 10 n (omega arith) (omega arith) (omega arith) in
-    omega (
-      arith,
-      digits,
-      numbers_short numbers (All-tail P n numbers small),
-      length-append (decimal n) (numbers_text numbers),
-    )
 
 module _ (known : Known) (line : Line) where
   result_short : (r : SplitResult) → IsSplitResult line r → length (result_text line r) ≤ 18625

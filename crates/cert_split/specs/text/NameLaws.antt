@@ -4,9 +4,10 @@ use Rattle.std.proofs.Common.{get_or, zero, suc, refl, sym, subst, arith, length
 use Rattle.std.proofs.Common.{Some, None}
 use Rattle.std.proofs.lemmas.Bool.{leb-true}
 use Rattle.std.proofs.lemmas.List.Elements.{All-nil, All-cons}
-use Rattle.std.specs.Prelude.{nat_le, slice_get, Option}
+use Rattle.std.specs.Prelude.{IsTrue, nat_le, slice_get, Option}
 use Rattle.std.specs.List.{All, list_all}
 use Rattle.model_line.specs.PlainNames.{is_plain_byte, is_plain_name}
+use Rattle.model_line.specs.Terminals.{are_plain_names}
 use Rattle.model_line.specs.ParamNames.{setting_text, name_at, channel_name, owner_name, param_name}
 use Rattle.model_line.specs.Settings.{OwnedSetting, line_settings}
 use Rattle.model_line.specs.declared.line.Setting.{Setting}
@@ -33,15 +34,11 @@ name_stands name plain =
     let bytes = both_true (nat_le (length name) 16) (list_all is_plain_byte name) long.1 in
     record { whole = name_whole name plain; short = leb-true (length name) 16 bytes.0 }
 
--- the terminals have plain names
-abbrev ArePlain : List Terminal → Type 0
-ArePlain terminals = list_all (λ t. is_plain_name t.name) terminals ≡ true
-
-first_plain : (t : Terminal) (ts : List Terminal) → ArePlain (t ∷ ts)
-    → (is_plain_name t.name ≡ true) × ArePlain ts
+first_plain : (t : Terminal) (ts : List Terminal) → IsTrue (are_plain_names (t ∷ ts))
+    → (is_plain_name t.name ≡ true) × IsTrue (are_plain_names ts)
 first_plain t ts all = both_true (is_plain_name t.name) (list_all (λ x. is_plain_name x.name) ts) all
 
-names_stand : (ts : List Terminal) → ArePlain ts → All (IsLineUpTo 16) (map (λ t. t.name) ts)
+names_stand : (ts : List Terminal) → IsTrue (are_plain_names ts) → All (IsLineUpTo 16) (map (λ t. t.name) ts)
 names_stand [] all = All-nil (IsLineUpTo 16)
 names_stand (t ∷ ts) all =
     All-cons (IsLineUpTo 16) t.name (map (λ x. x.name) ts)
@@ -56,7 +53,7 @@ setting_stands : (s : Setting) → IsLineUpTo 17 (setting_text s)
 setting_stands setting.Z1Pickup = record { whole = refl; short = omega arith }
 setting_stands _ = record { whole = refl; short = omega arith }
 
-name_at_stands : (ts : List Terminal) (k : ℕ) → ArePlain ts → IsLineUpTo 16 (name_at ts k)
+name_at_stands : (ts : List Terminal) (k : ℕ) → IsTrue (are_plain_names ts) → IsLineUpTo 16 (name_at ts k)
 name_at_stands [] k all = record { whole = refl; short = omega arith }
 name_at_stands (t ∷ ts) zero all = name_stands t.name (first_plain t ts all).0
 name_at_stands (t ∷ ts) (suc k) all = name_at_stands ts k (first_plain t ts all).1
@@ -69,21 +66,21 @@ joined_stands m n byte a b plain x y = record {
   short = omega (arith, x.short, y.short, length-append a (byte ∷ b));
 }
 
-channel_stands : (ts : List Terminal) (c : Option Channel) → ArePlain ts
+channel_stands : (ts : List Terminal) (c : Option Channel) → IsTrue (are_plain_names ts)
     → IsLineUpTo 33 (channel_name ts c)
 channel_stands ts None all = record { whole = refl; short = omega arith }
 channel_stands ts (Some c) all =
     joined_stands 16 16 62 (name_at ts c.from) (name_at ts c.to) refl (name_at_stands ts c.from all)
     (name_at_stands ts c.to all)
 
-owner_stands : (ts : List Terminal) (cs : List Channel) (o : Owner) → ArePlain ts
+owner_stands : (ts : List Terminal) (cs : List Channel) (o : Owner) → IsTrue (are_plain_names ts)
     → IsLineUpTo 33 (owner_name ts cs o)
 owner_stands ts cs (owner.Terminal k) all =
     let name = name_at_stands ts k all in
     record { whole = name.whole; short = omega (arith, name.short) }
 owner_stands ts cs (owner.Channel c) all = channel_stands ts (slice_get cs c) all
 
-dotted_stands : (ts : List Terminal) (cs : List Channel) (owned : OwnedSetting) → ArePlain ts
+dotted_stands : (ts : List Terminal) (cs : List Channel) (owned : OwnedSetting) → IsTrue (are_plain_names ts)
     → IsLineUpTo 51 (param_name ts cs owned)
 unfolding param_name
 dotted_stands ts cs owned all =
@@ -91,7 +88,7 @@ dotted_stands ts cs owned all =
     (owner_stands ts cs owned.owner all) (setting_stands owned.setting)
 
 each_stands : (ts : List Terminal) (cs : List Channel) (all : List OwnedSetting) (i : ℕ)
-    → ArePlain ts → IsLineUpTo 51 (get_or (map (param_name ts cs) all) i [])
+    → IsTrue (are_plain_names ts) → IsLineUpTo 51 (get_or (map (param_name ts cs) all) i [])
 each_stands ts cs [] i plain = record { whole = refl; short = omega arith }
 each_stands ts cs (owned ∷ all) zero plain = dotted_stands ts cs owned plain
 each_stands ts cs (owned ∷ all) (suc i) plain = each_stands ts cs all i plain

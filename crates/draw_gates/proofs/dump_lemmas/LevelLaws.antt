@@ -13,11 +13,6 @@ use Rattle.run_step.specs.WavesOf.{WavesOf, pair_in, wave_value}
 use Rattle.run_step.specs.{Runs.CoverChoices, Runs.IsPoint, Played.is_on}
 use Rattle.draw_gates.specs.dump.GateValues.{gate_levels}
 
-pub if_ok_more : {T E : Type 0} (r : Result T E) (P Q : T → Type 0) → ((x : T) → P x → Q x)
-    → IfOk r P → IfOk r Q
-if_ok_more (Ok x) P Q more h = more x h
-if_ok_more (Err e) P Q more h = h
-
 abbrev rails_of_level : Level → ℕ → Rails
 rails_of_level x lane = level_rails x
 

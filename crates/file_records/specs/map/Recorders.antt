@@ -16,6 +16,7 @@ use Rattle.file_records.specs.{map.Instants.shifted, map.Signals.SignalsValues}
 use Rattle.file_document.specs.{Keys.text_at, Keys.text_in}
 use Rattle.file_records.specs.{map.Signals.signals_values, map.Signals.signals_of}
 use Rattle.file_records.specs.map.DataNames.{is_config, is_one_file}
+use Rattle.file_line.specs.ChannelTables.{terminal_in}
 
 -- A recorder: its terminal, the name of its configuration or of its record in one file, the order in its dates where it keeps to
 -- none of its revision's, the instant of tick 0 in its clock, and the signals that it tells.
@@ -39,11 +40,6 @@ abbrev pub recorder_keys : List (List ℕ)
 recorder_keys =
     codes "terminal" ∷ codes "config" ∷ codes "date" ∷ codes "shift_us" ∷ codes "z1" ∷ codes "z2"
     ∷ codes "rv" ∷ codes "uv" ∷ codes "cur" ∷ codes "loss" ∷ codes "key" ∷ codes "trip" ∷ []
-
--- a terminal of the line
-abbrev pub terminal_in : List ℕ → Option ℕ → Result ℕ DocumentFault
-terminal_in path None = Err (fault.BadName path)
-terminal_in path (Some k) = Ok k
 
 unfoldable pub terminal_at : Line → List ℕ → Members → Result ℕ DocumentFault
 terminal_at line path ms = do

@@ -4,7 +4,8 @@ ghost use Rattle.std.specs.Prelude.{◌≡◌, ◌<◌, ◌≤◌, ◌^◌, [], 
 ghost use Rattle.toml.specs.View.{view, table_view, items_view};
 ghost use Rattle.model_names.specs.NumbersByName.{terminal_named};
 ghost use Rattle.base_memory.specs.Gives.{Gives};
-ghost use Rattle.file_records.specs.map.Recorders.{recorder_values, terminal_in, terminal_at, config_in};
+ghost use Rattle.file_records.specs.map.Recorders.{recorder_values, terminal_at, config_in};
+ghost use Rattle.file_line.specs.ChannelTables.{terminal_in};
 ghost use Rattle.file_records.specs.map.Recorders.{config_at, order_named, order_in, order_or_none};
 ghost use Rattle.file_records.specs.map.Recorders.{recorder_at, recorder_in, recorder_keys, recorders_in};
 

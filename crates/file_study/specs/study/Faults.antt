@@ -6,7 +6,7 @@ use Rattle.std.specs.List.{list_any}
 use Rattle.base_memory.specs.Gives.{◌>>=◌}
 use Rattle.toml.specs.Data.{Data, Items, no_items, item, Members, get_member}
 use Rattle.model_line.specs.declared.script.Kind.TheVariants.{Internal, External}
-use Rattle.model_line.specs.{declared.script.Kind.Kind, PlainNames.is_plain_name}
+use Rattle.model_line.specs.{declared.script.Kind.Kind, Kinds.is_external, PlainNames.is_plain_name}
 use Rattle.file_line.specs.Lines.{LineValues}
 use Rattle.file_document.specs.declared.fault.DocumentFault.{DocumentFault}
 use Rattle.file_document.specs.declared.fault.DocumentFault.TheVariants as fault
@@ -48,8 +48,7 @@ fault_values f = record {
 
 -- how long a stage lasts is rounded up in an external fault, and down in an internal one
 abbrev pub is_longer : Kind → Bool
-is_longer Internal = false
-is_longer External = true
+is_longer kind = is_external kind
 
 -- and how far into a stage an element comes the other way
 abbrev pub is_later : Kind → Bool

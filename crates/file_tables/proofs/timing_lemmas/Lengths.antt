@@ -18,7 +18,8 @@ use Rattle.file_tables.specs.script.Printed.{records_text}
 use Rattle.file_tables.specs.timing.Row.{header_record}
 use Rattle.file_tables.specs.timing.Printed.{MayStand, file_records, name_record, number_record, number_records}
 use Rattle.file_tables.specs.timing.Printed.{step_record, steps_in, timing_records}
-use Rattle.file_tables.specs.timing.StepCountLaws.{channel_of_delay, channels_few, steps_few}
+use Rattle.model_line.specs.DelayLaws.{delay_where}
+use Rattle.file_tables.specs.timing.StepCountLaws.{channels_few, steps_few}
 
 -- a record of three fields
 three_wide : (m n k : ℕ) (a b d : List ℕ) → IsFieldUpTo m a → IsFieldUpTo n b → IsFieldUpTo k d
@@ -51,7 +52,7 @@ module _ (ordered : DeclaredIntervalsAreInOrder) (delays : DelaysAreParameters) 
   step_short : (name : List ℕ) (s : Step ℕ) → IsFieldUpTo 16 name → IsStepInside line s
       → length (row_text default_writer (step_record line name s)) ≤ 67
   step_short name s plain inside =
-      let c = channel_of_delay line s.param inside.delay in
+      let c = delay_where line s.param inside.delay in
       let delay : IsFieldUpTo 39 (parameter_name line s.param) =
       subst (λ p. IsFieldUpTo 39 (parameter_name line p)) c.2 (delay_stands line c.0 c.1) in
       let most = ordered.within line s.param (delays.exists line s.param inside.delay) in

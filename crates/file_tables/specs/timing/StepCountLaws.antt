@@ -6,22 +6,14 @@ use Rattle.std.proofs.lemmas.Bool.Decides.{nat_tests}
 use Rattle.std.proofs.lemmas.List.Elements.{All-head, All-tail}
 use Rattle.std.specs.Prelude.{IsTrue}
 use Rattle.std.specs.List.{All}
-use Rattle.model_history.specs.BelowLaws.{some_below-where}
+use Rattle.model_line.specs.DelayLaws.{delay_where}
 use Rattle.model_line.specs.DelayOrderLaws.{delays_ascend}
 use Rattle.model_line.specs.Laws.{SettingsAreCounted}
-use Rattle.model_line.specs.Parameters.{channel_count, terminal_count, delay_param, is_delay}
+use Rattle.model_line.specs.Parameters.{channel_count, terminal_count, delay_param}
 use Rattle.model_line.specs.declared.line.Line.{Line}
 use Rattle.model_timing.specs.declared.step.Step.{Step}
 use Rattle.model_timing.specs.Inside.{IsStepInside}
 use Rattle.model_timing.specs.Timing.{ascend, comes_before}
-
--- the channel of a delay
-pub channel_of_delay : (line : Line) (i : ℕ) → IsTrue (is_delay line i)
-    → (c : ℕ) × (c < channel_count line) × (delay_param line c ≡ i)
-unfolding is_delay
-channel_of_delay line i is =
-    let (c, lt, passes) = some_below-where (λ k. delay_param line k == i) (channel_count line) is in
-    (c, lt, eqb-true (delay_param line c) i passes)
 
 -- two terminals have two channels, three have six
 pub channels_few : (line : Line) → channel_count line ≤ 6
@@ -83,7 +75,7 @@ module _ (counted : SettingsAreCounted) (line : Line) where
       let early = (All-head (IsStepInside line) s (t ∷ rest) inside).early in
       let later = All-tail (IsStepInside line) s (t ∷ rest) inside in
       let both = and_parts (comes_before s t) (ascend (t ∷ rest)) up in
-      let d = channel_of_delay line t.param (All-head (IsStepInside line) t rest later).delay in
+      let d = delay_where line t.param (All-head (IsStepInside line) t rest later).delay in
       let more = steps_from t rest d.0 d.1 d.2 later both.1 in
       let place = earlier_place s t c d.0 within d.1 at_c d.2
       (omega (arith, early, line.horizon_in_range.1)) both.0 in
@@ -94,6 +86,6 @@ module _ (counted : SettingsAreCounted) (line : Line) where
       → length steps ≤ 4000 * channel_count line
   steps_few [] inside up = omega arith
   steps_few (s ∷ rest) inside up =
-      let c = channel_of_delay line s.param (All-head (IsStepInside line) s rest inside).delay in
+      let c = delay_where line s.param (All-head (IsStepInside line) s rest inside).delay in
       let all = steps_from s rest c.0 c.1 c.2 inside up in
       omega (arith, all)

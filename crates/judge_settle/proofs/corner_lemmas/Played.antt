@@ -4,10 +4,6 @@ use Rattle.std.specs.Prelude.{IsTrue, IsFalse}
 use Rattle.std.proofs.lemmas.Bool.{false_from_ne_true}
 use Rattle.judge_settle.specs.corner.Failing.{SomeTickIsOn}
 
-pub not_when : (b : Bool) → (IsTrue b → ⊥) → IsTrue (not b)
-not_when true never = absurd (never refl)
-not_when false never = refl
-
 never_both : (b : Bool) → IsTrue (not b) → IsTrue b → ⊥
 never_both true off on = absurd (cc)
 never_both false off on = absurd (cc)

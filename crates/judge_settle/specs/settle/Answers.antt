@@ -22,6 +22,17 @@ use Rattle.judge_settle.specs.settle.Words.{IsBy}
 use Rattle.judge_settle.specs.declared.settle.answer.{Answer.Answer, Settled.Settled}
 use Rattle.judge_settle.specs.declared.settle.answer.Answer.TheVariants.{Held, Fails, Open}
 
+-- the answer is that the obligation fails, or that it is open
+abbrev pub is_failing : Answer → Bool
+is_failing (Held nodes) = false
+is_failing (Fails timing every) = true
+is_failing (Open nodes) = false
+
+abbrev pub is_open : Answer → Bool
+is_open (Held nodes) = false
+is_open (Fails timing every) = false
+is_open (Open nodes) = true
+
 -- the nodes are those of a tree that is sound over the declared box, and each leaf is yes; so every
 -- choice of fractions meets the obligation; a text of settled trees can have this tree
 pub record IsHeldTree (line : Line) (script : Script) (k : ℕ) (nodes : List CaseNode)

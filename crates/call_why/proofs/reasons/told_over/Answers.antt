@@ -1,3 +1,4 @@
+use Rattle.std.proofs.lemmas.Result.{IfOk-weaker}
 use Rattle.std.proofs.Common.{◌<◌, ℕ, Bool, false, List, length, get_or, arith, ap, ◌∙◌}
 use Rattle.model_line.specs.Channels.{from_of}
 use Rattle.run_step.specs.Played.{is_on}
@@ -7,7 +8,7 @@ use Rattle.model_timing.specs.Choice.{timing_choice}
 use Rattle.net_gates.specs.NetOf.{trip_of}
 use Rattle.draw_gates.specs.dump.GateValues.{gate_levels}
 use Rattle.call_why.specs.Parts.{part_of}
-use Rattle.call_why.proofs.ToldLaws.{if_ok_more, told_alike}
+use Rattle.call_why.proofs.ToldLaws.{told_alike}
 use Rattle.call_why.proofs.reasons.told_over.Goals as goal
 
 pub returns : goal.returns
@@ -28,7 +29,7 @@ returns c =
       delay = (timing_choice line timing).delay;
       told = λ g. get_or c.as_slice.result.now g false;
     } in
-    if_ok_more c.told_in.result _ _
+    IfOk-weaker c.told_in.result _ _
     (λ text so h is_h. told_alike play (gate_levels line script (timing_choice line timing) h net)
     (λ (g : ℕ). is_some (part_of line net g)) line script k c.args.every timing text.items
     (record {

@@ -1,4 +1,4 @@
-use Rattle.call_why.proofs.ToldLaws.{if_ok_more}
+use Rattle.std.proofs.lemmas.Result.{IfOk-weaker}
 use Rattle.call_why.proofs.reasons.told_why.Goals as goal
 
 pub cut-requires-clause-fails : goal.cut-requires-clause-fails
@@ -11,7 +11,7 @@ told_over-requires-clause-inside c = c.in_ok-cut.ensures.fails.inside
 pub returns : goal.returns
 returns c =
     let failing = c.in_ok-cut.ensures.fails.fails in
-    if_ok_more c.told_over.result _ _
+    IfOk-weaker c.told_over.result _ _
     (λ text so. record {
       cut = c.in_ok-cut.cut;
       net = c.args.compiled.now.net.now;

@@ -5,7 +5,8 @@ use Rattle.model_logic.specs.Logic.{set_tree}
 use Rattle.net_gates.specs.declared.gate.{Gate.Gate, GateId.GateId}
 use Rattle.net_gates.specs.Formulas.{formula_of}
 use Rattle.judge_verdict.specs.verdict.OneEachLaws.{one_more}
-use Rattle.judge_races.specs.Gates.{StandFor, trees_of}
+use Rattle.net_gates.specs.Formulas.{trees_of}
+use Rattle.judge_races.specs.Gates.{StandFor}
 use Rattle.judge_races.specs.Operands.{alternatives, operands}
 use Rattle.judge_races.proofs.WaveLaws.{tree_there}
 use Rattle.judge_races.proofs.operands.conjunctions.Goals as goal

@@ -5,7 +5,8 @@ use Rattle.model_logic.specs.Tree.{Tree, Const}
 use Rattle.model_logic.specs.Logic.{set_tree}
 use Rattle.net_gates.specs.declared.gate.GateId.{GateId}
 use Rattle.judge_verdict.specs.verdict.OneEachLaws.{one_more, all_there}
-use Rattle.judge_races.specs.Gates.{AreIn, trees_of}
+use Rattle.net_gates.specs.Formulas.{trees_of}
+use Rattle.judge_races.specs.Gates.{AreIn}
 use Rattle.judge_races.specs.Operands.{alternatives, operands}
 use Rattle.judge_races.specs.Lasting.{AreRacesOver}
 use Rattle.judge_races.proofs.places.each_races.Goals as goal

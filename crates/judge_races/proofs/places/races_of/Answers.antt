@@ -2,7 +2,7 @@ use Rattle.std.proofs.Common.{◌≡◌, ℕ, List, length, sym, subst, arith}
 use Rattle.std.proofs.lemmas.Option.{slice_get-get_or}
 use Rattle.model_history.specs.ListLaws.{at_index, exists_at}
 use Rattle.run_signal.specs.declared.tern.Tern.{Tern}
-use Rattle.judge_races.specs.Gates.{trees_of}
+use Rattle.net_gates.specs.Formulas.{trees_of}
 use Rattle.judge_races.specs.Lasting.{AreHistoryWaves, AreRacesOver}
 use Rattle.judge_races.specs.declared.races.Race.{Race}
 use Rattle.judge_races.proofs.PlaceLaws.{none_over}

@@ -1,6 +1,6 @@
 use Rattle.std.proofs.Common.{List}
 use Rattle.model_line.specs.declared.script.Script.{Script}
-use Rattle.judge_races.specs.Gates.{trees_of}
+use Rattle.net_gates.specs.Formulas.{trees_of}
 use Rattle.judge_races.specs.Lasting.{AreAllWaves, AreRacesOver}
 use Rattle.judge_races.proofs.places.races_of.Given as goal
 

@@ -8,7 +8,7 @@ use Rattle.model_logic.specs.Tree.{Tree, Const}
 use Rattle.net_gates.specs.declared.gate.GateId.{GateId}
 use Rattle.net_gates.specs.Formulas.{formula_of}
 use Rattle.judge_verdict.specs.verdict.OneEachLaws.{one_more, all_there}
-use Rattle.judge_races.specs.Gates.{trees_of}
+use Rattle.net_gates.specs.Formulas.{trees_of}
 use Rattle.judge_races.specs.Races.{columns_of}
 use Rattle.judge_races.specs.Lasting.{IsColumnOf}
 use Rattle.judge_races.proofs.WaveLaws.{tree_at_index, columns_push}

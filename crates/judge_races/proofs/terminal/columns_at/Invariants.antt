@@ -4,7 +4,7 @@ use Rattle.std.specs.declared.alloc.Global.{Global}
 use Rattle.model_line.specs.declared.script.Script.{Script}
 use Rattle.model_logic.specs.Tree.{Const}
 use Rattle.judge_verdict.specs.verdict.OneEach.{OneEach}
-use Rattle.judge_races.specs.Gates.{trees_of}
+use Rattle.net_gates.specs.Formulas.{trees_of}
 use Rattle.judge_races.specs.Races.{columns_of}
 use Rattle.judge_races.specs.Lasting.{AreHistoryWaves, IsColumnOf}
 use Rattle.judge_races.proofs.terminal.columns_at.Given as goal

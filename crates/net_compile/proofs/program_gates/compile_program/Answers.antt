@@ -1,7 +1,7 @@
 use Rattle.std.proofs.Common.{◌≡◌, [], ap, ◌∙◌, subst}
 use Rattle.model_plain.specs.Formulas.{tree_of, trees_after, part_trees}
 use Rattle.net_gates.specs.Formulas.{Stands}
-use Rattle.net_compile.specs.Compiled.{trees_at}
+use Rattle.net_gates.specs.Formulas.{trees_of}
 use Rattle.net_compile.proofs.{Ends.stands_kept, PartGates.trees_kept}
 use Rattle.net_compile.proofs.program_gates.compile_program.Goals as goal
 
@@ -12,12 +12,12 @@ returns-clause-made c =
     let before = c.part_gates.new.net in
     let mid = c.compile_formula.new.net in
     let after = c.compile_formula-2.new.net in
-    let parts : trees_at before ids ≡ part_trees p =
+    let parts : trees_of before ids ≡ part_trees p =
     c.in_ok-parts.ensures.made.trees ∙ ap (trees_after []) c.deref.ensures.value in
-    let at_key : trees_at before c.deref-2.result.now ≡ part_trees p =
-    ap (trees_at before) c.deref-2.ensures.value ∙ parts in
-    let at_trip : trees_at mid c.deref-3.result.now ≡ part_trees p =
-    ap (trees_at mid) c.deref-3.ensures.value
+    let at_key : trees_of before c.deref-2.result.now ≡ part_trees p =
+    ap (trees_of before) c.deref-2.ensures.value ∙ parts in
+    let at_trip : trees_of mid c.deref-3.result.now ≡ part_trees p =
+    ap (trees_of mid) c.deref-3.ensures.value
     ∙ trees_kept before mid ids c.in_ok-parts.ensures.made.within c.in_ok-key.ensures.adds.grows
     ∙ parts in
     record {

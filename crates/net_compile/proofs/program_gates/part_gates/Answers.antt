@@ -2,7 +2,7 @@ use Rattle.std.proofs.Common.{◌+◌, drop, subst}
 use Rattle.std.proofs.lemmas.List.{drop_all}
 use Rattle.model_plain.specs.Formulas.{tree_of}
 use Rattle.net_gates.specs.Formulas.{Stands}
-use Rattle.net_compile.specs.Compiled.{trees_at}
+use Rattle.net_gates.specs.Formulas.{trees_of}
 use Rattle.net_compile.proofs.PartGates.{HaveParts, at_part, extends_so_far, parts_more, all_parts}
 use Rattle.net_compile.proofs.program_gates.part_gates.Goals as goal
 
@@ -35,7 +35,7 @@ loop-part-preserved c =
     c.in_ok-id.ensures.adds c.in_ok-id.id
     (subst
     (λ ids. Stands c.compile_formula.new.net c.in_ok-id.id.0
-    (tree_of (trees_at c.loop-part.net ids) c.part-item.result))
+    (tree_of (trees_of c.loop-part.net ids) c.part-item.result))
     c.deref.ensures.value c.in_ok-id.ensures.made))
 
 pub returns-clause-adds : goal.returns-clause-adds

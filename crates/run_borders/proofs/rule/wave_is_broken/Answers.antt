@@ -4,7 +4,8 @@ use Rattle.model_history.specs.{Rails.Rails, TruthLaws.not_both}
 use Rattle.model_line.specs.declared.script.Kind.{Kind}
 use Rattle.model_logic.specs.Rule.{IsBroken}
 use Rattle.run_waves.specs.waves.Waves.{wave_at}
-use Rattle.run_borders.proofs.Rules.{on_unless, denied_unless, off_by_denial}
+use Rattle.run_borders.proofs.Rules.{on_unless, off_by_denial}
+use Rattle.model_history.specs.TruthLaws.{denied_unless}
 use Rattle.run_borders.proofs.rule.wave_is_broken.Goals as goal
 
 pub returns-in-Internal : goal.returns-in-Internal

@@ -1,15 +1,15 @@
 use Rattle.std.proofs.Common.{◌≡◌, ◌≤◌, ◌<◌, ◌-◌, ◌+◌, ℕ, length, arith, ap, sym, ◌∙◌, subst}
 use Rattle.run_signal.specs.Terns.{tern_rails}
-use Rattle.run_waves.specs.waves.Waves.{IsWaveOf}
+use Rattle.run_waves.specs.{waves.LevelLaws.at_none, waves.Waves.IsWaveOf}
 use Rattle.run_step.specs.InputLaws.{script_fewer}
 use Rattle.run_borders.specs.LooseWaves.{shown_rails}
-use Rattle.run_borders.proofs.WaveLaws.{of_none, rails_with, shown_sound, shown_keeps}
+use Rattle.run_borders.proofs.WaveLaws.{rails_with, shown_sound, shown_keeps}
 use Rattle.run_borders.proofs.shown.shown_wave.Goals as goal
 
 pub stretches-init : goal.stretches-init
 stretches-init c = record {
   short = omega (arith, ap length c.new-wave.ensures);
-  values = of_none c.new-wave.result (shown_rails c.args.run.now c.args.what) c.new-wave.ensures;
+  values = at_none c.new-wave.result (shown_rails c.args.run.now c.args.what) c.new-wave.ensures;
 }
 
 pub stretches-preserved : goal.stretches-preserved

@@ -1,3 +1,4 @@
+use Rattle.std.proofs.lemmas.Result.{IfOk-weaker}
 use Rattle.std.proofs.Common.{◌≡◌, ℕ, List, length, sym, ◌∙◌, ap, arith, subst}
 use Rattle.std.specs.Prelude.{IsTrue}
 use Rattle.model_line.specs.declared.line.Line.{Line}
@@ -7,7 +8,7 @@ use Rattle.model_timing.specs.{Timing.TimingValues, Timing.ascend, Choice.timing
 use Rattle.run_signal.specs.Levels.{level_signal}
 use Rattle.run_step.specs.LaneBox.{lane_box}
 use Rattle.run_step.specs.{Played.ends_of_tick, Played.played, Runs.AreDelayed, Runs.IsPoint}
-use Rattle.draw_gates.proofs.dump_lemmas.LevelLaws.{if_ok_more, levels_are}
+use Rattle.draw_gates.proofs.dump_lemmas.LevelLaws.{levels_are}
 use Rattle.draw_gates.proofs.dump.play.play_waves.Goals as goal
 
 -- what holds of the lists of a timing holds of the lists that are handed on, which are the same
@@ -43,7 +44,7 @@ returns-clause-played c =
     (λ v s. IsPoint line (lane_box ends_of_tick line v s 0) choice) c.values-values.result.now
     c.steps-steps.result.now timing c.values-values.ensures c.steps-steps.ensures.same
     (c.a_timing_is_one_choice.ensures.point line timing 0 c.requires.inside) in
-    if_ok_more c.run.result _ _
+    IfOk-weaker c.run.result _ _
     (λ waves exact h is_h.
     c.each_choice_has_one_history.ensures.only line c.args.script.now choice (played waves) h
     (c.a_timing_is_one_choice.ensures.choice line timing c.requires.inside)
@@ -60,7 +61,7 @@ returns-clause-gates c =
     (λ v s. IsPoint line (lane_box ends_of_tick line v s 0) choice) c.values-values.result.now
     c.steps-steps.result.now timing c.values-values.ensures c.steps-steps.ensures.same
     (c.a_timing_is_one_choice.ensures.point line timing 0 c.requires.inside) in
-    if_ok_more c.run.result _ _
+    IfOk-weaker c.run.result _ _
     (λ waves covers h is_h gate t lt early.
     levels_are line c.args.script.now box choice c.args.compiled.now.net.now waves point
     (covers 0 (omega arith)) h is_h gate t lt early)

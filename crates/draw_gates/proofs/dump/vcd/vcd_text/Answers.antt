@@ -1,9 +1,10 @@
+use Rattle.std.proofs.lemmas.Result.{IfOk-weaker}
 use Rattle.std.proofs.Common.{◌∙◌}
 use Rattle.model_logic.specs.Choice.{Choice}
 use Rattle.model_timing.specs.Choice.{timing_choice}
 use Rattle.run_step.specs.Played.{is_on}
 use Rattle.draw_gates.specs.dump.GateValues.{gate_levels}
-use Rattle.draw_gates.proofs.{dump_lemmas.DumpLaws.dump_text-same, dump_lemmas.LevelLaws.if_ok_more}
+use Rattle.draw_gates.proofs.dump_lemmas.DumpLaws.{dump_text-same}
 use Rattle.draw_gates.proofs.dump.vcd.vcd_text.Goals as goal
 
 pub returns : goal.returns
@@ -12,7 +13,7 @@ returns c =
     let script = c.args.script.now in
     let net = c.args.compiled.now.net.now in
     let choice : Choice = timing_choice line c.args.timing.now.timing in
-    if_ok_more c.value_change_dump.result _ _
+    IfOk-weaker c.value_change_dump.result _ _
     (λ text is h is_h.
     is
     ∙ dump_text-same c.args.timing.now.name script.name line net (is_on c.in_ok-waves.waves)

@@ -3,7 +3,8 @@ use Rattle.model_line.specs.declared.script.Kind.{Kind}
 use Rattle.model_line.specs.declared.script.Kind.TheVariants.{Internal, External}
 use Rattle.model_logic.specs.Histories.{MeetsBy}
 use Rattle.run_changes.specs.changes.PlayedTracks.{is_on}
-use Rattle.judge_settle.proofs.corner_lemmas.Played.{not_when, off_when}
+use Rattle.judge_settle.proofs.corner_lemmas.Played.{off_when}
+use Rattle.model_history.specs.TruthLaws.{denied_unless}
 use Rattle.judge_settle.proofs.corner.play.meets.Goals as goal
 
 pub returns-in-Internal : goal.returns-in-Internal
@@ -33,7 +34,7 @@ returns-in-External c =
       λ met.
           let own : MeetsBy External deadline c.args.horizon on =
           subst (λ (kind : Kind). MeetsBy kind deadline c.args.horizon on) c.in-External.is met in
-          not_when c.trips-in-External.result
+          denied_unless c.trips-in-External.result
           (λ on.
           let some = c.trips-in-External.ensures.0 on in
           let off = own some.0 some.1 in

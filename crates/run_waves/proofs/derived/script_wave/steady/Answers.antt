@@ -1,6 +1,6 @@
 use Rattle.std.proofs.Common.{arith}
 use Rattle.model_history.specs.Rails.{both}
-use Rattle.run_waves.proofs.derived_lemmas.Waves.{one_level}
+use Rattle.run_waves.specs.waves.LevelLaws.{one_level}
 use Rattle.run_waves.proofs.derived.script_wave.steady.Goals as goal
 
 pub returns : goal.returns

@@ -6,7 +6,8 @@ use Rattle.run_signal.specs.declared.tern.Tern.{Tern}
 use Rattle.model_line.specs.declared.script.SeenSpan.{SeenSpan}
 use Rattle.run_waves.specs.waves.Waves.{IsWaveOf}
 use Rattle.run_waves.specs.derived.Stretches.{ShowsAlike, holds}
-use Rattle.run_waves.proofs.{derived_lemmas.StretchLaws.holds_alike, derived_lemmas.Waves.at_none}
+use Rattle.run_waves.specs.waves.LevelLaws.{at_none}
+use Rattle.run_waves.proofs.derived_lemmas.StretchLaws.{holds_alike}
 use Rattle.run_waves.proofs.derived.script_wave.wave_of.Goals as goal
 
 pub stretches-init : goal.stretches-init
