@@ -36,7 +36,7 @@ keys_before w trees zero k r = false
 keys_before w trees (suc t) k r =
     cond (r == t) (mean w (keys_before w trees t) (trees k) t) (keys_before w trees t k r)
 
-the_keys : World → (ℕ → Tree) → Signals
+pub the_keys : World → (ℕ → Tree) → Signals
 the_keys w trees k t = keys_before w trees (suc t) k t
 
 keys_before-is : (w : World) (trees : ℕ → Tree) (t k r : ℕ) → r < t
@@ -60,7 +60,7 @@ module _ (laws : HistoryLaws) (line : Line) (horizon : ℕ) (w : World)
   agree_earlier u v r t le same k s kn lt = same k s kn (omega arith)
 
   -- the value at t is the same wherever the keys before t are
-  value_past : (u v : Signals) (x : Tree) (t : ℕ) → t < horizon → Names line x
+  pub value_past : (u v : Signals) (x : Tree) (t : ℕ) → t < horizon → Names line x
       → AgreeBefore line u v t → mean w u x t ≡ mean w v x t
   unfolding mean Names
   value_past u v (Const b) t early h same = refl
@@ -88,7 +88,7 @@ module _ (laws : HistoryLaws) (line : Line) (horizon : ℕ) (w : World)
   module _ (trees : ℕ → Tree)
       (named : (k : ℕ) → k < terminal_count line → Names line (trees k)) where
     -- the keys solve the equations of their trees
-    keys_solve : (k t : ℕ) → k < terminal_count line → t < horizon
+    pub keys_solve : (k t : ℕ) → k < terminal_count line → t < horizon
         → the_keys w trees k t ≡ mean w (the_keys w trees) (trees k) t
     unfolding the_keys keys_before
     keys_solve k t kn lt =
@@ -98,7 +98,7 @@ module _ (laws : HistoryLaws) (line : Line) (horizon : ℕ) (w : World)
         (λ j r jn before_t. keys_before-is w trees t j r before_t)
 
     -- and no others do
-    keys_once : (u v : Signals)
+    pub keys_once : (u v : Signals)
         → ((k t : ℕ) → k < terminal_count line → t < horizon → u k t ≡ mean w u (trees k) t)
         → ((k t : ℕ) → k < terminal_count line → t < horizon → v k t ≡ mean w v (trees k) t)
         → (t : ℕ) → t ≤ horizon → AgreeBefore line u v t

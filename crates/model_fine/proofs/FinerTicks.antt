@@ -2,11 +2,10 @@
 use Rattle.std.proofs.Common.{◌≡◌, ◌≤◌, ◌*◌, ◌/◌, ◌<◌, ℕ, List, refl, sym, ◌∙◌, ap, subst, arith}
 use Rattle.std.proofs.Math.Nat.{div-div-eq-div-mul, mul_assoc, mul_comm, mul-le-mul, mul-le-mul_right}
 use Rattle.std.proofs.Math.Path.{fun_ext}
-use Rattle.std.specs.Prelude.{Bool, length, if◌then◌else◌}
+use Rattle.std.specs.Prelude.{Bool, length}
 use Rattle.model_history.specs.Rails.{Ends, IsPartOf}
 use Rattle.model_line.specs.{declared.line.Line.Line, declared.script.Script.Script}
-use Rattle.model_line.specs.{declared.line.Channel.Channel, declared.line.Scheme.Scheme}
-use Rattle.model_line.specs.declared.line.Scheme.TheVariants.{Pott, Putt, Dcb, Dcub, Dtt}
+use Rattle.model_line.specs.declared.line.Channel.{Channel}
 use Rattle.model_line.specs.{declared.script.Kind.Kind, declared.script.Place.Place}
 use Rattle.model_line.specs.{Channels.from_of, SetBounds.SameButParams}
 use Rattle.model_line.specs.Laws.{CountsRestOnNoInterval, DelaysAreParameters}
@@ -15,62 +14,13 @@ use Rattle.model_line.specs.Parameters.{declared_ends, delay_param}
 use Rattle.model_logic.specs.Choice.{Choice, IsIn, declared_box, time_by}
 use Rattle.model_logic.specs.Histories.{History, MeetsBy}
 use Rattle.model_logic.specs.IntervalLaws.{TreesRestOnNoInterval}
-use Rattle.model_logic.specs.{Mean.World, Mean.mean, Tree.Tree, Tree.Or, Tree.Seal}
-use Rattle.model_logic.specs.Elements.{current, setting_of, seen_timed, zone1}
-use Rattle.model_logic.specs.Received.{channel_to, received, all_others, any_received, all_received}
-use Rattle.model_logic.specs.Unblocking.{channel_setting, guard_seen, late, unblocked, locked_out}
-use Rattle.model_logic.specs.Unblocking.{open_from, all_open}
-use Rattle.model_logic.specs.Permissive.{terminal_setting, reversal_guard, quiet, echo_wanted, echo}
-use Rattle.model_logic.specs.Permissive.{weak_infeed_trip, permissive_key, permissive_pilot}
-use Rattle.model_logic.specs.Logic.{blocking_key, blocking_pilot, underreach_pilot, transfer_pilot}
-use Rattle.model_logic.specs.Logic.{key_by, pilot_by, key_tree, set_tree, trip_tree}
+use Rattle.model_logic.specs.{Mean.World, Mean.mean, Tree.Tree}
+use Rattle.model_logic.specs.Logic.{key_tree, trip_tree}
 use Rattle.model_fine.specs.Cut.{cut_ends}
 use Rattle.model_fine.specs.Fine.{EveryFineChoiceMeets, FineMeets, IsFineHistory, IsFineInside}
 use Rattle.model_fine.specs.Fine.{fine_world_of}
 use Rattle.model_fine.specs.Finer.{IsLineInFinerTicks, IsScriptInFinerTicks}
-
--- the line in ticks of another length, to another horizon
-abbrev in_ticks_of : Line → Line → Line
-in_ticks_of line other = record line {
-  tick_us = other.tick_us;
-  tick_in_range = other.tick_in_range;
-  horizon = other.horizon;
-  horizon_in_range = other.horizon_in_range;
-}
-
--- the trees know no tick
-key_of_scheme : (s : Scheme) (line other : Line) (k : ℕ)
-    → key_by s (in_ticks_of line other) k ≡ key_by s line k
-unfolding setting_of seen_timed channel_to received all_others any_received all_received channel_setting guard_seen late unblocked locked_out open_from all_open terminal_setting reversal_guard quiet echo_wanted echo permissive_key blocking_key
-key_of_scheme Pott line other k = refl
-key_of_scheme Putt line other k = refl
-key_of_scheme Dcb line other k = refl
-key_of_scheme Dcub line other k = refl
-key_of_scheme Dtt line other k = refl
-
-key_timeless : (line other : Line) (k : ℕ) → key_tree (in_ticks_of line other) k ≡ key_tree line k
-unfolding key_tree
-key_timeless line other k = key_of_scheme line.scheme line other k
-
-pilot_of_scheme : (s : Scheme) (line other : Line) (k : ℕ)
-    → pilot_by s (in_ticks_of line other) k ≡ pilot_by s line k
-unfolding setting_of seen_timed channel_to received all_others any_received all_received channel_setting guard_seen late unblocked locked_out open_from all_open terminal_setting reversal_guard quiet echo_wanted weak_infeed_trip permissive_pilot blocking_pilot underreach_pilot transfer_pilot
-pilot_of_scheme Pott line other k = refl
-pilot_of_scheme Putt line other k = refl
-pilot_of_scheme Dcb line other k = refl
-pilot_of_scheme Dcub line other k = refl
-pilot_of_scheme Dtt line other k = refl
-
-set_timeless : (line other : Line) (k : ℕ) → set_tree (in_ticks_of line other) k ≡ set_tree line k
-unfolding set_tree seen_timed setting_of
-set_timeless line other k =
-    ap (λ (pilot : Tree). if line.zone1_trip then Or pilot (zone1 line k) else pilot)
-    (pilot_of_scheme line.scheme line other k)
-
-trip_timeless : (line other : Line) (k : ℕ) → trip_tree (in_ticks_of line other) k ≡ trip_tree line k
-unfolding trip_tree seen_timed setting_of
-trip_timeless line other k =
-    ap (λ (set : Tree). Seal set (current line k)) (set_timeless line other k)
+use Rattle.model_fine.proofs.TimelessTrees.{in_ticks_of, same_key, same_trip}
 
 module _ (counts : CountsRestOnNoInterval) (logic : TreesRestOnNoInterval)
     (delays : DelaysAreParameters) (n : ℕ) (line finer : Line)
@@ -84,14 +34,6 @@ module _ (counts : CountsRestOnNoInterval) (logic : TreesRestOnNoInterval)
     terminals = cut.terminals;
     channels = cut.channels;
   }
-
-  same_key : (k : ℕ) → key_tree finer k ≡ key_tree line k
-  same_key k =
-      sym (key_timeless finer line k) ∙ logic.keys line (in_ticks_of finer line) k same
-
-  same_trip : (k : ℕ) → trip_tree finer k ≡ trip_tree line k
-  same_trip k =
-      sym (trip_timeless finer line k) ∙ logic.trips line (in_ticks_of finer line) k same
 
   -- m of its parts to a tick are m * n to one of the other
   module _ (m : ℕ) where
@@ -168,12 +110,12 @@ module _ (counts : CountsRestOnNoInterval) (logic : TreesRestOnNoInterval)
             is.keys k t (subst (λ (count : ℕ). k < count) (sym (ap length cut.terminals)) kn)
             (early_in t early)
             ∙ ap (λ (w : World). mean w h.key (key_tree finer k) t) (same_world choice)
-            ∙ ap (λ (x : Tree). mean (fine_world_of (m * n) line script choice) h.key x t) (same_key k);
+            ∙ ap (λ (x : Tree). mean (fine_world_of (m * n) line script choice) h.key x t) (same_key logic line finer same k);
         trips = λ k t kn early.
             is.trips k t (subst (λ (count : ℕ). k < count) (sym (ap length cut.terminals)) kn)
             (early_in t early)
             ∙ ap (λ (w : World). mean w h.key (trip_tree finer k) t) (same_world choice)
-            ∙ ap (λ (x : Tree). mean (fine_world_of (m * n) line script choice) h.key x t) (same_trip k);
+            ∙ ap (λ (x : Tree). mean (fine_world_of (m * n) line script choice) h.key x t) (same_trip logic line finer same k);
       }
 
       same_meets : (k : ℕ) (h : History)

@@ -15,5 +15,7 @@ pub mod PulseNamed
 pub mod SpanLevels
 pub mod SpanCovers
 pub mod SpanTreesMeet
+pub mod TimelessTrees
 pub mod FinerTicks
 pub mod LooseCovers
+pub mod Onward

@@ -7,3 +7,4 @@ pub mod Spans
 pub mod SpanLaws
 pub mod Loose
 pub mod LooseLaws
+pub mod Onward
