@@ -1,3 +1,4 @@
 pub mod MovedBack
 pub mod SharedEnds
 pub mod Within
+pub mod Onward
