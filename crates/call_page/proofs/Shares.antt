@@ -3,7 +3,8 @@ use Rattle.std.proofs.Common.{◌≤◌, ◌+◌, List, [], ◌∷◌, length, l
 use Rattle.std.specs.List.{flat_map}
 use Rattle.judge_settle.specs.declared.settle.answer.Answer.{Answer}
 use Rattle.judge_settle.specs.declared.settle.answer.Answer.TheVariants.{Held, Fails, Open}
-use Rattle.call_tables.specs.{declared.row.Row.Row, Table.fails_so, Table.is_left}
+use Rattle.judge_settle.specs.settle.Answers.{is_failing as fails_so, is_open as is_left}
+use Rattle.call_tables.specs.declared.row.Row.{Row}
 use Rattle.call_page.specs.{Choices.failing_row, Choices.open_row}
 use Rattle.call_facts.specs.Lists.{if_one}
 

@@ -6,7 +6,8 @@ use Rattle.run_waves.specs.waves.Waves.{AreWaves}
 use Rattle.judge_races.specs.Lasting.{AreAllWaves}
 use Rattle.net_gates.specs.declared.{gate.Gate.Gate, gate.GateId.GateId}
 use Rattle.model_logic.specs.Tree.{Tree}
-use Rattle.judge_races.specs.Gates.{AreIn, trees_of}
+use Rattle.judge_races.specs.Gates.{AreIn}
+use Rattle.net_gates.specs.Formulas.{trees_of}
 use Rattle.call_races.specs.declared.fault.Fault.{Fault}
 
 pub record IsFault (fault : Fault) : Type 0 where

@@ -3,7 +3,8 @@
 ghost use Rattle.std.specs.Prelude.{◌≡◌, ◌<◌, ◌++◌, ◌^◌, [], length, IfOk, OnOk};
 ghost use Rattle.base_text.specs.lines.Milliseconds.{ticks_text};
 ghost use Rattle.csv.specs.Writing.{row_text, default_writer};
-ghost use Rattle.judge_races.specs.Gates.{AreIn, trees_of};
+ghost use Rattle.judge_races.specs.Gates.{AreIn};
+ghost use Rattle.net_gates.specs.Formulas.{trees_of};
 ghost use Rattle.call_races.specs.Fault.{AreAllIn, operands_of};
 ghost use Rattle.call_races.specs.Rows.{each_rows, empty_record, race_record, races_header};
 ghost use Rattle.call_races.specs.Rows.{races_rows, rows_or_none, trip_record, trip_rows};

@@ -5,7 +5,8 @@ use Rattle.model_line.specs.{declared.line.Line.Line, declared.script.Script.Scr
 use Rattle.call_answer.specs.{Answers.Answers, Answers.status_by, declared.done.Done.Done}
 use Rattle.call_answer.specs.declared.done.Done.TheVariants.{SomeNo}
 use Rattle.judge_settle.specs.settle.Answers.{AreAnswers, is_failing, is_open}
-use Rattle.judge_settle.specs.declared.settle.answer.Settled.{Settled}
+use Rattle.judge_settle.specs.declared.settle.answer.{Answer.Answer, Settled.Settled}
+use Rattle.judge_settle.specs.declared.settle.answer.Answer.TheVariants.{Held, Fails, Open}
 use Rattle.call_why.specs.declared.why.Found.{Found}
 use Rattle.call_why.specs.declared.why.Found.TheVariants.{Told, Quiet}
 use Rattle.call_why.specs.Reasons.{IsToldWhy}

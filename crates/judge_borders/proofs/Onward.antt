@@ -16,8 +16,7 @@ use Rattle.model_fine.specs.Fine.{FineDelaysFromOne, IsFineWithin, IsSameFineHis
 use Rattle.model_fine.specs.Laws.{EachFineChoiceHasOneHistory}
 use Rattle.model_fine.specs.Loose.{IsShownHistory}
 use Rattle.model_fine.specs.Onward.{HistoriesGoOn, IsChoiceOnward, IsPlayedOn}
-use Rattle.model_borders.specs.Between.{BordersStandWithin}
-use Rattle.model_borders.specs.Borders.{AreLengthsIn, latest_alone, shown_at, stands}
+use Rattle.model_borders.specs.Borders.{AreLengthsIn, shown_at, stands}
 use Rattle.run_borders.specs.LooseRuns.{steady_box}
 use Rattle.judge_borders.specs.declared.fault.Fault.{Fault}
 use Rattle.judge_borders.specs.declared.fault.PartRule.{PartRule}
@@ -54,7 +53,7 @@ unfolding onward
 as_first end choice c t late =
     ap (λ (b : Bool). if b then choice.delay c t else choice.delay c 0) (le-ltb t end late)
 
-module _ (stand : BordersStandWithin) (one : EachFineChoiceHasOneHistory) (goes : HistoriesGoOn)
+module _ (one : EachFineChoiceHasOneHistory) (goes : HistoriesGoOn)
     (fault : Fault) (line : Line) (part : List Ends) (k : ℕ) (on : IsPlayedOn line (line_of fault))
     (can : CanAsk fault) (within : IsAskedWithin line fault part) (kn : k < terminal_count line) where
   abbrev long : Line
@@ -124,12 +123,7 @@ module _ (stand : BordersStandWithin) (one : EachFineChoiceHasOneHistory) (goes 
         + fault.asked.within * n
 
     due_early : fault.asked.kind ≡ Internal → due < end
-    due_early is =
-        let latest : ℕ = latest_alone fault.script.now.borders.items part fault.asked.counted in
-        let low : (latest + fault.asked.within + 1) * n ≤ line.horizon * n =
-        mul-le-mul_right n (within.deadline is) in
-        let at = stand.to n fault.script.now part fault.asked.counted x are in
-        omega (arith, low, at, some)
+    due_early is = within.deadline is n x some are
 
     end_early : fault.asked.end * n ≤ end
     end_early = mul-le-mul_right n within.end

@@ -3,7 +3,6 @@
 ghost use Rattle.judge_borders.specs.Laws.{WhatIsKnownOfAPartIsKnownWithin};
 ghost use Rattle.judge_borders.specs.Onward.{WhatIsSaidIsSaidOfTheLine};
 
-use model_borders::between_laws::borders_stand_within;
 use model_fine::fine_laws::each_fine_choice_has_one_history;
 use model_fine::loose_laws::histories_go_on;
 
@@ -17,7 +16,6 @@ pub fn what_is_known_of_a_part_is_known_within()
 pub fn what_is_said_is_said_of_the_line()
     ensures { WhatIsSaidIsSaidOfTheLine }
 {
-    borders_stand_within();
     each_fine_choice_has_one_history();
     histories_go_on();
 }

@@ -1,6 +1,7 @@
 use Rattle.std.proofs.Common.{◌≡◌, ◌++◌, Bool, true, sym, ap, subst}
 use Rattle.judge_settle.specs.declared.settle.answer.Answer.{Answer}
-use Rattle.call_tables.specs.Table.{fails_so, is_failing}
+use Rattle.judge_settle.specs.settle.Answers.{is_failing as fails_so}
+use Rattle.call_tables.specs.Table.{is_failing}
 use Rattle.call_page.specs.Choices.{IsChoiceOf}
 use Rattle.call_facts.specs.Lists.{EachOf, if_one}
 use Rattle.call_facts.specs.SideLaws.{each_push}

@@ -1,5 +1,5 @@
 use Rattle.std.proofs.Common.{◌≡◌, ◌++◌, take}
-use Rattle.judge_races.specs.Gates.{trees_of}
+use Rattle.net_gates.specs.Formulas.{trees_of}
 use Rattle.call_races.specs.Rows.{races_rows}
 use Rattle.call_races.proofs.rows.push_races.Given as goal
 

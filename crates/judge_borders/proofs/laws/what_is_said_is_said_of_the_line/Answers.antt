@@ -3,5 +3,5 @@ use Rattle.judge_borders.proofs.laws.what_is_said_is_said_of_the_line.Goals as g
 
 pub returns : goal.returns
 returns c fault line part k rule on can within kn said =
-    said_of_line c.borders_stand_within.ensures c.each_fine_choice_has_one_history.ensures
+    said_of_line c.each_fine_choice_has_one_history.ensures
     c.histories_go_on.ensures fault line part k on can within kn rule said
