@@ -1,9 +1,9 @@
--- What is said of the histories of a line that is played on is said of those of the line itself.
+-- Each history of a line goes on in one of the line that is played on, which meets what it meets.
 use Rattle.std.proofs.Common.{◌≡◌, ◌≤◌, ◌<◌, ◌+◌, ◌*◌, ◌/◌, ℕ, Bool, List, length, refl, sym, ap, subst, arith}
 use Rattle.std.proofs.Common.{◌∙◌, ⊎_elim}
 use Rattle.std.proofs.lemmas.Bool.{cases_lt, lt-ltb, le-ltb}
 use Rattle.std.proofs.Math.Nat.{mul-le-mul, mul-le-mul_right}
-use Rattle.std.specs.Prelude.{nat_lt, if◌then◌else◌}
+use Rattle.std.specs.Prelude.{◌↔◌, nat_lt, if◌then◌else◌}
 use Rattle.model_history.specs.Rails.{Ends}
 use Rattle.model_line.specs.declared.line.Line.{Line}
 use Rattle.model_line.specs.declared.script.Kind.{Kind}
@@ -19,10 +19,8 @@ use Rattle.model_fine.specs.Onward.{HistoriesGoOn, IsChoiceOnward, IsPlayedOn}
 use Rattle.model_borders.specs.Borders.{AreLengthsIn, shown_at, stands}
 use Rattle.run_borders.specs.LooseRuns.{steady_box}
 use Rattle.judge_borders.specs.declared.fault.Fault.{Fault}
-use Rattle.judge_borders.specs.declared.fault.PartRule.{PartRule}
-use Rattle.judge_borders.specs.declared.fault.PartRule.TheVariants.{Held, Broken, Open}
 use Rattle.judge_borders.specs.Onward.{IsAskedWithin}
-use Rattle.judge_borders.specs.Parts.{CanAsk, MeetsAt, RuleSays, SaysOf, box_of, line_of}
+use Rattle.judge_borders.specs.Parts.{CanAsk, MeetsAt, box_of, line_of}
 
 -- trips that are the same before the deadline is over, and before the end, meet the same
 met_same : (kind : Kind) (D E H : ℕ) (f g : ℕ → Bool) → (kind ≡ Internal → D < H) → E ≤ H
@@ -141,13 +139,7 @@ module _ (one : EachFineChoiceHasOneHistory) (goes : HistoriesGoOn)
         met_same fault.asked.kind due (fault.asked.end * n) end (begun.0.trip k) (h.trip k) due_early
         end_early (λ t early. sym (same_trip t early))
 
-  pub said_of_line : (rule : PartRule) → RuleSays fault part k rule → SaysOf line fault part k rule
-  said_of_line Held said = λ n x choice h some are inside is_h.
-      back n x choice h some are inside is_h
-      (said n x (goes_with n x choice h some are inside is_h) (begun n x choice h some are inside is_h).0
-      some are (long_inside n x choice h some are inside is_h) (begun n x choice h some are inside is_h).1)
-  said_of_line Broken said = λ n x choice h some are inside is_h met.
-      said n x (goes_with n x choice h some are inside is_h) (begun n x choice h some are inside is_h).0
-      some are (long_inside n x choice h some are inside is_h) (begun n x choice h some are inside is_h).1
-      (forth n x choice h some are inside is_h met)
-  said_of_line Open said = tt
+    pub goes_on : (late : Choice) × (g : History) × IsFineWithin n long late (box_of fault)
+        × IsShownHistory n long (shown_at n fault.script.now (length part) x) late g
+        × (MeetsAt n x fault (length part) (g.trip k) ↔ MeetsAt n x fault (length part) (h.trip k))
+    goes_on = (goes_with, begun.0, long_inside, begun.1, (back, forth))

@@ -9,7 +9,7 @@ use Rattle.model_fine.specs.Loose.{IsShownHistory}
 use Rattle.judge_borders.specs.declared.fault.Fault.{Fault}
 use Rattle.judge_borders.specs.declared.fault.PartRule.{PartRule}
 use Rattle.judge_borders.specs.declared.fault.PartRule.TheVariants.{Held, Broken, Open}
-use Rattle.judge_borders.specs.Parts.{AreRules, ForEachHistoryOf, MeetsAt, RuleSays, line_of}
+use Rattle.judge_borders.specs.Parts.{AreRules, ForEachHistory, MeetsAt, RuleSays, line_of}
 use Rattle.judge_borders.specs.Halves.{AreWithin}
 
 -- lengths of the new part are lengths of the part
@@ -30,8 +30,8 @@ lengths_within n part new x is are = record {
 
 -- so of every history
 within_each : (fault : Fault) (part new : List Ends) (Fact : ℕ → (ℕ → ℕ) → ℕ → History → Type 0)
-    → AreWithin part new → ForEachHistoryOf (line_of fault) fault part (λ n x h. Fact n x (length part) h)
-    → ForEachHistoryOf (line_of fault) fault new (λ n x h. Fact n x (length new) h)
+    → AreWithin part new → ForEachHistory fault part (λ n x h. Fact n x (length part) h)
+    → ForEachHistory fault new (λ n x h. Fact n x (length new) h)
 within_each fault part new Fact is each n x choice h some are inside is_h =
     subst (λ (m : ℕ). Fact n x m h) (sym is.many)
     (each n x choice h some (lengths_within n part new x is are) inside

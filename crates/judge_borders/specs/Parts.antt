@@ -40,25 +40,21 @@ MeetsAt n x fault lengths trip = MeetsBy fault.asked.kind
     (stands n fault.script.now.borders.items lengths x fault.asked.counted + fault.asked.within * n)
     (fault.asked.end * n) trip
 
--- of every history of a line, at all lengths of the part, of every choice of fractions within the intervals
-abbrev pub ForEachHistoryOf : Line → Fault → List Ends → (ℕ → (ℕ → ℕ) → History → Type 0) → Type 0
-ForEachHistoryOf line fault part Fact =
+-- of every history, at all lengths of the part, of every choice of fractions within the intervals
+abbrev pub ForEachHistory : Fault → List Ends → (ℕ → (ℕ → ℕ) → History → Type 0) → Type 0
+ForEachHistory fault part Fact =
     (n : ℕ) (x : ℕ → ℕ) (choice : Choice) (h : History) → 1 ≤ n → AreLengthsIn n part x
-    → IsFineWithin n line choice (box_of fault)
-    → IsShownHistory n line (shown_at n fault.script.now (length part) x) choice h
+    → IsFineWithin n (line_of fault) choice (box_of fault)
+    → IsShownHistory n (line_of fault) (shown_at n fault.script.now (length part) x) choice h
     → Fact n x h
 
 -- held: what is asked of terminal k is met by each of them; broken: by none
-abbrev pub SaysOf : Line → Fault → List Ends → ℕ → PartRule → Type 0
-SaysOf line fault part k Held =
-    ForEachHistoryOf line fault part (λ n x h. MeetsAt n x fault (length part) (h.trip k))
-SaysOf line fault part k Broken =
-    ForEachHistoryOf line fault part (λ n x h. ¬ (MeetsAt n x fault (length part) (h.trip k)))
-SaysOf line fault part k Open = Unit {0}
-
--- of the line that is run
 abbrev pub RuleSays : Fault → List Ends → ℕ → PartRule → Type 0
-RuleSays fault = SaysOf (line_of fault) fault
+RuleSays fault part k Held =
+    ForEachHistory fault part (λ n x h. MeetsAt n x fault (length part) (h.trip k))
+RuleSays fault part k Broken =
+    ForEachHistory fault part (λ n x h. ¬ (MeetsAt n x fault (length part) (h.trip k)))
+RuleSays fault part k Open = Unit {0}
 
 -- a rule for each terminal
 abbrev pub AreRules : Fault → List Ends → List PartRule → Type 0

@@ -1,0 +1,18 @@
+//! Answers to a fault whose times are not known to a tick: parts of its times, each of which is held, broken,
+//! or open, or fails at its least times. The rules of a part are `judge_borders`'s; a part that they leave open
+//! is halved, and where its times fail, whole tick by whole tick, they are settled one by one.
+#![tactic(auto)]
+
+mod ends;
+mod exact;
+mod fault;
+mod part;
+mod script;
+mod search;
+mod ticks;
+
+pub use exact::fails_at;
+pub use fault::Uncertain;
+pub use part::{Part, Told};
+pub use script::script_at;
+pub use search::{Answered, answers};
