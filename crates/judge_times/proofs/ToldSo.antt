@@ -8,7 +8,7 @@ use Rattle.std.proofs.lemmas.Option.{slice_get_within}
 use Rattle.judge_verdict.specs.verdict.OneEach.{OneEach}
 use Rattle.judge_borders.specs.declared.fault.PartRule.{PartRule}
 use Rattle.judge_borders.specs.declared.fault.PartRule.TheVariants as rule
-use Rattle.judge_borders.specs.{Halves.AreWithin, Parts.AreRules, Parts.RuleSays, Parts.line_of}
+use Rattle.judge_borders.specs.{Halves.AreWithin, Parts.AreRules, Parts.IsPart, Parts.RuleSays, Parts.line_of}
 use Rattle.judge_times.specs.declared.fault.Uncertain.{Uncertain}
 use Rattle.judge_times.specs.declared.part.{Part.Part, Told.Told}
 use Rattle.judge_times.specs.declared.part.Told.TheVariants.{Held, Broken, Fails, Open}
@@ -38,10 +38,11 @@ told_so of part rules fails told are failing is = record {
 }
 
 pub is_answer : (of : Uncertain) (whole part : List Ends) (rules : List PartRule) (fails : List Bool)
-    (own : Part) → own.lengths.items ≡ part → AreWithin whole part → AreRules of.fault part rules
+    (own : Part) → own.lengths.items ≡ part → IsPart part → AreWithin whole part
+    → AreRules of.fault part rules
     → AreFailing of part fails → IsToldOf rules fails own.told.items → IsAnswer of whole own
-is_answer of whole part rules fails own same within are failing is =
+is_answer of whole part rules fails own same ordered within are failing is =
     let P : List Ends → Type 0 =
-    λ l. (_ : AreWithin whole l) × OneEach (Says of l) (terminal_count (line_of of.fault)) own.told.items in
-    let both = subst P (sym same) (within, told_so of part rules fails own.told.items are failing is) in
-    record { within = both.0; told = both.1 }
+    λ l. (_ : IsPart l) × (_ : AreWithin whole l) × OneEach (Says of l) (terminal_count (line_of of.fault)) own.told.items in
+    let both = subst P (sym same) (ordered, within, told_so of part rules fails own.told.items are failing is) in
+    record { is = both.0; within = both.1; told = both.2 }

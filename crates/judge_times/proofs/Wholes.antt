@@ -27,6 +27,7 @@ pub wider : (of : Uncertain) (whole part : List Ends) (parts : List Part) → Ar
 wider of whole part parts is all =
     All-weaker (IsAnswer of part) (IsAnswer of whole)
     (λ p answer. record {
+      is = answer.is;
       within = within_within whole part p.lengths.items is answer.within;
       told = answer.told;
     }) parts all

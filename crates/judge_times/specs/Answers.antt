@@ -9,7 +9,7 @@ use Rattle.model_borders.specs.Borders.{AreLengthsIn}
 use Rattle.judge_verdict.specs.verdict.OneEach.{OneEach}
 use Rattle.judge_settle.specs.settle.Trees.{IsFailing}
 use Rattle.judge_borders.specs.declared.fault.PartRule.TheVariants as rule
-use Rattle.judge_borders.specs.{Halves.AreWithin, Parts.CanAsk, Parts.RuleSays, Parts.line_of}
+use Rattle.judge_borders.specs.{Halves.AreWithin, Parts.CanAsk, Parts.IsPart, Parts.RuleSays, Parts.line_of}
 use Rattle.judge_times.specs.declared.fault.Uncertain.{Uncertain}
 use Rattle.judge_times.specs.declared.part.{Part.Part, Told.Told}
 use Rattle.judge_times.specs.declared.part.Told.TheVariants.{Held, Broken, Fails, Open}
@@ -41,6 +41,7 @@ Says of part k Open = Unit {0}
 
 -- a part of the whole, and of each terminal what is so
 pub record IsAnswer (of : Uncertain) (whole : List Ends) (part : Part) : Type 0 where
+  pub is : IsPart part.lengths.items
   pub within : AreWithin whole part.lengths.items
   pub told : OneEach (Says of part.lengths.items) (terminal_count (line_of of.fault)) part.told.items
 

@@ -3,7 +3,7 @@
 ghost use Rattle.std.specs.Prelude.{◌≡◌, ◌<◌, ◌++◌, ◌∷◌, [], IfOk, List, Some, length, slice_get};
 ghost use Rattle.std.specs.List.{All};
 ghost use Rattle.model_history.specs.Rails.{Ends};
-ghost use Rattle.judge_borders.specs.{Parts.AreRules, Halves.AreWithin};
+ghost use Rattle.judge_borders.specs.{Parts.AreRules, Parts.IsPart, Halves.AreWithin};
 ghost use Rattle.judge_times.specs.Answers.{AreFailing, IsAnswer};
 ghost use Rattle.judge_times.specs.Told.{IsToldOf, told_by as told_for};
 ghost use Rattle.judge_times.specs.declared.fault.Uncertain.{Uncertain};
@@ -41,7 +41,7 @@ pub(crate) fn push_told(
 ) -> Result<(), Memory>
     ensures { IfOk result (λ _. (own : PartOf) × (found.new.items ≡ found.old.items ++ own ∷ [])
         × (own.lengths.items ≡ part.now)
-        × ((of : Uncertain) (whole : List Ends) → AreWithin whole part.now →
+        × ((of : Uncertain) (whole : List Ends) → IsPart part.now → AreWithin whole part.now →
         AreRules of.fault part.now rules.now → AreFailing of part.now fails.now →
         IsAnswer of whole own)) }
 {
@@ -60,7 +60,7 @@ pub(crate) fn push_failing(
     found: &mut Vec<Part>,
 ) -> Result<(), Memory>
     ensures { IfOk result (λ _. (more : List PartOf) × (found.new.items ≡ found.old.items ++ more)
-        × ((of : Uncertain) (whole : List Ends) → AreWithin whole part.now →
+        × ((of : Uncertain) (whole : List Ends) → IsPart part.now → AreWithin whole part.now →
         AreRules of.fault part.now rules.now → AreFailing of part.now fails.now →
         All (IsAnswer of whole) more)) }
 {

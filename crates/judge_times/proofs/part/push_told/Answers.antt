@@ -9,7 +9,7 @@ returns c =
       own,
       c.in_ok-push.ensures.items,
       c.in_ok-lengths.ensures.items,
-      λ of whole within are failing.
+      λ of whole ordered within are failing.
           is_answer of whole c.args.part.now c.args.rules.now c.args.fails.now own
-          c.in_ok-lengths.ensures.items within are failing c.in_ok-told.ensures,
+          c.in_ok-lengths.ensures.items ordered within are failing c.in_ok-told.ensures,
     )

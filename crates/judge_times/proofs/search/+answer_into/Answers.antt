@@ -18,7 +18,7 @@ returns-in-Told t c =
     (λ u own. (
       own.0 ∷ [],
       own.1,
-      alone of part own.0 own.2 (own.3 of part (within_self part) rules (λ k at. absurd (cc))),
+      alone of part own.0 own.2 (own.3 of part c.requires.part (within_self part) rules (λ k at. absurd (cc))),
     ))
     c.push_told.ensures
 

@@ -85,17 +85,18 @@ returns c =
     let rest : List Ends = c.loop-t.rest.items in
     let inv = c.loop-t.invariant in
     let P : List Ends → Type 0 = λ l.
-    (_ : AreWithin part l) × (_ : AreFailing of l c.as_slice-3.result.now) × AreStrips of part l inv.3 in
+    (_ : AreWithin part l) × (_ : AreFailing of l c.as_slice-3.result.now)
+    × (_ : AreStrips of part l inv.3) × IsPart l in
     let at = subst P (sym c.as_slice-2.ensures.value)
-    (inv.1, subst (AreFailing of rest) (sym c.as_slice-3.ensures.value) inv.2, inv.5) in
+    (inv.1, subst (AreFailing of rest) (sym c.as_slice-3.ensures.value) inv.2, inv.5, inv.0) in
     IfOk-weaker c.push_told.result _ _
     (λ u own. (
       inv.3 ++ own.0 ∷ [],
       grown c.args.found.now.items c.loop-t.found.items c.push_told.new.found.items inv.3 (own.0 ∷ [])
       inv.4 own.1,
       strips_whole of part c.as_slice-2.result.now inv.3 own.0 at.2 own.2
-      (own.3 of part at.0
-      (c.what_is_known_of_a_part_is_known_within.ensures of.fault part c.as_slice-2.result.now
+      (own.3 of part at.3 at.0
+      (c.what_is_known_of_a_part_is_known_within.ensures.rules of.fault part c.as_slice-2.result.now
       c.args.known.now at.0 c.requires.known) at.1),
     ))
     c.push_told.ensures
