@@ -1,0 +1,4 @@
+pub mod FirstTicks
+pub mod Found
+pub mod Next
+pub mod Shares
