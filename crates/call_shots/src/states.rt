@@ -1,6 +1,6 @@
 //! The states of what each relay sees.
 
-ghost use Rattle.std.specs.Prelude.{◌≡◌, ◌<◌, ◌+◌, ◌++◌, IfOk, OnOk, length, slice_get};
+ghost use Rattle.std.specs.Prelude.{◌≡◌, ◌≤◌, ◌<◌, ◌+◌, ◌++◌, IfOk, OnOk, length, slice_get};
 ghost use Rattle.base_text.specs.lines.Milliseconds.{ticks_text};
 ghost use Rattle.csv.specs.Writing.{row_text, default_writer};
 ghost use Rattle.model_history.specs.Each.{each_below};
@@ -123,9 +123,11 @@ fn push_tick(
 ) -> Result<u32, Memory>
     requires tick { t < line.now.horizon }
     requires begun { begun ≡ count_begun line.now script.now terminal t }
+    requires few { begun ≤ t }
     ensures text { OnOk result (text.new.items ≡ text.old.items
         ++ state_at line.now script.now shot terminal t) }
     ensures begun { IfOk result (λ n. n ≡ count_begun line.now script.now terminal (t + 1)) }
+    ensures few { IfOk result (λ n. n ≤ t + 1) }
 {
     if begins(line, script, terminal, t) {
         push_state(alloc, text, line, script, shot, terminal, t, begun)?;
@@ -149,6 +151,7 @@ fn push_state<'a>(
 ) -> Result<(), Memory>
     requires tick { t < line.now.horizon }
     requires begun { begun ≡ count_begun line.now script.now terminal t }
+    requires few { begun ≤ t }
     ensures { OnOk result (text.new.items ≡ text.old.items
         ++ row_text default_writer (state_record line.now script.now shot terminal t)) }
 {

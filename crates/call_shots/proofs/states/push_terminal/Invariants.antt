@@ -1,4 +1,4 @@
-use Rattle.std.proofs.Common.{◌≡◌, ◌++◌}
+use Rattle.std.proofs.Common.{◌≡◌, ◌≤◌, ◌++◌}
 use Rattle.model_history.specs.Each.{each_below}
 use Rattle.call_shots.specs.Changes.{count_begun}
 use Rattle.call_shots.specs.States.{state_at}
@@ -10,4 +10,5 @@ invariant-loop-t l = record {
       ≡ l.initial.text.items
       ++ each_below l.t (λ t. state_at l.line l.script l.shot l.terminal t);
   begun : l.begun ≡ count_begun l.line l.script l.terminal l.t;
+  few : l.begun ≤ l.t;
 }
