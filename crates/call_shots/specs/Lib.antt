@@ -1,4 +1,6 @@
 pub mod Changes
+pub mod Choices
+pub mod Delays
 pub mod Rows
 pub mod Said
 pub mod Shots

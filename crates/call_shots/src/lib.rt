@@ -2,10 +2,13 @@
 //! intervals in which each relay may key and trip, and must have; and the states that it shows.
 //!
 //! - `place`, `shots`: which script of a fault is played; `window`: when a relay keys and trips.
-//! - `rows`, `table`: what is expected of each relay; `changes`, `states`: what each relay sees.
+//! - `rows`, `table`: what is expected of each relay; `changes`, `states`: what each relay sees;
+//!   `choice`, `delays`: at which choice of times, and what the channels' delays are there.
 #![tactic(auto)]
 
 mod changes;
+mod choice;
+mod delays;
 mod place;
 mod rows;
 mod said;

@@ -5,6 +5,8 @@ ghost use Rattle.call_answer.specs.Answers.{Says};
 ghost use Rattle.call_verdicts.specs.Cases.{IsCases};
 ghost use Rattle.call_shots.specs.Said.{IsForm, shots_answer};
 
+use crate::choice::choices_of;
+use crate::delays::delays_text;
 use crate::rows::rows_of;
 use crate::shots::shots_of;
 use crate::states::states_text;
@@ -29,7 +31,7 @@ pub fn shots_table(
 {
     let found = find_all(alloc, cases, analyses)?;
     let shots = shots_of(alloc, cases, found.as_slice())?;
-    let text = told(alloc, cases, form, shots.as_slice())?;
+    let text = told(alloc, cases, form, shots.as_slice(), analyses)?;
     Ok(Said {
         status: status_of(found.as_slice()),
         text,
@@ -41,7 +43,9 @@ fn told(
     cases: &Cases,
     form: ShotsForm,
     shots: &[Finding],
+    analyses: u32,
 ) -> Result<Vec<u8>, Memory>
+    requires { IsCases cases.now }
     ensures { IfOk result (λ text. IsForm form cases.now.compiled.line.now cases.now.scripts.now
         cases.now.groups.now shots.now text.items) }
 {
@@ -51,5 +55,9 @@ fn told(
             table_text(alloc, cases, shots, rows.as_slice())
         }
         ShotsForm::States => states_text(alloc, cases, shots),
+        ShotsForm::Delays => {
+            let timings = choices_of(alloc, cases, shots, analyses)?;
+            delays_text(alloc, cases, shots, timings.as_slice())
+        }
     }
 }

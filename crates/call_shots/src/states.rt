@@ -187,7 +187,8 @@ fn push_state<'a>(
     )
 }
 
-fn ticks_words(alloc: Global, tick_us: u32, ticks: u32) -> Result<Vec<u8>, Memory>
+/// A time in milliseconds.
+pub fn ticks_words(alloc: Global, tick_us: u32, ticks: u32) -> Result<Vec<u8>, Memory>
     ensures { IfOk result (λ text. text.items ≡ ticks_text tick_us ticks) }
 {
     let mut text = Vec::new(alloc);

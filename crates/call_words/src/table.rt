@@ -142,6 +142,14 @@ const FAULTS: Opt = Opt {
     help: "One record for each fault and terminal: how many scripts are held, and where not",
 };
 
+const DELAYS: Opt = Opt {
+    name: "delays",
+    value: None,
+    required: false,
+    beside: Beside::Without("states"),
+    help: "One record for each channel's delay: from when on, and how long it is",
+};
+
 const STATES: Opt = Opt {
     name: "states",
     value: None,
@@ -403,7 +411,7 @@ const PICTURES: &[Word] = &[
         name: "shots",
         about: "What an end-to-end test plays: of each fault the script that tells most, and what is expected (CSV)",
         files: STUDY,
-        options: &[STATES, ANALYSES, TABLE, CSV, COLOR],
+        options: &[STATES, DELAYS, ANALYSES, TABLE, CSV, COLOR],
         in_three: false,
     },
     Word {

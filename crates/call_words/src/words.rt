@@ -345,10 +345,12 @@ fn verdicts_of(own: &ArgMatches<'_>, analyses: u32) -> Table {
     }
 }
 
-// What a test set plays: what is expected of each relay, or what each relay sees.
+// What a test set plays: what is expected of each relay, what each relay sees, or the delays.
 fn shots_of(own: &ArgMatches<'_>, analyses: u32) -> Table {
     let form = if own.get_flag("states") {
         ShotsForm::States
+    } else if own.get_flag("delays") {
+        ShotsForm::Delays
     } else {
         ShotsForm::Expected
     };
