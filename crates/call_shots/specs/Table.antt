@@ -21,7 +21,7 @@ deadline_text tick_us External deadline = []
 abbrev pub shots_header : List (List ℕ)
 shots_header =
     codes "shot" ∷ codes "fault" ∷ codes "at" ∷ codes "kind" ∷ codes "deadline_ms"
-    ∷ codes "answer" ∷ codes "fails_for" ∷ codes "place" ∷ codes "script" ∷ codes "swept_ms"
+    ∷ codes "obligation" ∷ codes "fails_for" ∷ codes "place" ∷ codes "script" ∷ codes "swept_ms"
     ∷ codes "terminal" ∷ codes "key_from_ms" ∷ codes "key_by_ms" ∷ codes "trip_from_ms"
     ∷ codes "trip_by_ms" ∷ []
 

@@ -51,7 +51,7 @@ fn push_header(alloc: Global, text: &mut Vec<u8>) -> Result<(), Memory>
             b"at",
             b"kind",
             b"deadline_ms",
-            b"answer",
+            b"obligation",
             b"fails_for",
             b"place",
             b"script",
