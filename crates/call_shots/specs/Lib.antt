@@ -6,4 +6,5 @@ pub mod Said
 pub mod Shots
 pub mod States
 pub mod Table
+pub mod Truths
 pub mod Windows

@@ -9,6 +9,7 @@
 mod changes;
 mod choice;
 mod delays;
+mod laws;
 mod place;
 mod rows;
 mod said;
@@ -17,6 +18,7 @@ mod states;
 mod table;
 mod window;
 
+pub use laws::windows_are_true;
 pub use rows::Row;
 pub use said::shots_table;
 pub use window::Window;
