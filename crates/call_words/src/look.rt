@@ -107,8 +107,7 @@ fn is_table_of(work: Work<'_>) -> bool {
             | Table::Margins
             | Table::Verdicts { .. }
             | Table::Faults { .. }
-            | Table::Races
-            | Table::Shots { .. } => true,
+            | Table::Races => true,
             Table::Trees { .. } | Table::Why { .. } | Table::Line | Table::Part(_) => false,
         },
         Work::Explain { form, .. } => match form {
