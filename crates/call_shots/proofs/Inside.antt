@@ -14,7 +14,7 @@ on_and_off true on off = absurd (cc)
 on_and_off false on off = absurd (cc)
 
 module _ (some : (u : ℕ → Bool) (n t : ℕ)
-        → (first_on u n ≡ Some t) ↔ ((t < n) × IsTrue (u t) × ((r : ℕ) → r < t → IsFalse (u r))))
+    → (first_on u n ≡ Some t) ↔ ((t < n) × IsTrue (u t) × ((r : ℕ) → r < t → IsFalse (u r))))
     (none : (u : ℕ → Bool) (n : ℕ) → (first_on u n ≡ None) ↔ ((t : ℕ) → t < n → IsFalse (u t))) where
   no_sooner : (u : ℕ → Bool) (n t : ℕ) (first : Option ℕ) → first_on u n ≡ first → t < n
       → IsTrue (u t) → IsSomeAnd first (λ m. m ≤ t)

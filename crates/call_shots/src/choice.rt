@@ -37,12 +37,7 @@ pub fn choices_of(
     Ok(timings)
 }
 
-fn choice_of(
-    alloc: Global,
-    cases: &Cases,
-    shot: &Finding,
-    analyses: u32,
-) -> Result<Timing, Memory>
+fn choice_of(alloc: Global, cases: &Cases, shot: &Finding, analyses: u32) -> Result<Timing, Memory>
     requires { IsCases cases.now }
     ensures { IfOk result (λ timing. IsChoiceOf cases.now.compiled.line.now cases.now.scripts.now
         shot.now timing) }
@@ -77,11 +72,7 @@ fn choice_at(
 }
 
 // The worst corner of the declared intervals.
-fn worst_choice(
-    alloc: Global,
-    compiled: &Compiled<'_>,
-    script: &Script,
-) -> Result<Timing, Memory>
+fn worst_choice(alloc: Global, compiled: &Compiled<'_>, script: &Script) -> Result<Timing, Memory>
     ensures { IfOk result (IsTheWorst compiled.now.line.now script.now) }
 {
     let waves = analyse(alloc, compiled, script)?;

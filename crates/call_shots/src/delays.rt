@@ -43,14 +43,7 @@ fn push_header(alloc: Global, text: &mut Vec<u8>) -> Result<(), Memory>
     push_record(
         alloc,
         text,
-        &[
-            b"shot",
-            b"script",
-            b"from",
-            b"to",
-            b"since_ms",
-            b"delay_ms",
-        ],
+        &[b"shot", b"script", b"from", b"to", b"since_ms", b"delay_ms"],
     )
 }
 
@@ -160,7 +153,16 @@ fn push_step(
         ++ step_row line.now name.now number c step.now) }
 {
     if step.param == line.delay_of(c as u32) {
-        push_delay(alloc, text, line, name, number, c, step.from, step.value.value())
+        push_delay(
+            alloc,
+            text,
+            line,
+            name,
+            number,
+            c,
+            step.from,
+            step.value.value(),
+        )
     } else {
         Ok(())
     }

@@ -12,7 +12,8 @@ use crate::window::Window;
 use base_records::push_record;
 use base_text::lines::push_ticks;
 use call_verdicts::{
-    Cases, Finding, answer_word, fails_for_word, fault_name, number_in, number_words, swept_text, trip_text,
+    Cases, Finding, answer_word, fails_for_word, fault_name, number_in, number_words, swept_text,
+    trip_text,
 };
 use file_study::sweeps::place_of_script;
 use itoa::Buffer;
@@ -146,12 +147,7 @@ fn told_of(alloc: Global, tick_us: u32, window: &Window) -> Result<WindowText, M
 }
 
 // The deadline of an internal fault; nothing of an external one.
-fn deadline_text(
-    alloc: Global,
-    tick_us: u32,
-    kind: Kind,
-    deadline: u32,
-) -> Result<Vec<u8>, Memory>
+fn deadline_text(alloc: Global, tick_us: u32, kind: Kind, deadline: u32) -> Result<Vec<u8>, Memory>
     ensures { IfOk result (λ text. text.items ≡ text_of_deadline tick_us kind deadline) }
 {
     let mut text = Vec::new(alloc);
