@@ -3,6 +3,7 @@
 use crate::choose::ChooseAsk;
 use crate::explain::ExplainForm;
 use crate::map::MapAsk;
+use crate::shots::ShotsForm;
 use draw_shapes::Rows;
 
 /// Where a line and its scripts stand, by the names of files.
@@ -89,6 +90,9 @@ pub enum Table {
     Races,
     /// Why the first obligation that fails does so, with at most so many analyses for each obligation.
     Why { analyses: u32 },
+    /// What a test set plays: of each fault and terminal one script, in this form, with at most so many
+    /// analyses for each obligation.
+    Shots { form: ShotsForm, analyses: u32 },
     /// The line, as a line file.
     Line,
     /// The part of this number of its scripts, 64 a part, as a scripts file. The first is 1.

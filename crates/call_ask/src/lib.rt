@@ -7,9 +7,11 @@ mod choose;
 mod explain;
 mod map;
 mod records;
+mod shots;
 
 pub use ask::{Ask, Form, Source, Table, Work};
 pub use choose::ChooseAsk;
 pub use explain::ExplainForm;
 pub use map::{MapAsk, MapForm};
 pub use records::{RecordsAsk, RecordsWork};
+pub use shots::ShotsForm;

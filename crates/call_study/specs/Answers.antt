@@ -16,6 +16,7 @@ use Rattle.call_tables.specs.{Margins.margins_answer, Recheck.recheck_answer}
 use Rattle.call_tables.specs.Settled.{settle_answer}
 use Rattle.call_races.specs.Races.{races_answer}
 use Rattle.call_why.specs.Why.{why_answer}
+use Rattle.call_shots.specs.Said.{shots_answer}
 use Rattle.call_verdicts.specs.{Faults.faults_answer, Verdicts.verdicts_answer}
 use Rattle.call_study.specs.{Linted.lint_answer, Settled.failing_answer, Settled.trees_answer}
 use Rattle.call_ask.specs.declared.ask.Table.TheVariants as table
@@ -56,6 +57,8 @@ answer_of (reading.table (table.Faults analyses) of) =
     faults_answer of.line of.scripts of.groups
 answer_of (reading.table table.Races of) = races_answer of.line of.scripts of.groups
 answer_of (reading.table (table.Why analyses) of) = why_answer of.line of.scripts None
+answer_of (reading.table (table.Shots form analyses) of) =
+    shots_answer form of.line of.scripts of.groups
 answer_of (reading.table table.Line of) = prints (λ text. line_of text ≡ Ok (line_values of.line))
 answer_of (reading.table (table.Part n) of) =
     prints (SaysScripts of.line (map values_of (part n of.scripts)))

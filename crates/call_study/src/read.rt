@@ -24,6 +24,7 @@ use crate::settled::{failing_said, trees_said};
 use call_answer::{Said, Study};
 use call_ask::{Form, Table};
 use call_races::races_table;
+use call_shots::shots_table;
 use call_tables::{margins_table, recheck_settled, settle_table};
 use call_verdicts::{Cases, faults_table, verdicts_table};
 use call_why::why_said;
@@ -109,7 +110,8 @@ fn denied(which: Table, scripts: &[Script]) -> Option<Denial>
         | Table::Verdicts { .. }
         | Table::Faults { .. }
         | Table::Races
-        | Table::Why { .. } => at_most(4_096_000, scripts),
+        | Table::Why { .. }
+        | Table::Shots { .. } => at_most(4_096_000, scripts),
         Table::Trees { .. } | Table::Margins => at_most(4096, scripts),
         Table::Line => None,
         Table::Part(n) => {
@@ -157,6 +159,7 @@ fn table_said(alloc: Global, which: Table, loaded: &Loaded) -> Result<Said, Memo
         Table::Faults { analyses } => faults_table(alloc, &cases_of(loaded), analyses),
         Table::Races => races_of(alloc, &cases_of(loaded)),
         Table::Why { analyses } => why_of(alloc, study, analyses),
+        Table::Shots { form, analyses } => shots_table(alloc, &cases_of(loaded), form, analyses),
         Table::Line => Ok(Said::good(print_line(alloc, &study.line)?)),
         Table::Part(n) => match part_text(alloc, &study.line, &study.scripts, n as usize)? {
             Some(text) => Ok(Said::good(text)),

@@ -1,24 +1,14 @@
--- The share of a fault of a list in which the shares stand one after another, and what is left.
+-- The records of faults whose findings stand one after another.
 use Rattle.std.proofs.Common.{◌≡◌, ℕ, ◌+◌, ◌-◌, ◌<◌, ◌≤◌, ◌∙◌, List, ◌∷◌, ◌++◌, length, take, drop}
-use Rattle.std.proofs.Common.{ap, append_assoc, arith, get_or, length-drop, sym}
+use Rattle.std.proofs.Common.{ap, append_assoc, get_or, sym}
 use Rattle.std.specs.Prelude.{min}
-use Rattle.std.proofs.lemmas.List.{drop-drop, drop_min, drop_more, take_min}
+use Rattle.std.proofs.lemmas.List.{drop_more}
 use Rattle.model_line.specs.{declared.line.Line.Line, declared.script.Script.Script}
 use Rattle.model_line.specs.Parameters.{terminal_count}
 use Rattle.file_study.specs.declared.sweeps.group.Group.{Group}
 use Rattle.call_verdicts.specs.Faults.{fault_records, faults_from, findings_of}
+use Rattle.call_verdicts.specs.ShareLaws.{left_share, own_share}
 use Rattle.call_verdicts.specs.declared.finding.Finding.{Finding}
-
-pub own_share : {X : Type 0} (n start : ℕ) (xs : List X) → start ≤ length xs
-    → take (min (start + n) (length xs) - start) (drop start xs) ≡ take n (drop start xs)
-own_share n start xs within =
-    let e : min (start + n) (length xs) - start ≡ min n (length (drop start xs)) =
-    rw (length-drop start xs) (omega arith) in
-    rw e (take_min n (drop start xs))
-
-pub left_share : {X : Type 0} (n start : ℕ) (xs : List X)
-    → drop (min (start + n) (length xs)) xs ≡ drop n (drop start xs)
-left_share n start xs = drop_min (start + n) xs ∙ sym (drop-drop n start xs)
 
 -- the records of one fault more stand behind the others, and those that are left behind them
 pub fault_more : (line : Line) (scripts : List Script) (gs : List Group) (found : List Finding)

@@ -77,8 +77,8 @@ fn push_faults(
     Ok(())
 }
 
-// Where the findings of a fault that begin at a place end, of so many.
-fn end_of(line: &Line, group: &Group, start: usize, count: usize) -> usize
+/// Where the findings of a fault that begin at a place end, of so many.
+pub fn end_of(line: &Line, group: &Group, start: usize, count: usize) -> usize
     ensures { result ≡ min (start + findings_of line.now group.now) count }
 {
     let own = group.swept.len().saturating_mul(line.terminals.len());

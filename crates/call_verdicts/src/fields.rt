@@ -68,8 +68,8 @@ pub fn told_of_trip(
     Ok(TripText { trip, margin })
 }
 
-// When the trip must have come; nothing where it need not come.
-fn trip_text(alloc: Global, tick_us: u32, first: Option<u32>) -> Result<Vec<u8>, Memory>
+/// When the trip must have come; nothing where it need not come.
+pub fn trip_text(alloc: Global, tick_us: u32, first: Option<u32>) -> Result<Vec<u8>, Memory>
     ensures { IfOk result (λ text. text.items ≡ trip_text_of tick_us first) }
 {
     match first {

@@ -16,6 +16,11 @@ mod verdicts;
 mod worst;
 
 pub use cases::Cases;
+pub use fault_table::end_of;
 pub use faults::faults_table;
+pub use fields::{answer_word, fails_for_word, number_words, trip_text};
 pub use finding::{Finding, Standing, find_all};
-pub use verdicts::verdicts_table;
+pub use told::{fault_name, number_in, swept_text};
+pub use verdict::{Verdict, verdicts_of};
+pub use verdicts::{status_of, verdicts_table};
+pub use worst::worst_place;

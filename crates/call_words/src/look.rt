@@ -107,7 +107,8 @@ fn is_table_of(work: Work<'_>) -> bool {
             | Table::Margins
             | Table::Verdicts { .. }
             | Table::Faults { .. }
-            | Table::Races => true,
+            | Table::Races
+            | Table::Shots { .. } => true,
             Table::Trees { .. } | Table::Why { .. } | Table::Line | Table::Part(_) => false,
         },
         Work::Explain { form, .. } => match form {

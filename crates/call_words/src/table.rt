@@ -11,6 +11,7 @@ const VERSION: &str = "0.31.0";
 const AFTER: &str = "Answer:    verdicts, why, compare, lint, settle, recheck, explain
 Choose:    choose, margins, races, map
 Show:      page, bands, run, vcd
+Test:      shots
 Exchange:  lines, scripts, comtrade
 
 A study is one file (TOML), as examples/studies has some; in place of it two files
@@ -139,6 +140,22 @@ const FAULTS: Opt = Opt {
     required: false,
     beside: Beside::Any,
     help: "One record for each fault and terminal: how many scripts are held, and where not",
+};
+
+const DELAYS: Opt = Opt {
+    name: "delays",
+    value: None,
+    required: false,
+    beside: Beside::Without("states"),
+    help: "One record for each channel's delay: from when on, and how long it is",
+};
+
+const STATES: Opt = Opt {
+    name: "states",
+    value: None,
+    required: false,
+    beside: Beside::Any,
+    help: "One record for each state: when it begins, how long it lasts, and what the relay sees",
 };
 
 const CSV: Opt = Opt {
@@ -388,6 +405,13 @@ const PICTURES: &[Word] = &[
         about: "The whole study as one page (HTML), to print and to sign",
         files: STUDY,
         options: &[ANALYSES],
+        in_three: false,
+    },
+    Word {
+        name: "shots",
+        about: "What an end-to-end test plays: of each fault the script that tells most, and what is expected (CSV)",
+        files: STUDY,
+        options: &[STATES, DELAYS, ANALYSES, TABLE, CSV, COLOR],
         in_three: false,
     },
     Word {

@@ -7,8 +7,8 @@ use crate::fault::WordFault;
 use crate::look::{Look, look_of};
 use base_text::store::number;
 use call_ask::{
-    Ask, ChooseAsk, ExplainForm, Form, MapAsk, MapForm, RecordsAsk, RecordsWork, Source, Table,
-    Work,
+    Ask, ChooseAsk, ExplainForm, Form, MapAsk, MapForm, RecordsAsk, RecordsWork, ShotsForm, Source,
+    Table, Work,
 };
 use clap::ArgMatches;
 use draw_shapes::Rows;
@@ -247,6 +247,7 @@ fn work_of<'a>(
         "margins" => Work::Table(Table::Margins),
         "races" => Work::Table(Table::Races),
         "why" => Work::Table(Table::Why { analyses }),
+        "shots" => Work::Table(shots_of(own, analyses)),
         "run" => played(own, *last, diagram(own)),
         "vcd" => played(own, *last, Form::Dump),
         _ => Work::Bands {
@@ -342,6 +343,18 @@ fn verdicts_of(own: &ArgMatches<'_>, analyses: u32) -> Table {
     } else {
         Table::Verdicts { analyses }
     }
+}
+
+// What a test set plays: what is expected of each relay, what each relay sees, or the delays.
+fn shots_of(own: &ArgMatches<'_>, analyses: u32) -> Table {
+    let form = if own.get_flag("states") {
+        ShotsForm::States
+    } else if own.get_flag("delays") {
+        ShotsForm::Delays
+    } else {
+        ShotsForm::Expected
+    };
+    Table::Shots { form, analyses }
 }
 
 // A map over the words from the first axis on: one or two.

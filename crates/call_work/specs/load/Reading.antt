@@ -95,15 +95,16 @@ abbrev pub at_most : ℕ → ℕ → Option Denial
 at_most most scripts =
     if nat_le scripts most then None else Some (denial.TooManyScripts scripts most)
 
--- most work over all scripts takes 4,096; the tables of settled obligations, of verdicts, of faults and
--- of races, and why one fails, as many as a study can come to, 1,000 faults of 4,096; an explanation 64;
--- and there are as many parts as hold 64 each
+-- most work over all scripts takes 4,096; the tables of settled obligations, of verdicts, of faults, of
+-- races and of shots, and why one fails, as many as a study can come to, 1,000 faults of 4,096; an
+-- explanation 64; and there are as many parts as hold 64 each
 abbrev pub denied_of : Table → ℕ → Option Denial
 denied_of (tables.Settled analyses) scripts = at_most 4096000 scripts
 denied_of (tables.Verdicts analyses) scripts = at_most 4096000 scripts
 denied_of (tables.Faults analyses) scripts = at_most 4096000 scripts
 denied_of tables.Races scripts = at_most 4096000 scripts
 denied_of (tables.Why analyses) scripts = at_most 4096000 scripts
+denied_of (tables.Shots form analyses) scripts = at_most 4096000 scripts
 denied_of (tables.Trees analyses) scripts = at_most 4096 scripts
 denied_of tables.Margins scripts = at_most 4096 scripts
 denied_of tables.Line scripts = None

@@ -1,0 +1,5 @@
+pub mod FirstTicks
+pub mod Found
+pub mod Inside
+pub mod Next
+pub mod Shares

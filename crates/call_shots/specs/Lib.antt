@@ -1,0 +1,10 @@
+pub mod Changes
+pub mod Choices
+pub mod Delays
+pub mod Rows
+pub mod Said
+pub mod Shots
+pub mod States
+pub mod Table
+pub mod Truths
+pub mod Windows
