@@ -23,7 +23,7 @@ note_said line scripts =
     ++ (decimal (length scripts)
     ++ (codes " and "
     ++ (decimal (length scripts * terminal_count line)
-    ++ codes ". Intervals keep their widths, all else is as declared. By the interval rules: an open cell may be settled by study settle.")))
+    ++ codes ". Intervals keep their widths, all else is as declared. Held: every choice meets each obligation; fails: some choice fails one.")))
 
 -- times in microseconds: the numbers of an axis, and the one that is declared
 pub record IsRulerOf (line : Line) (names : List ℕ) (axis : Axis) (ruler : Ruler) : Type 0 where

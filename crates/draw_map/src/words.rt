@@ -23,7 +23,12 @@ pub fn push_ms(alloc: Global, text: &mut Vec<u8>, line: &Line, ticks: u32) -> Re
 }
 
 /// What a cell says: its least ends, what is known, and what is lost.
-pub fn cell_words(alloc: Global, map: &Map, place: u32, cell: &SettledCell) -> Result<Vec<u8>, Memory>
+pub fn cell_words(
+    alloc: Global,
+    map: &Map,
+    place: u32,
+    cell: &SettledCell,
+) -> Result<Vec<u8>, Memory>
     requires axes { AreAxes map.now.line.now map.now.axes.now }
     requires place { place < cell_count map.now.axes.now }
     requires few { length cell.now.known.items < 2 ^ 32 }
