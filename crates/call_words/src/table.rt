@@ -393,7 +393,7 @@ const CHOICES: &[Word] = &[
         name: "map",
         about: "Where all obligations are held as one setting or two move (SVG)",
         files: AXES,
-        options: &[CELLS],
+        options: &[CELLS, ANALYSES],
         in_three: false,
     },
 ];

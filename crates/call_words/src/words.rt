@@ -238,7 +238,7 @@ fn work_of<'a>(
         "settle" => settled(own, analyses),
         "verdicts" => Work::Table(verdicts_of(own, analyses)),
         "explain" => explained(own, *last, analyses)?,
-        "map" => map_of(own, *last, files)?,
+        "map" => map_of(own, *last, files, analyses)?,
         "page" => Work::Page {
             analyses,
             made: MADE,
@@ -362,6 +362,7 @@ fn map_of<'a>(
     own: &ArgMatches<'a>,
     last: &'a str,
     files: &[&'a str],
+    analyses: u32,
 ) -> Result<Work<'a>, WordFault<'a>> {
     let (x, y) = match &files[before_axes(files)..] {
         [x] => (*x, None),
@@ -377,6 +378,7 @@ fn map_of<'a>(
         } else {
             MapForm::Drawing
         },
+        analyses,
         made: MADE,
     }))
 }

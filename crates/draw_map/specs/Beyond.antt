@@ -5,11 +5,12 @@ use Rattle.std.specs.Prelude.{nat_le, if◌then◌else◌}
 use Rattle.std.specs.{List.list_all, Option.option_or, Bool.then_some}
 use Rattle.model_line.specs.{declared.line.Line.Line, declared.script.Script.Script}
 use Rattle.model_line.specs.Parameters.{declared_ends}
-use Rattle.judge_verdict.specs.declared.verdict.rule.Rule.{Rule}
+use Rattle.judge_map.specs.declared.known.Known.{Known}
 use Rattle.judge_margins.specs.{declared.map.axis.Axis.Axis, declared.map.axis.Axes.Axes}
-use Rattle.judge_margins.specs.declared.map.cell.Cell.{Cell}
+use Rattle.judge_map.specs.declared.cell.SettledCell.{SettledCell}
 use Rattle.judge_margins.specs.map.Axes.{column_count, count_along, least_at, rows_of}
-use Rattle.judge_margins.specs.{map.Cells.is_held, map.Cells.lost_of, map.MapText.obligation_said}
+use Rattle.judge_margins.specs.map.MapText.{obligation_said}
+use Rattle.judge_map.specs.{Cells.lost_of, Known.is_held}
 use Rattle.draw_map.specs.Words.{ms_said}
 
 -- ---- the declared point
@@ -42,13 +43,13 @@ row_of line (Some axis) = number_of line axis
 
 -- ---- from there on
 
--- the rules of the cell at a column and a row
-abbrev pub rules_at : Axes → List Cell → ℕ → ℕ → List Rule
-rules_at axes cells column row =
-    get_or (map (λ cell. cell.rules.items) cells) (column * rows_of axes.y + row) []
+-- what is known of the obligations of the cell at a column and a row
+abbrev pub known_at : Axes → List SettledCell → ℕ → ℕ → List Known
+known_at axes cells column row =
+    get_or (map (λ cell. cell.known.items) cells) (column * rows_of axes.y + row) []
 
-abbrev pub is_held_at : Axes → List Cell → ℕ → ℕ → Bool
-is_held_at axes cells column row = list_all is_held (rules_at axes cells column row)
+abbrev pub is_held_at : Axes → List SettledCell → ℕ → ℕ → Bool
+is_held_at axes cells column row = list_all is_held (known_at axes cells column row)
 
 -- the first number from `from` on, of so many, that does not pass the test
 abbrev pub first_from : (ℕ → Bool) → ℕ → ℕ → Option ℕ
@@ -72,24 +73,24 @@ first_lost_said line scripts (place ∷ (next ∷ more)) =
     ++ (codes " and " ++ (decimal (length (next ∷ more)) ++ codes " more"))
 
 -- to which side, from which least end on, and what
-abbrev pub side_said : Line → List Script → List ℕ → ℕ → List Rule → List ℕ
-side_said line scripts side least rules =
-    side ++ (ms_said line least ++ (codes ": " ++ first_lost_said line scripts (lost_of rules)))
+abbrev pub side_said : Line → List Script → List ℕ → ℕ → List Known → List ℕ
+side_said line scripts side least known =
+    side ++ (ms_said line least ++ (codes ": " ++ first_lost_said line scripts (lost_of known)))
 
-abbrev pub across_said : Line → List Script → Axes → List Cell → List ℕ → ℕ → Option ℕ
+abbrev pub across_said : Line → List Script → Axes → List SettledCell → List ℕ → ℕ → Option ℕ
     → List (List ℕ)
 across_said line scripts axes cells side row None = []
 across_said line scripts axes cells side row (Some column) =
-    side_said line scripts side (least_at axes.x column) (rules_at axes cells column row) ∷ []
+    side_said line scripts side (least_at axes.x column) (known_at axes cells column row) ∷ []
 
-abbrev pub up_said : Line → List Script → Axes → List Cell → Axis → List ℕ → ℕ → Option ℕ
+abbrev pub up_said : Line → List Script → Axes → List SettledCell → Axis → List ℕ → ℕ → Option ℕ
     → List (List ℕ)
 up_said line scripts axes cells axis side column None = []
 up_said line scripts axes cells axis side column (Some row) =
-    side_said line scripts side (least_at axis row) (rules_at axes cells column row) ∷ []
+    side_said line scripts side (least_at axis row) (known_at axes cells column row) ∷ []
 
 -- to the right, and to the left
-abbrev pub columns_said : Line → List Script → Axes → List Cell → ℕ → ℕ → List (List ℕ)
+abbrev pub columns_said : Line → List Script → Axes → List SettledCell → ℕ → ℕ → List (List ℕ)
 columns_said line scripts axes cells column row =
     across_said line scripts axes cells (codes "right from ") row
     (first_from (λ c. is_held_at axes cells c row) (column + 1) (column_count axes - (column + 1)))
@@ -97,7 +98,7 @@ columns_said line scripts axes cells column row =
     (last_below (λ c. is_held_at axes cells c row) column)
 
 -- above, and below
-abbrev pub rows_said : Line → List Script → Axes → List Cell → Option Axis → ℕ → ℕ → List (List ℕ)
+abbrev pub rows_said : Line → List Script → Axes → List SettledCell → Option Axis → ℕ → ℕ → List (List ℕ)
 rows_said line scripts axes cells None column row = []
 rows_said line scripts axes cells (Some axis) column row =
     up_said line scripts axes cells axis (codes "above from ") column
@@ -106,7 +107,7 @@ rows_said line scripts axes cells (Some axis) column row =
     (last_below (is_held_at axes cells column) row)
 
 -- nothing where the declared point is not among the cells, or is not held
-abbrev pub beyond_by : Line → List Script → Axes → List Cell → Option ℕ → Option ℕ → List (List ℕ)
+abbrev pub beyond_by : Line → List Script → Axes → List SettledCell → Option ℕ → Option ℕ → List (List ℕ)
 beyond_by line scripts axes cells None row = []
 beyond_by line scripts axes cells (Some column) None = []
 beyond_by line scripts axes cells (Some column) (Some row) =
@@ -115,6 +116,6 @@ beyond_by line scripts axes cells (Some column) (Some row) =
     ++ rows_said line scripts axes cells axes.y column row
     else []
 
-abbrev pub beyond_said : Line → List Script → Axes → List Cell → List (List ℕ)
+abbrev pub beyond_said : Line → List Script → Axes → List SettledCell → List (List ℕ)
 beyond_said line scripts axes cells =
     beyond_by line scripts axes cells (number_of line axes.x) (row_of line axes.y)

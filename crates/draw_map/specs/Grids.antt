@@ -4,7 +4,8 @@ use Rattle.std.specs.Prelude.{option_map}
 use Rattle.model_line.specs.{declared.line.Line.Line, declared.script.Script.Script}
 use Rattle.model_line.specs.Parameters.{terminal_count}
 use Rattle.judge_margins.specs.{declared.map.axis.Axis.Axis, declared.map.axis.Axes.Axes}
-use Rattle.judge_margins.specs.{declared.map.cell.Cell.Cell, map.Axes.count_along}
+use Rattle.judge_margins.specs.map.Axes.{count_along}
+use Rattle.judge_map.specs.declared.cell.SettledCell.{SettledCell}
 use Rattle.draw_shapes.specs.declared.{grid.Grid.Grid, grid.Ruler.Ruler}
 use Rattle.draw_map.specs.{Beyond.beyond_said, Beyond.least_of, Words.cell_seen, Words.cells_shown}
 
@@ -22,7 +23,7 @@ note_said line scripts =
     ++ (decimal (length scripts)
     ++ (codes " and "
     ++ (decimal (length scripts * terminal_count line)
-    ++ codes ". Intervals keep their widths, all else is as declared. By the interval rules: an open cell may be settled by study settle.")))
+    ++ codes ". Intervals keep their widths, all else is as declared. Held: every choice meets each obligation; fails: some choice fails one.")))
 
 -- times in microseconds: the numbers of an axis, and the one that is declared
 pub record IsRulerOf (line : Line) (names : List ℕ) (axis : Axis) (ruler : Ruler) : Type 0 where
@@ -40,7 +41,7 @@ IsSecondOf line names (Some axis) None = ⊥
 IsSecondOf line names (Some axis) (Some ruler) = IsRulerOf line names axis ruler
 
 -- each cell as what is known of it, the rulers of the axes, and what is lost first beyond
-pub record IsGridOf (line : Line) (scripts : List Script) (axes : Axes) (cells : List Cell)
+pub record IsGridOf (line : Line) (scripts : List Script) (axes : Axes) (cells : List SettledCell)
     (x y : List ℕ) (grid : Grid) : Type 0 where
   pub title : grid.title.items ≡ title_said axes x y
   pub note : grid.note.items ≡ note_said line scripts

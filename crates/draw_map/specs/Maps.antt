@@ -10,12 +10,12 @@ IsSmallSecond None = Unit {0}
 IsSmallSecond (Some axis) = axis.step ≤ 4000
 
 -- the axes are the line's, their steps at most 4,000 ticks, and there is a cell for each of their
--- numbers with a rule for each obligation
+-- numbers with what is known of each obligation
 pub record IsMap (map : Map) : Type 0 where
   pub axes : AreAxes map.line.now map.axes.now
   pub x_step : map.axes.now.x.step ≤ 4000
   pub y_step : IsSmallSecond map.axes.now.y
   pub cells : length map.cells.now ≡ cell_count map.axes.now
-  pub rules : All (λ cell. length cell.rules.items ≡ length map.scripts.now * terminal_count map.line.now)
+  pub known : All (λ cell. length cell.known.items ≡ length map.scripts.now * terminal_count map.line.now)
       map.cells.now
   pub few : length map.scripts.now ≤ 4096

@@ -2,10 +2,10 @@
 use Rattle.std.specs.Prelude.{◌+◌, ◌*◌, ◌/◌, ◌%◌, ◌++◌, ℕ, List, [], ◌∷◌, Option, None, Some, codes}
 use Rattle.model_line.specs.{declared.line.Line.Line, declared.script.Script.Script}
 use Rattle.judge_margins.specs.{declared.map.axis.Axis.Axis, declared.map.axis.Axes.Axes}
-use Rattle.judge_margins.specs.{declared.map.cell.Cell.Cell, declared.map.cell.Word.Word}
-use Rattle.judge_margins.specs.declared.map.cell.Word.TheVariants as word
-use Rattle.judge_margins.specs.{map.Axes.least_at, map.Axes.rows_of, map.Cells.lost_of, map.Cells.word_of}
-use Rattle.judge_margins.specs.map.MapText.{obligations_said, word_said}
+use Rattle.judge_margins.specs.{map.Axes.least_at, map.Axes.rows_of, map.MapText.obligations_said}
+use Rattle.judge_map.specs.{declared.cell.SettledCell.SettledCell, declared.cell.Word.Word}
+use Rattle.judge_map.specs.declared.cell.Word.TheVariants as word
+use Rattle.judge_map.specs.{Cells.lost_of, Cells.word_of, MapText.word_said}
 use Rattle.draw_shapes.specs.declared.{grid.GridCell.GridCell, grid.Look.Look}
 use Rattle.draw_shapes.specs.declared.grid.Look.TheVariants as look
 use Rattle.draw_shapes.specs.Numbers.{milliseconds_said}
@@ -30,12 +30,12 @@ lost_said line scripts [] = []
 lost_said line scripts (place ∷ places) =
     codes ", lost " ++ obligations_said line scripts (place ∷ places)
 
-abbrev pub cell_said : Line → List Script → Axes → ℕ → Cell → List ℕ
+abbrev pub cell_said : Line → List Script → Axes → ℕ → SettledCell → List ℕ
 cell_said line scripts axes place cell =
     point_said line axes place
     ++ (codes ": "
-    ++ (word_said (word_of cell.rules.items)
-    ++ lost_said line scripts (lost_of cell.rules.items)))
+    ++ (word_said (word_of cell.known.items)
+    ++ lost_said line scripts (lost_of cell.known.items)))
 
 abbrev pub look_of : Word → Look
 look_of word.Held = look.Held
@@ -51,14 +51,14 @@ pub record SeenCell : Type 0 where
 abbrev pub cell_seen : GridCell → SeenCell
 cell_seen cell = record { look = cell.look; words = cell.words.items }
 
-abbrev pub cell_shown : Line → List Script → Axes → ℕ → Cell → SeenCell
+abbrev pub cell_shown : Line → List Script → Axes → ℕ → SettledCell → SeenCell
 cell_shown line scripts axes place cell = record {
-  look = look_of (word_of cell.rules.items);
+  look = look_of (word_of cell.known.items);
   words = cell_said line scripts axes place cell;
 }
 
 -- those from this place on
-abbrev pub cells_shown : Line → List Script → Axes → ℕ → List Cell → List SeenCell
+abbrev pub cells_shown : Line → List Script → Axes → ℕ → List SettledCell → List SeenCell
 cells_shown line scripts axes place [] = []
 cells_shown line scripts axes place (cell ∷ cells) =
     cell_shown line scripts axes place cell ∷ cells_shown line scripts axes (place + 1) cells

@@ -12,7 +12,8 @@ use crate::map::Map;
 use crate::walk::{cell_at, first_above, first_right, is_held_at, last_beneath, last_left};
 use crate::words::push_ms;
 use itoa::Buffer;
-use judge_margins::map::{Axis, Cell, push_obligation};
+use judge_map::SettledCell;
+use judge_margins::map::{Axis, push_obligation};
 use model_line::{Line, Memory, Script};
 use std::alloc::Global;
 
@@ -163,12 +164,12 @@ fn side_words(
     map: &Map,
     side: &[u8],
     least: u32,
-    cell: &Cell,
+    cell: &SettledCell,
 ) -> Result<Vec<u8>, Memory>
     requires least { least ≤ 4000 }
-    requires few { length cell.now.rules.items < 2 ^ 32 }
+    requires few { length cell.now.known.items < 2 ^ 32 }
     ensures { IfOk result (λ words. words.items
-        ≡ side_said map.now.line.now map.now.scripts.now side.now least cell.now.rules.items) }
+        ≡ side_said map.now.line.now map.now.scripts.now side.now least cell.now.known.items) }
 {
     let mut words = Vec::from_slice(alloc, side)?;
     push_ms(alloc, &mut words, map.line, least)?;

@@ -8,7 +8,7 @@ ghost use Rattle.draw_map.specs.Words.{cell_seen, cell_shown, cells_shown, look_
 use crate::map::Map;
 use crate::words::cell_words;
 use draw_shapes::{GridCell, Look};
-use judge_margins::map::{Cell, Word};
+use judge_map::{SettledCell, Word};
 use model_line::Memory;
 use std::alloc::Global;
 
@@ -26,10 +26,10 @@ pub fn spots(alloc: Global, map: &Map) -> Result<Vec<GridCell>, Memory>
     Ok(spots)
 }
 
-fn spot(alloc: Global, map: &Map, place: u32, cell: &Cell) -> Result<GridCell, Memory>
+fn spot(alloc: Global, map: &Map, place: u32, cell: &SettledCell) -> Result<GridCell, Memory>
     requires axes { AreAxes map.now.line.now map.now.axes.now }
     requires place { place < cell_count map.now.axes.now }
-    requires few { length cell.now.rules.items < 2 ^ 32 }
+    requires few { length cell.now.known.items < 2 ^ 32 }
     ensures { IfOk result (λ spot. cell_seen spot
         ≡ cell_shown map.now.line.now map.now.scripts.now map.now.axes.now place cell.now) }
 {

@@ -4,19 +4,19 @@ ghost use Rattle.std.specs.Prelude.{◌≡◌, ◌≤◌, ◌<◌, ◌+◌, ◌-
 ghost use Rattle.std.specs.Prelude.{if◌then◌else◌};
 ghost use Rattle.judge_margins.specs.map.Axes.{column_count, row_count};
 ghost use Rattle.draw_map.specs.Beyond.{first_from, is_held_at as held_at};
-ghost use Rattle.draw_map.specs.Beyond.{last_below, rules_at as rules_of};
+ghost use Rattle.draw_map.specs.Beyond.{last_below, known_at as known_for};
 ghost use Rattle.draw_map.specs.Maps.{IsMap};
 
 use crate::map::Map;
-use judge_margins::map::{Cell, Word};
+use judge_map::{SettledCell, Word};
 
 /// The cell at a column and a row.
-pub fn cell_at<'a>(map: &Map<'a>, column: u32, row: u32) -> &'a Cell
+pub fn cell_at<'a>(map: &Map<'a>, column: u32, row: u32) -> &'a SettledCell
     requires map { IsMap map.now }
     requires column { column < column_count map.now.axes.now }
     requires row { row < row_count map.now.axes.now }
-    ensures is { result.now.rules.items ≡ rules_of map.now.axes.now map.now.cells.now column row }
-    ensures few { length result.now.rules.items < 2 ^ 32 }
+    ensures is { result.now.known.items ≡ known_for map.now.axes.now map.now.cells.now column row }
+    ensures few { length result.now.known.items < 2 ^ 32 }
 {
     let place = column * map.axes.rows(map.line) + row;
     &map.cells[place as usize]

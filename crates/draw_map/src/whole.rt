@@ -77,7 +77,7 @@ fn note(alloc: Global, line: &Line, scripts: &[Script]) -> Result<Vec<u8>, Memor
     words.extend_from_slice(b" and ")?;
     words.extend_from_slice(Buffer::new().format(obligations).as_bytes())?;
     words.extend_from_slice(
-        b". Intervals keep their widths, all else is as declared. By the interval rules: an open cell may be settled by study settle.",
+        b". Intervals keep their widths, all else is as declared. Held: every choice meets each obligation; fails: some choice fails one.",
     )?;
     Ok(words)
 }

@@ -6,7 +6,8 @@ ghost use Rattle.draw_map.specs.Words.{cell_said, lost_said, ms_said, point_said
 
 use crate::map::Map;
 use draw_shapes::milliseconds;
-use judge_margins::map::{Axis, Cell, obligations_text, word_of};
+use judge_map::{SettledCell, word_of};
+use judge_margins::map::{Axis, obligations_text};
 use model_line::{Line, Memory, Script};
 use std::alloc::Global;
 
@@ -22,10 +23,15 @@ pub fn push_ms(alloc: Global, text: &mut Vec<u8>, line: &Line, ticks: u32) -> Re
 }
 
 /// What a cell says: its least ends, what is known, and what is lost.
-pub fn cell_words(alloc: Global, map: &Map, place: u32, cell: &Cell) -> Result<Vec<u8>, Memory>
+pub fn cell_words(
+    alloc: Global,
+    map: &Map,
+    place: u32,
+    cell: &SettledCell,
+) -> Result<Vec<u8>, Memory>
     requires axes { AreAxes map.now.line.now map.now.axes.now }
     requires place { place < cell_count map.now.axes.now }
-    requires few { length cell.now.rules.items < 2 ^ 32 }
+    requires few { length cell.now.known.items < 2 ^ 32 }
     ensures { IfOk result (λ words. words.items
         ≡ cell_said map.now.line.now map.now.scripts.now map.now.axes.now place cell.now) }
 {

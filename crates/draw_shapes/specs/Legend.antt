@@ -86,7 +86,7 @@ sign_of entry.Declared y = target 7410 (y + 80)
 abbrev pub words_of : Grid → Entry → List ℕ
 words_of grid entry.Held = codes "held: each obligation is always met"
 words_of grid entry.Open = codes "open: neither is known"
-words_of grid entry.Fails = codes "fails: some obligation is never met"
+words_of grid entry.Fails = codes "fails: some obligation can fail"
 words_of grid entry.Border = codes "border of what is held"
 words_of grid entry.Declared = grid.declared.items
 

@@ -126,7 +126,7 @@ fn words_of<'a>(grid: &'a Grid, one: Entry) -> &'a [u8]
     match one {
         Entry::Held => b"held: each obligation is always met",
         Entry::Open => b"open: neither is known",
-        Entry::Fails => b"fails: some obligation is never met",
+        Entry::Fails => b"fails: some obligation can fail",
         Entry::Border => b"border of what is held",
         Entry::Declared => grid.declared.as_slice(),
     }

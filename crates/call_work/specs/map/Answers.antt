@@ -1,8 +1,9 @@
 -- What a map answers.
 use Rattle.std.specs.Prelude.{◌≡◌, ℕ, List, [], Option, None, Some}
 use Rattle.model_line.specs.{declared.line.Line.Line, declared.script.Script.Script}
-use Rattle.judge_margins.specs.{declared.map.axis.Axes.Axes, declared.map.cell.Cell.Cell}
-use Rattle.judge_margins.specs.{map.Cells.AreCells, map.MapText.map_text}
+use Rattle.judge_margins.specs.declared.map.axis.Axes.{Axes}
+use Rattle.judge_map.specs.{Cells.AreSettledCells, MapText.map_text}
+use Rattle.judge_map.specs.declared.cell.SettledCell.{SettledCell}
 use Rattle.draw_shapes.specs.{Drawings.drawing_of, declared.grid.Grid.Grid}
 use Rattle.draw_map.specs.Grids.{IsGridOf}
 use Rattle.draw_shapes.specs.Svg.{svg_of}
@@ -12,19 +13,19 @@ use Rattle.call_ask.specs.declared.map.MapForm.{MapForm}
 use Rattle.call_work.specs.map.Asked.{AreAxesOf, Both}
 use Rattle.call_ask.specs.declared.map.MapForm.TheVariants as form
 
--- the cells of these axes, by the interval rules, as records
+-- what is known of each obligation over the cells of these axes, as records
 pub record IsRecordsText (line : Line) (scripts : List Script) (axes : Axes) (text : List ℕ)
     : Type 0 where
-  pub cells : List Cell
-  pub are : AreCells line scripts axes cells
+  pub cells : List SettledCell
+  pub are : AreSettledCells line scripts axes cells
   pub printed : text ≡ map_text line scripts axes cells
 
 -- the same cells as the printed form of the drawing of their grid, whose axes go by these names, made
 -- by what these words say
 pub record IsDrawingText (line : Line) (scripts : List Script) (axes : Axes) (x y made text : List ℕ)
     : Type 0 where
-  pub cells : List Cell
-  pub are : AreCells line scripts axes cells
+  pub cells : List SettledCell
+  pub are : AreSettledCells line scripts axes cells
   pub grid : Grid
   pub shows : IsGridOf line scripts axes cells x y grid
   pub printed : text ≡ svg_of made (drawing_of grid)

@@ -4,7 +4,7 @@ ghost use Rattle.std.specs.Prelude.{◌≡◌, ◌≤◌, Err, Ok, IfOk};
 ghost use Rattle.std.specs.Option.{option_copied};
 ghost use Rattle.base_markup.specs.svg.Content.{IsContent};
 ghost use Rattle.judge_margins.specs.map.Axes.{AreAxes, CanMoveBoth};
-ghost use Rattle.judge_margins.specs.map.Cells.{AreCells};
+ghost use Rattle.judge_map.specs.Cells.{AreSettledCells};
 ghost use Rattle.draw_map.specs.Maps.{IsSmallSecond};
 ghost use Rattle.draw_shapes.specs.{Drawings.drawing_of, Scale.IsGrid, Svg.svg_of};
 ghost use Rattle.file_study.specs.times.Parts.{names_of as names_for};
@@ -23,12 +23,13 @@ use call_ask::{MapAsk, MapForm};
 use draw_map::{Map, grid_of};
 use draw_shapes::{Grid, draw, svg};
 use file_study::times::names_of;
-use judge_margins::map::{Axes, Cell, cells, map_text};
+use judge_map::{SettledCell, map_text, settled_cells};
+use judge_margins::map::{Axes, cells};
 use model_line::Memory;
 use std::alloc::Global;
 
 /// Where each obligation is held, fails or is open, as the settings of the words move: as a drawing,
-/// or as records `x,y,cell,lost`. Status 0.
+/// or as records `x,y,cell,lost,fails,choices`. Status 0.
 pub fn map_of(alloc: Global, study: &Study, ask: &MapAsk) -> Result<Said, Stopped<MapDenial>>
     requires { IsMapped study.now }
     ensures said { IfOk result (λ said. (both : BothOf)
@@ -54,16 +55,12 @@ fn text_of(alloc: Global, study: &Study, ask: &MapAsk, axes: &Axes) -> Result<Ve
         IsTextOver study.now.line study.now.scripts.items ask.now.form ask.now.x.now
         (option_copied ask.now.y) ask.now.made.now axes.now text.items) }
 {
-    let cells = cells(alloc, &study.compiled(), study.scripts.as_slice(), axes)?;
+    let scripts = study.scripts.as_slice();
+    let ruled = cells(alloc, &study.compiled(), scripts, axes)?;
+    let cells = settled_cells(alloc, &study.line, scripts, axes, &ruled, ask.analyses)?;
     match ask.form {
         MapForm::Drawing => drawing_text(alloc, study, ask, axes, cells.as_slice()),
-        MapForm::Records => map_text(
-            alloc,
-            &study.line,
-            study.scripts.as_slice(),
-            axes,
-            cells.as_slice(),
-        ),
+        MapForm::Records => map_text(alloc, &study.line, scripts, axes, cells.as_slice()),
     }
 }
 
@@ -73,13 +70,13 @@ fn drawing_text(
     study: &Study,
     ask: &MapAsk,
     axes: &Axes,
-    cells: &[Cell],
+    cells: &[SettledCell],
 ) -> Result<Vec<u8>, Memory>
     requires study { IsMapped study.now }
     requires axes { AreAxes study.now.line axes.now }
     requires small { axes.now.x.step ≤ 4000 }
     requires second { IsSmallSecond axes.now.y }
-    requires cells { AreCells study.now.line study.now.scripts.items axes.now cells.now }
+    requires cells { AreSettledCells study.now.line study.now.scripts.items axes.now cells.now }
     ensures well_formed { IfOk result (λ text. ∥ IsContent text.items ∥₁) }
     ensures drawn { IfOk result (λ text.
         IsDrawingText study.now.line study.now.scripts.items axes.now (names_for ask.now.x.now)

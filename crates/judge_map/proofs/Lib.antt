@@ -1,0 +1,5 @@
+pub mod PlaceLaws
+pub mod BoxLaws
+pub mod RuleLaws
+pub mod AnswerLaws
+pub mod KnownLaws
