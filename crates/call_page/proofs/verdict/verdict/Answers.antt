@@ -38,7 +38,8 @@ returns c =
           (at_this known.firsts.now i firsts
           (λ (f : Firsts). (c.after-2.result ≡ after_inception (inception_of line of) f.may)
           × (c.after-3.result ≡ after_inception (inception_of line of) f.must))
-          c.firsts_at-firsts.ensures
-          (rw c.inception-began.ensures.first at c.after-2.ensures,
-          rw c.inception-began.ensures.first at c.after-3.ensures));
+          c.firsts_at-firsts.ensures (
+            rw c.inception-began.ensures.first at c.after-2.ensures,
+            rw c.inception-began.ensures.first at c.after-3.ensures,
+          ));
     }
