@@ -13,6 +13,7 @@ use Rattle.call_page.specs.declared.parts.Part.{Part}
 use Rattle.call_facts.specs.{Drawings.IsPlayOf, Lists.At, Lists.EachOf, Lists.if_one}
 use Rattle.call_facts.specs.Told.{IsToldTime, IsToldStep, is_told, is_at_least}
 use Rattle.call_facts.specs.Lists.{those_below}
+use Rattle.call_why.specs.Reasons.{IsToldWhy}
 
 -- the obligations that fail, and those that are open, in order
 abbrev pub failing_row : Row → List Row
@@ -30,11 +31,12 @@ IsFaultOfScript parts s fault =
 
 -- a timing that fails the script's obligation, cut to what matters: the numbers that matter, those
 -- that stand at their least, and the steps; all others stand in the middle of their intervals. And
--- its play.
+-- its play. Why it fails is what `study why` says of a cut of the same timing.
 pub record IsChoiceFor (line : Line) (script : Script) (k : ℕ) (c : FailingChoice) : Type 0 where
   pub whole : TimingValues
   pub cut : TimingValues
   pub is_cut : IsCut line script k whole cut
+  pub why : IsToldWhy line script k whole c.every c.why.items
   pub told : EachOf (IsToldTime line cut) (those_below (is_told line cut) (param_count line))
       c.told.items
   pub least : map (λ name. name.items) c.least.items

@@ -4,6 +4,8 @@ use Rattle.model_line.specs.{declared.line.Line.Line, declared.script.Script.Scr
 use Rattle.model_line.specs.declared.script.Kind.{Kind}
 use Rattle.model_line.specs.declared.script.Kind.TheVariants.{Internal, External}
 use Rattle.model_line.specs.NamesByNumber.{terminal_name}
+use Rattle.run_waves.specs.waves.FirstTick.{first_on}
+use Rattle.draw_run.specs.diagram.Times.{is_begun}
 use Rattle.judge_report.specs.Deadlines.{deadline_of}
 use Rattle.judge_settle.specs.declared.settle.answer.Answer.{Answer}
 use Rattle.judge_settle.specs.declared.settle.answer.Answer.TheVariants.{Held, Fails, Open}
@@ -64,8 +66,19 @@ pub record IsWorst (line : Line) (scripts : List Script) (rows : List Row) (firs
       → distance_at line scripts rows firsts (start + worst) k
       ≤ distance_at line scripts rows firsts (start + j) k
 
+-- a tick, counted from the inception of its fault: 0 at it, and before it; of a script that shows no
+-- fault counted from tick 0
+abbrev pub after_inception : Option ℕ → Option ℕ → Option ℕ
+after_inception inception None = None
+after_inception None (Some tick) = Some tick
+after_inception (Some inception) (Some tick) = Some (tick - inception)
+
+-- the inception of a script's fault: the first tick at which a relay sees it
+abbrev pub inception_of : Line → Script → Option ℕ
+inception_of line script = first_on (is_begun script.spans.items) line.horizon
+
 -- the standing of each of these scripts at terminal k; and of the one that does worst there by what it
--- was settled, its deadline and first ticks
+-- was settled, and counted from its inception its deadline and first ticks
 pub record IsVerdictOf (line : Line) (scripts : List Script) (rows : List Row)
     (firsts : List Firsts) (start count k : ℕ) (v : Verdict) : Type 0 where
   pub terminal : v.terminal.items ≡ terminal_name line k
@@ -75,5 +88,8 @@ pub record IsVerdictOf (line : Line) (scripts : List Script) (rows : List Row)
   pub worst : ℕ
   pub is_worst : IsWorst line scripts rows firsts start count k worst
   pub by : At rows (place line (start + worst) k) (λ row. v.by ≡ means_of row.settled.by)
-  pub deadline : At scripts (start + worst) (λ s. v.deadline ≡ deadline_of s.kind s.deadline)
-  pub ticks : At firsts (place line (start + worst) k) (λ f. (v.may ≡ f.may) × (v.must ≡ f.must))
+  pub deadline : At scripts (start + worst) (λ s.
+      v.deadline ≡ after_inception (inception_of line s) (deadline_of s.kind s.deadline))
+  pub ticks : At scripts (start + worst) (λ s. At firsts (place line (start + worst) k) (λ f.
+      (v.may ≡ after_inception (inception_of line s) f.may)
+      × (v.must ≡ after_inception (inception_of line s) f.must)))

@@ -7,6 +7,8 @@ ghost use Rattle.model_line.specs.declared.script.Script.{Script as ScriptOf};
 ghost use Rattle.model_timing.specs.{Inside.IsTimingInside, Timing.TimingValues};
 ghost use Rattle.judge_settle.specs.{corner.Cuts.IsCut, settle.Trees.IsFailing};
 ghost use Rattle.call_answer.specs.Study.{IsAnyStudy};
+ghost use Rattle.call_tables.specs.Table.{fails_for_every as fails_for_every_of};
+ghost use Rattle.call_why.specs.Reasons.{IsToldWhy};
 ghost use Rattle.call_page.specs.Choices.{IsChoiceOf};
 ghost use Rattle.call_facts.specs.Lists.{At};
 
@@ -15,6 +17,7 @@ use crate::parts::{Part, part_of_script};
 use call_answer::Study;
 use call_facts::{least_times, play, told_steps, told_times};
 use call_tables::{Row, fails_for_every};
+use call_why::told_why;
 use draw_page::FailingChoice;
 use judge_settle::corner::{Obligation, cut};
 use model_line::{Memory, Script, name_of_terminal};
@@ -52,10 +55,12 @@ pub fn choice(
     let cut = cut(alloc, &of, timing)?;
     let name = name_of(&study.line, row.terminal);
     let named = NamedTiming { name, timing: cut };
-    choice_of(alloc, &compiled, parts, row, of_script, &named)
+    let every = fails_for_every(row);
+    let why = told_why(alloc, &compiled, of_script, row.terminal, timing, every)?;
+    choice_of(alloc, &compiled, parts, row, of_script, &named, why)
 }
 
-// The choice that is this timing, named after the terminal.
+// The choice that is this timing, named after the terminal, with the reason why it fails.
 fn choice_of(
     alloc: Global,
     compiled: &Compiled<'_>,
@@ -63,6 +68,7 @@ fn choice_of(
     row: &Row,
     of: &Script,
     named: &NamedTiming,
+    why: Vec<u8>,
 ) -> Result<FailingChoice, Memory>
     requires few { length parts.now < 2 ^ 32 }
     requires fits { Fits compiled.now.line.now of.now }
@@ -70,6 +76,8 @@ fn choice_of(
     requires name { named.now.name ≡ terminal_name compiled.now.line.now row.now.terminal }
     ensures { (whole : TimingValues)
         → IsCut compiled.now.line.now of.now row.now.terminal whole named.now.timing
+        → IsToldWhy compiled.now.line.now of.now row.now.terminal whole
+        (fails_for_every_of row.now.settled.answer) why.items
         → (scripts : List ScriptOf) → slice_get scripts row.now.script ≡ Some of.now
         → IfOk result (IsChoiceOf compiled.now.line.now scripts parts.now row.now) }
 {
@@ -89,6 +97,7 @@ fn choice_of(
         script,
         terminal,
         every,
+        why,
         told,
         least,
         steps,

@@ -5,13 +5,14 @@ ghost use Rattle.model_line.specs.Parameters.{terminal_count};
 ghost use Rattle.judge_verdict.specs.verdict.OneEach.{OneEach};
 ghost use Rattle.call_page.specs.Facts.{AreKnown};
 ghost use Rattle.call_facts.specs.{FirstTicks.place, Lists.At};
-ghost use Rattle.call_page.specs.Verdicts.{IsVerdictOf, means_of};
+ghost use Rattle.call_page.specs.Verdicts.{IsVerdictOf, after_inception, means_of};
 ghost use Rattle.call_page.specs.Verdicts.{standing_of as standing_of_answer};
 
 use crate::known::{Known, firsts_at, row_at};
 use crate::parts::Part;
 use crate::worst::worst;
 use draw_page::{Means, Standing, Verdict};
+use draw_run::diagram::inception;
 use judge_report::deadline;
 use judge_settle::settle::{Answer, By};
 use model_line::{Memory, name_of_terminal};
@@ -50,14 +51,26 @@ fn verdict(alloc: Global, known: &Known<'_>, part: Part, terminal: u32) -> Resul
     let firsts = firsts_at(known, script, terminal);
     let of = &known.study.scripts[script];
     let name = Vec::from_slice(alloc, name_of_terminal(&known.study.line, terminal))?;
+    let began = inception(of, known.study.line.horizon);
     Ok(Verdict {
         terminal: name,
         standings,
         by: means(row.settled.by),
-        deadline: deadline(of.kind, of.deadline),
-        may: firsts.may,
-        must: firsts.must,
+        deadline: after(began, deadline(of.kind, of.deadline)),
+        may: after(began, firsts.may),
+        must: after(began, firsts.must),
     })
+}
+
+// A tick, counted from the inception of its fault, where there is one.
+fn after(inception: Option<u32>, tick: Option<u32>) -> Option<u32>
+    ensures { result ≡ after_inception inception tick }
+{
+    match (inception, tick) {
+        (_, None) => None,
+        (None, Some(tick)) => Some(tick),
+        (Some(inception), Some(tick)) => Some(tick.saturating_sub(inception)),
+    }
 }
 
 // How each script of a part stands at a terminal.

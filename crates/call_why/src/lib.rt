@@ -16,4 +16,5 @@ mod why;
 mod words;
 
 pub use part::Part;
+pub use reasons::told_why;
 pub use why::why_said;

@@ -102,7 +102,8 @@ least_html (name ∷ names) = some_least_html (name ∷ names)
 unfoldable pub choice_html : ℕ → FailingChoice → List ℕ
 choice_html tick_us choice =
     plain_html tag.Section
-    (choice_heading_html choice ++ some_every_html choice.every
+    (choice_heading_html choice ++ said_in_html tag.Preformatted (codes "why") choice.why.items
+    ++ some_every_html choice.every
     ++ some_told_html tick_us choice.told.items ++ some_steps_html tick_us choice.steps.items ++ least_html choice.least.items
     ++ figure_html (drawing_seen choice.play))
 

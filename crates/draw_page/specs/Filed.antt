@@ -21,11 +21,11 @@ file_row_html file = hash_row_html file.name.items file.sha256.items
 abbrev pub digest_row_html : Digest → List ℕ
 digest_row_html digest = hash_row_html digest.of.items digest.sha256.items
 
--- a file, folded under its name
+-- a file in full, under its name
 unfoldable pub file_html : FileText → List ℕ
 file_html file =
-    plain_html tag.Details
-    (words_in_html tag.Summary file.name.items ++ words_in_html tag.Preformatted file.text.items)
+    plain_html tag.Section
+    (words_in_html tag.Heading3 file.name.items ++ words_in_html tag.Preformatted file.text.items)
 
 unfoldable pub files_html : Page → List ℕ
 files_html page =

@@ -43,7 +43,7 @@ abbrev pub least_html : ℕ → Option LeastMargin → List ℕ
 least_html tick_us None = []
 least_html tick_us (Some least) =
     tile_html (codes "tile") (time_said tick_us least.ticks)
-    (codes "least margin by rule: " ++ least.at.items)
+    (codes "least dependability margin by rule: " ++ least.at.items)
 
 unfoldable pub held_html : ℕ → List ℕ
 held_html count = count_html (codes "tile yes") count (codes "held for every choice")
@@ -77,6 +77,7 @@ link_item_html to words = plain_html tag.Item (link_html to words)
 unfoldable pub answer_links_html : List ℕ
 answer_links_html =
     link_item_html anchor.Verdicts (codes "Verdicts")
+    ++ link_item_html anchor.Signature (codes "Signature")
     ++ link_item_html anchor.Failing (codes "Failing choices")
     ++ link_item_html anchor.Open (codes "Open")
 
@@ -84,7 +85,6 @@ unfoldable pub other_links_html : List ℕ
 other_links_html =
     link_item_html anchor.Times (codes "Times") ++ link_item_html anchor.Faults (codes "Faults")
     ++ link_item_html anchor.Files (codes "Files")
-    ++ link_item_html anchor.Signature (codes "Signature")
 
 unfoldable pub contents_html : List ℕ
 contents_html =

@@ -8,7 +8,7 @@ use Rattle.base_markup.specs.{html.Content.element_text, html.Words.words_text}
 use Rattle.draw_page.specs.declared.anchor.Anchor.TheVariants as anchor
 use Rattle.draw_page.specs.declared.page.{Page.Page, Fault.Fault, Verdict.Verdict}
 use Rattle.draw_page.specs.Elements.{numbered, plain_html, cell_html, number_cell_html, column_html}
-use Rattle.draw_page.specs.Elements.{head_cell_html, link_html, section_html, table_html}
+use Rattle.draw_page.specs.Elements.{head_cell_html, link_html, said_in_html, section_html, table_html}
 use Rattle.model_line.specs.NamesByNumber.{kind_text}
 use Rattle.draw_page.specs.Words.{margin_said, trip_said}
 use Rattle.draw_page.specs.Badges.{badge_html}
@@ -56,8 +56,13 @@ fault_row_html tick_us n fault =
     ++ cell_html (codes "kind") (codes "kind") (words_text (kind_text fault.kind))
     ++ flat_map (verdict_cells_html tick_us) fault.verdicts.items)
 
+-- what the numbers mean, and from when they count
+unfoldable pub matrix_meaning : List ℕ
+matrix_meaning =
+    said_in_html tag.Paragraph (codes "small") (codes "First trip: no choice of times trips before the first number, and every choice has tripped by the second, in milliseconds after the inception of the fault; of a swept fault that is so of the script that does worst there. Margin: from the second to the deadline. Drawings and reasons count from the beginning of the play; a drawing marks the inception.")
+
 unfoldable pub matrix_html : Page → List ℕ
 matrix_html page =
-    section_html anchor.Verdicts (codes "Verdicts") (table_html (codes "matrix")
+    section_html anchor.Verdicts (codes "Verdicts") (matrix_meaning ++ table_html (codes "matrix")
     (matrix_head_html page.terminals.items)
     (numbered (fault_row_html page.tick_us) 0 page.faults.items))

@@ -26,13 +26,14 @@ unfoldable pub head_html : Page → List ℕ
 head_html page =
     charset_html ++ viewport_html ++ words_in_html tag.Title page.title.items ++ sheet_html
 
--- what was asked, and what was found
+-- what was asked and what was found, with lines to sign beside the verdicts
 unfoldable pub answers_html : Page → List ℕ
-answers_html page = header_html page ++ matrix_html page ++ failing_html page ++ open_html page
+answers_html page =
+    header_html page ++ matrix_html page ++ signing_html page ++ failing_html page ++ open_html page
 
 -- what it rests on
 unfoldable pub grounds_html : Page → List ℕ
-grounds_html page = times_html page ++ faults_html page ++ files_html page ++ signing_html page
+grounds_html page = times_html page ++ faults_html page ++ files_html page
 
 unfoldable pub main_html : Page → List ℕ
 main_html page = answers_html page ++ grounds_html page

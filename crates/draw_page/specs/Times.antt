@@ -13,13 +13,13 @@ use Rattle.draw_page.specs.{Bars.bar_drawing, Bars.reach_of}
 use Rattle.draw_page.specs.Figures.{drawing_html}
 use Rattle.draw_page.specs.Words.{interval_said, ticks_text, time_said}
 
--- how far an end can move, and what is lost first beyond; any way where nothing is lost
+-- how far an end can move, and what is lost first beyond; not tested where nothing is lost
 unfoldable pub lost_html : ℕ → ℕ → List ℕ → List ℕ
 lost_html tick_us ticks lost =
     words_text (time_said tick_us ticks) ++ said_in_html tag.Span (codes "lost") lost
 
 abbrev pub slack_of : ℕ → ℕ → Option (Vec ℕ Global) → List ℕ
-slack_of tick_us ticks None = words_text (codes "any")
+slack_of tick_us ticks None = words_text (codes "not tested")
 slack_of tick_us ticks (Some lost) = lost_html tick_us ticks lost.items
 
 abbrev pub slack_html : ℕ → Slack → List ℕ
@@ -66,7 +66,7 @@ times_table_html tick_us times =
 unfoldable pub times_meaning : List ℕ
 times_meaning =
     said_in_html tag.Paragraph (codes "small")
-    (codes "To spare: how far one end alone can move outward, all else as declared, with each obligation that the interval rules hold still held, and what is lost first beyond. One that is held by parts, cases or a corner alone is left out. A full bar is the declared interval, a thin one how far its ends can go.")
+    (codes "To spare: how far one end alone can move outward, all else as declared, with each obligation that the interval rules hold still held, and what is lost first beyond. One that is held by parts, cases or a corner alone is left out. Not tested: none is lost, however far the end moves, so the study asks nothing of it; that is a gap of coverage and no room. A full bar is the declared interval, a thin one how far its ends can go.")
 
 unfoldable pub no_times_html : List ℕ
 no_times_html = words_in_html tag.Paragraph (codes "No margins were worked out.")

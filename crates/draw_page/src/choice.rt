@@ -53,11 +53,13 @@ fn choices(alloc: Global, tick_us: u32, failing: &[FailingChoice]) -> Result<Htm
     made
 }
 
-// A choice: its heading, its times and steps, and its play.
+// A choice: its heading, why it fails, its times and steps, and its play.
 fn one_choice(alloc: Global, tick_us: u32, choice: &FailingChoice) -> Result<Html, AllocError>
     ensures { IfOk result (λ html. html.text.items ≡ choice_html tick_us choice.now) }
 {
-    let head = joined(heading(alloc, choice), some_every(alloc, choice.every));
+    let why = said_in(alloc, Tag::Preformatted, b"why", choice.why.as_slice());
+    let reason = joined(heading(alloc, choice), why);
+    let head = joined(reason, some_every(alloc, choice.every));
     let told = joined(head, some_told(alloc, tick_us, choice.told.as_slice()));
     let steps = joined(told, some_steps(alloc, tick_us, choice.steps.as_slice()));
     let all = joined(steps, rest(alloc, choice.least.as_slice()));

@@ -13,14 +13,14 @@ use crate::parts::{around, joined};
 use base_markup::html::{Html, Tag};
 use std::alloc::{AllocError, Global};
 
-/// The section of the files: the digests, and each file in a fold.
+/// The section of the files: the digests, and each file in full.
 pub fn files(alloc: Global, page: &Page) -> Result<Html, AllocError>
     ensures { IfOk result (λ html. html.text.items ≡ files_html page.now) }
 {
     let head = columns(alloc, &[b"File", b"SHA-256"]);
     let (files, digests) = (page.files.as_slice(), page.digests.as_slice());
     let rows = joined(file_rows(alloc, files), digest_rows(alloc, digests));
-    let inside = joined(table(alloc, b"files", head, rows), folded(alloc, files));
+    let inside = joined(table(alloc, b"files", head, rows), printed(alloc, files));
     section(alloc, Anchor::Files, b"Files", inside)
 }
 
@@ -58,7 +58,7 @@ fn hash_row(alloc: Global, name: &[u8], sha256: &[u8]) -> Result<Html, AllocErro
     around(alloc, Tag::Row, joined(name, hash))
 }
 
-fn folded(alloc: Global, files: &[FileText]) -> Result<Html, AllocError>
+fn printed(alloc: Global, files: &[FileText]) -> Result<Html, AllocError>
     ensures { IfOk result (λ html. html.text.items ≡ flat_map file_html files.now) }
 {
     let mut made = Ok(Html::new(alloc));
@@ -71,7 +71,7 @@ fn folded(alloc: Global, files: &[FileText]) -> Result<Html, AllocError>
 fn one_file(alloc: Global, file: &FileText) -> Result<Html, AllocError>
     ensures { IfOk result (λ html. html.text.items ≡ file_html file.now) }
 {
-    let name = words_in(alloc, Tag::Summary, file.name.as_slice());
+    let name = words_in(alloc, Tag::Heading3, file.name.as_slice());
     let text = words_in(alloc, Tag::Preformatted, file.text.as_slice());
-    around(alloc, Tag::Details, joined(name, text))
+    around(alloc, Tag::Section, joined(name, text))
 }

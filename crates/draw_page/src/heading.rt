@@ -167,7 +167,10 @@ fn some_least(alloc: Global, tick_us: u32, least: &LeastMargin) -> Result<Html, 
     ensures { IfOk result (λ html. html.text.items ≡ least_html tick_us (Some least.now)) }
 {
     let number = text_of(alloc, time_words(alloc, tick_us, least.ticks));
-    let words = words_of(alloc, &[b"least margin by rule: ", least.at.as_slice()]);
+    let words = words_of(
+        alloc,
+        &[b"least dependability margin by rule: ", least.at.as_slice()],
+    );
     tile_of(alloc, b"tile", number, text_of(alloc, words))
 }
 
@@ -214,9 +217,10 @@ fn answer_links(alloc: Global) -> Result<Html, AllocError>
     ensures { IfOk result (λ html. html.text.items ≡ answer_links_html) }
 {
     let verdicts = link_item(alloc, Anchor::Verdicts, b"Verdicts");
+    let signed = joined(verdicts, link_item(alloc, Anchor::Signature, b"Signature"));
     let failing = link_item(alloc, Anchor::Failing, b"Failing choices");
     let open = link_item(alloc, Anchor::Open, b"Open");
-    joined(joined(verdicts, failing), open)
+    joined(joined(signed, failing), open)
 }
 
 fn other_links(alloc: Global) -> Result<Html, AllocError>
@@ -224,8 +228,7 @@ fn other_links(alloc: Global) -> Result<Html, AllocError>
 {
     let times = link_item(alloc, Anchor::Times, b"Times");
     let faults = joined(times, link_item(alloc, Anchor::Faults, b"Faults"));
-    let files = joined(faults, link_item(alloc, Anchor::Files, b"Files"));
-    joined(files, link_item(alloc, Anchor::Signature, b"Signature"))
+    joined(faults, link_item(alloc, Anchor::Files, b"Files"))
 }
 
 fn link_item(alloc: Global, anchor: Anchor, words: &[u8]) -> Result<Html, AllocError>

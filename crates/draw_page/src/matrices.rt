@@ -4,12 +4,12 @@ ghost use Rattle.std.specs.Prelude.{◌≡◌, IfOk};
 ghost use Rattle.std.specs.List.{flat_map};
 ghost use Rattle.draw_page.specs.Elements.{numbered};
 ghost use Rattle.draw_page.specs.Matrices.{corner_html, fault_row_html, matrix_head_html};
-ghost use Rattle.draw_page.specs.Matrices.{matrix_html, over_html, terminal_heads_html};
+ghost use Rattle.draw_page.specs.Matrices.{matrix_html, matrix_meaning, over_html, terminal_heads_html};
 ghost use Rattle.draw_page.specs.Matrices.{three_heads_html, verdict_cells_html};
 
 use crate::anchor::Anchor;
 use crate::badges::badge;
-use crate::elements::{cell, column, link, number_in, row_head, section, table};
+use crate::elements::{cell, column, link, number_in, row_head, said_in, section, table};
 use crate::page::{Fault, Page, Verdict};
 use crate::parts::{around, element, joined};
 use crate::words::{margin_words, trip_words};
@@ -17,14 +17,32 @@ use base_markup::html::{Attribute, Html, Key, Tag};
 use model_line::kind_word;
 use std::alloc::{AllocError, Global};
 
-/// The section with the matrix: a row for each fault, three cells for each terminal.
+/// The section with the matrix, behind what its numbers mean: a row for each fault, three cells for each terminal.
 pub fn matrix(alloc: Global, page: &Page) -> Result<Html, AllocError>
     ensures { IfOk result (λ html. html.text.items ≡ matrix_html page.now) }
 {
     let head = matrix_head(alloc, page.terminals.as_slice());
     let rows = fault_rows(alloc, page.tick_us, page.faults.as_slice());
     let table = table(alloc, b"matrix", head, rows);
-    section(alloc, Anchor::Verdicts, b"Verdicts", table)
+    section(
+        alloc,
+        Anchor::Verdicts,
+        b"Verdicts",
+        joined(meaning(alloc), table),
+    )
+}
+
+// What the numbers mean, and from when they count.
+#[tactic(auto, unfolding(crate::specs::Matrices::matrix_meaning))]
+fn meaning(alloc: Global) -> Result<Html, AllocError>
+    ensures { IfOk result (λ html. html.text.items ≡ matrix_meaning) }
+{
+    said_in(
+        alloc,
+        Tag::Paragraph,
+        b"small",
+        b"First trip: no choice of times trips before the first number, and every choice has tripped by the second, in milliseconds after the inception of the fault; of a swept fault that is so of the script that does worst there. Margin: from the second to the deadline. Drawings and reasons count from the beginning of the play; a drawing marks the inception.",
+    )
 }
 
 // Two rows: the terminals, and below each its three columns.

@@ -96,8 +96,8 @@ pub struct Case {
 }
 
 /// How a fault's scripts stand at a terminal, which is named, one for each; and of the one that does worst there: by
-/// what it was settled, its deadline, the first tick at which a choice may trip, and the first at
-/// which every choice has.
+/// what it was settled, and counted from the inception of its fault its deadline, the first tick at
+/// which a choice may trip, and the first at which every choice has.
 #[derive(Drop)]
 pub struct Verdict {
     pub terminal: Vec<u8>,
@@ -108,7 +108,8 @@ pub struct Verdict {
     pub must: Option<u32>,
 }
 
-/// A choice of delays that fails an obligation, whether every choice does, the times that matter, the
+/// A choice of delays that fails an obligation, whether every choice does, why it fails in lines of
+/// text (its times count from the play's tick 0), the times that matter, the
 /// times that stand at their declared least (all others stand in the middle of their intervals), where a
 /// delay moves, and the play.
 #[derive(Drop)]
@@ -119,6 +120,7 @@ pub struct FailingChoice {
     pub script: Vec<u8>,
     pub terminal: Vec<u8>,
     pub every: bool,
+    pub why: Vec<u8>,
     pub told: Vec<ToldTime>,
     pub least: Vec<Vec<u8>>,
     pub steps: Vec<ToldStep>,

@@ -52,7 +52,8 @@ code { overflow-wrap: anywhere }
 nav ul { display: flex; flex-wrap: wrap; gap: 4px 18px; list-style: none; margin: 16px 0 0;
   padding: 0 }
 summary { cursor: pointer; color: var(--link); padding: 4px 0 }
-pre { background: var(--pale); padding: 12px; overflow-x: auto; margin: 4px 0 12px }
+pre { background: var(--pale); padding: 12px; overflow: auto; max-height: 60vh; margin: 4px 0 12px }
+pre.why { white-space: pre-wrap; max-height: none; border-left: 3px solid var(--no) }
 ";
 
 /// Tables.
@@ -149,14 +150,17 @@ pub const NARROW: &[u8] = b"
 
 /// On paper.
 pub const PRINT: &[u8] = b"
-@page { size: A4; margin: 16mm 14mm }
+@page { size: A4; margin: 16mm 14mm;
+  @bottom-right { content: 'sheet ' counter(page) ' of ' counter(pages); font: 8pt sans-serif } }
 @media print {
   body { font-size: 9.5pt }
   main { max-width: none; padding: 0 }
   nav { display: none }
   a { color: inherit; text-decoration: none }
   h2, h3, .small { break-after: avoid }
-  tr, .small, .tiles, .strip, .lines, .drawing { break-inside: avoid }
+  tr, .small, .tiles, .strip, .lines, .drawing, .why, #signature { break-inside: avoid }
+  pre { max-height: none; overflow: visible; white-space: pre-wrap; overflow-wrap: anywhere }
+  details::details-content { content-visibility: visible; display: block; height: auto }
   #failing section, #faults section { break-inside: avoid }
   .wide, .drawing { overflow: visible }
   .drawing { border: 0; padding: 0 }

@@ -53,7 +53,7 @@ fn meaning(alloc: Global) -> Result<Html, AllocError>
         alloc,
         Tag::Paragraph,
         b"small",
-        b"To spare: how far one end alone can move outward, all else as declared, with each obligation that the interval rules hold still held, and what is lost first beyond. One that is held by parts, cases or a corner alone is left out. A full bar is the declared interval, a thin one how far its ends can go.",
+        b"To spare: how far one end alone can move outward, all else as declared, with each obligation that the interval rules hold still held, and what is lost first beyond. One that is held by parts, cases or a corner alone is left out. Not tested: none is lost, however far the end moves, so the study asks nothing of it; that is a gap of coverage and no room. A full bar is the declared interval, a thin one how far its ends can go.",
     )
 }
 
@@ -147,7 +147,7 @@ fn slack(alloc: Global, tick_us: u32, slack: &Slack) -> Result<Html, AllocError>
 {
     match &slack.lost {
         Some(lost) => bounded(alloc, tick_us, slack.ticks, lost.as_slice()),
-        None => Html::words(alloc, b"any"),
+        None => Html::words(alloc, b"not tested"),
     }
 }
 

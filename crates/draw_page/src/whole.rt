@@ -84,12 +84,13 @@ fn sections(alloc: Global, page: &Page) -> Result<Html, AllocError>
     joined(answers(alloc, page), grounds(alloc, page))
 }
 
-// What was asked, and what was found.
+// What was asked and what was found, with lines to sign beside the verdicts.
 fn answers(alloc: Global, page: &Page) -> Result<Html, AllocError>
     ensures { IfOk result (λ html. html.text.items ≡ answers_html page.now) }
 {
     let verdicts = joined(header(alloc, page), matrix(alloc, page));
-    let failing = joined(verdicts, failing(alloc, page));
+    let signed = joined(verdicts, signing(alloc, page));
+    let failing = joined(signed, failing(alloc, page));
     joined(failing, undecided(alloc, page))
 }
 
@@ -98,6 +99,5 @@ fn grounds(alloc: Global, page: &Page) -> Result<Html, AllocError>
     ensures { IfOk result (λ html. html.text.items ≡ grounds_html page.now) }
 {
     let faults = joined(times(alloc, page), faults(alloc, page));
-    let files = joined(faults, files(alloc, page));
-    joined(files, signing(alloc, page))
+    joined(faults, files(alloc, page))
 }

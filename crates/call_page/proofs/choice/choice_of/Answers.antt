@@ -1,4 +1,5 @@
-use Rattle.std.proofs.Common.{◌≡◌, ◌∙◌, ℕ, List, sym, subst}
+use Rattle.std.proofs.Common.{◌≡◌, ◌∙◌, ℕ, Bool, List, sym, subst}
+use Rattle.call_why.specs.Reasons.{IsToldWhy}
 use Rattle.model_line.specs.{declared.line.Line.Line, declared.script.Script.Script}
 use Rattle.model_timing.specs.declared.step.Step.{Step}
 use Rattle.draw_page.specs.declared.page.FailingChoice.{FailingChoice}
@@ -9,7 +10,7 @@ use Rattle.call_facts.specs.SideLaws.{one_at}
 use Rattle.call_page.proofs.choice.choice_of.Goals as goal
 
 pub returns : goal.returns
-returns c = λ whole is_cut scripts at.
+returns c = λ whole is_cut why scripts at.
     let line : Line = c.args.compiled.now.line.now in
     let row = c.args.row.now in
     let script : Script = c.args.of.now in
@@ -19,6 +20,7 @@ returns c = λ whole is_cut scripts at.
       script = c.in_ok-script.script;
       terminal = c.in_ok-terminal.terminal;
       every = c.fails_for_every-every.result;
+      why = c.args.why;
       told = c.in_ok-told.told;
       least = c.in_ok-least.least;
       steps = c.in_ok-steps.steps;
@@ -28,6 +30,8 @@ returns c = λ whole is_cut scripts at.
       whole = whole;
       cut = cut;
       is_cut = is_cut;
+      why = subst (λ (every : Bool). IsToldWhy line script row.terminal whole every c.args.why.items)
+          (sym c.fails_for_every-every.ensures) why;
       told = c.in_ok-told.ensures;
       least = c.in_ok-least.ensures;
       steps = subst (λ (l : List (Step ℕ)). EachOf (IsToldStep line) l c.in_ok-steps.steps.items)

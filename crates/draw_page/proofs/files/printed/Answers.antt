@@ -1,7 +1,7 @@
 use Rattle.std.proofs.Common.{◌≡◌, ℕ, List, IfOk, subst}
 use Rattle.draw_page.proofs.Rows.{row_more}
 use Rattle.draw_page.specs.Filed.{file_html}
-use Rattle.draw_page.proofs.files.folded.Goals as goal
+use Rattle.draw_page.proofs.files.printed.Goals as goal
 
 pub loop-file-preserved : goal.loop-file-preserved
 loop-file-preserved c =
