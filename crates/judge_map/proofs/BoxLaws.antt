@@ -13,25 +13,8 @@ use Rattle.judge_margins.specs.{declared.map.axis.Axis.Axis, declared.map.axis.A
 use Rattle.judge_margins.specs.map.Axes.{CanMove, CanMoveBoth, CanMoveSecond, cell_box, cell_ends, column_count}
 use Rattle.judge_margins.specs.map.Axes.{count_along, ends_along, ends_up, least_at, moved, moves, row_count}
 use Rattle.judge_margins.specs.map.Axes.{rows_of}
+use Rattle.judge_margins.specs.map.PlaceLaws.{can_place}
 use Rattle.judge_map.specs.Laws.{Laws}
-
--- a number that is one of the list has a place in it
-place_in : (xs : List ℕ) (x : ℕ) → list_any (λ p. p == x) xs ≡ true
-    → (i : ℕ) × (slice_get xs i ≡ Some x)
-place_in [] x is = absurd (cc)
-place_in (y ∷ xs) x is = elim (cases_eq y x) [
-  | inl same ↦ (zero, ap Some same)
-  | inr apart ↦
-      let later = place_in xs x
-      (subst (λ (b : Bool). (b || list_any (λ p. p == x) xs) ≡ true) (ne_eqb y x apart) is) in
-      (suc later.0, later.1)
-]
-
--- what moves along an axis can be placed at each number of it
-placeable : (line : Line) (axis : Axis) (n param : ℕ) → CanMove line axis
-    → n < count_along axis → moves axis param ≡ true → CanPlace line (least_at axis n) param
-placeable line axis n param can inside is =
-    let (i, at) = place_in axis.params.items param is in (can n inside).each i param at
 
 module _ (P : Ends → Type 0) (line : Line) (param : ℕ) where
   -- what is so of an interval where it is moved, and of it as it was, is so along an axis
@@ -51,7 +34,7 @@ module _ (P : Ends → Type 0) (line : Line) (param : ℕ) where
   so_up None row ends can inside here there = there
   so_up (Some axis) row ends can inside here there =
       so_along axis row ends (moves axis param) refl
-      (λ is. here (least_at axis row) (placeable line axis row param can inside is)) there
+      (λ is. here (least_at axis row) (can_place line axis row param can inside is)) there
 
   -- and so of the interval of a cell
   so_in_cell : (axes : Axes) (column row : ℕ) → CanMoveBoth line axes → column < column_count axes
@@ -61,7 +44,7 @@ module _ (P : Ends → Type 0) (line : Line) (param : ℕ) where
   so_in_cell axes column row can in_column in_row here there =
       so_up axes.y row (ends_along line axes.x column (declared_ends line)) can.y in_row here
       (so_along axes.x column (declared_ends line) (moves axes.x param) refl
-      (λ is. here (least_at axes.x column) (placeable line axes.x column param can.x in_column is))
+      (λ is. here (least_at axes.x column) (can_place line axes.x column param can.x in_column is))
       there)
 
 module _ (laws : Laws) (line : Line) (axes : Axes) (column row : ℕ) (can : CanMoveBoth line axes)

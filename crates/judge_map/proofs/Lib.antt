@@ -1,4 +1,3 @@
-pub mod PlaceLaws
 pub mod BoxLaws
 pub mod RuleLaws
 pub mod AnswerLaws

@@ -7,7 +7,7 @@ use Rattle.model_logic.specs.Choice.{Box, Choice, DelaysFromOne, IsWithin, Least
 use Rattle.model_logic.specs.Histories.{PairHistory}
 use Rattle.model_logic.specs.Tree.{Tree, Const, Seen, Loss, Raw, Not, And, Or, Timer, Seal}
 use Rattle.model_settle.specs.Sides.{IsReadOn, Rail, Sides, turned}
-use Rattle.model_settle.specs.Known.{IsReadOver}
+use Rattle.model_settle.specs.KnownLaws.{read_stays}
 use Rattle.model_settle.specs.Schemes.{IsOneRailedBy, all_terminals, scheme_sides}
 use Rattle.model_settle.specs.Worst.{IsOrdered, deciding, worst_choice}
 use Rattle.judge_verdict.specs.declared.verdict.rule.Rule.{Rule}
@@ -15,41 +15,14 @@ use Rattle.judge_verdict.specs.declared.verdict.rule.Rule.TheVariants as rule
 use Rattle.judge_margins.specs.map.Cells.{IsRuleOver}
 use Rattle.judge_map.specs.{Known.IsKnown, Known.SomeChoiceFails, Laws.Laws, Ruled.known_by}
 
--- what is read whatever is known is read
-read_stays : (known : Tree → Type 0) (from : ℕ → ℕ) (cone : ℕ → Bool) (sides : Sides)
-    (rail : Rail) (x : Tree) → IsReadOn from cone sides rail x
-    → IsReadOver known from cone sides rail x
-unfolding IsReadOn IsReadOver
-read_stays known from cone sides rail (Const b) read = tt
-read_stays known from cone sides rail (Seen p) read = tt
-read_stays known from cone sides rail (Loss c) read = tt
-read_stays known from cone sides rail (Raw c) read = inr read
-read_stays known from cone sides rail (Not x) read =
-    read_stays known from cone sides (turned rail) x read
-read_stays known from cone sides rail (And x y) read = inr (
-  read_stays known from cone sides rail x read.0,
-  read_stays known from cone sides rail y read.1,
-)
-read_stays known from cone sides rail (Or x y) read = inr (
-  read_stays known from cone sides rail x read.0,
-  read_stays known from cone sides rail y read.1,
-)
-read_stays known from cone sides rail (Timer x p d) read =
-    inr (read_stays known from cone sides rail x read.0, read.1)
-read_stays known from cone sides rail (Seal x y) read = inr (
-  read_stays known from cone sides rail x read.0,
-  read_stays known from cone sides rail y read.1,
-)
-
-from_one_within : (line : Line) (choice : Choice) (box : Box) → LeastFromOne line box
-    → IsWithin line choice box → DelaysFromOne line choice
-from_one_within line choice box low within c t lc lt =
-    let least = (within.delays c t lc lt).least in
-    let one = low c t lc lt in omega (arith, least, one)
-
 module _ (laws : Laws) (line : Line) (script : Script) (k : ℕ) (box : Box)
     (early : script.deadline < line.horizon) (low : LeastFromOne line box)
     (ordered : IsOrdered line box) (kn : k < terminal_count line) where
+  from_one : (choice : Choice) → IsWithin line choice box → DelaysFromOne line choice
+  from_one choice within c t lc lt =
+      let least = (within.delays c t lc lt).least in
+      let one = low c t lc lt in omega (arith, least, one)
+
   -- where each trip is one-railed the worst choice fails what is not held
   worst_fails : IsOneRailedBy line.scheme line → IsRuleOver line script k box rule.Unknown
       → SomeChoiceFails line script k box
@@ -59,7 +32,7 @@ module _ (laws : Laws) (line : Line) (script : Script) (k : ℕ) (box : Box)
       let choice : Choice = worst_choice line sides box w.key in
       let own : IsWithin line choice box = laws.worst.within line box sides w ordered in
       let (h, is_h) = laws.lines.histories.exists line script choice
-      (from_one_within line choice box low own) in
+      (from_one choice own) in
       record {
         choice = choice;
         within = own;

@@ -6,3 +6,4 @@ pub mod Cells
 pub mod MapText
 pub mod MapLaws
 pub mod Faults
+pub mod PlaceLaws

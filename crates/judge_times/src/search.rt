@@ -36,7 +36,15 @@ pub fn answers(alloc: Global, of: &Uncertain<'_>, part: &[Within]) -> Result<Ans
     let mut parts = Vec::new(alloc);
     let mut runs = 0;
     let none = no_rules(alloc, &of.fault, part)?;
-    answer_into(alloc, of, part, none.as_slice(), DEPTH, &mut parts, &mut runs)?;
+    answer_into(
+        alloc,
+        of,
+        part,
+        none.as_slice(),
+        DEPTH,
+        &mut parts,
+        &mut runs,
+    )?;
     Ok(Answered { parts, runs })
 }
 

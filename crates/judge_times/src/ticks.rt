@@ -44,7 +44,16 @@ pub(crate) fn tell_ticks(
         let after = fails_at(alloc, of, two.upper.as_slice(), runs)?;
         let both = both_fail(alloc, before.as_slice(), after.as_slice())?;
         let strip = two.lower.as_slice();
-        tell_strip(alloc, of, strip, known, before.as_slice(), both.as_slice(), found, runs)?;
+        tell_strip(
+            alloc,
+            of,
+            strip,
+            known,
+            before.as_slice(),
+            both.as_slice(),
+            found,
+            runs,
+        )?;
         rest = two.upper;
         before = after;
     }

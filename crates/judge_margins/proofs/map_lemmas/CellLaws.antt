@@ -24,7 +24,7 @@ use Rattle.judge_margins.specs.map.Axes.{cell_box, cell_count, column_count, cou
 use Rattle.judge_margins.specs.map.Axes.{ends_along, ends_up, least_at, moved, moves, row_count}
 use Rattle.judge_margins.specs.map.Axes.{rows_of}
 use Rattle.judge_margins.specs.map.Blocks.{AreCellSpans, cell_in, lane_cell}
-use Rattle.judge_margins.proofs.map_lemmas.ListLaws.{place_of}
+use Rattle.judge_margins.specs.map.PlaceLaws.{can_place, column_within, few_cells, row_within, some_rows}
 
 -- the numbers of an axis go up to its last
 pub least_within : (axis : Axis) (n : ℕ) → axis.first ≤ axis.last → n < count_along axis
@@ -36,38 +36,6 @@ least_within axis n ordered inside =
     let all : axis.step * (far / axis.step) ≤ far = omega arith in
     let turned : n * axis.step ≡ axis.step * n = mul_comm n axis.step in
     omega (arith, ordered, up, all, turned)
-
--- what moves along an axis can be placed at each number of it
-pub can_place : (line : Line) (axis : Axis) (n param : ℕ) → CanMove line axis
-    → n < count_along axis → moves axis param ≡ true → CanPlace line (least_at axis n) param
-can_place line axis n param can inside is =
-    let (i, at) = place_of axis.params.items param is in (can n inside).each i param at
-
--- ---- places of cells
-
-few_along : {line : Line} (axis : Axis) → IsAxis line axis → count_along axis ≤ 4001
-few_along axis is =
-    let far : ℕ = axis.last - axis.first in omega (arith, div-le_self far axis.step, is.limit)
-
-few_rows : (line : Line) (y : Option Axis) → IsSecond line y → rows_of y ≤ 4001
-few_rows line None is = omega arith
-few_rows line (Some axis) is = few_along axis is
-
-pub few_cells : (line : Line) (axes : Axes) → AreAxes line axes → cell_count axes ≤ 4001 * 4001
-few_cells line axes are = mul-le-mul (few_along axes.x are.x) (few_rows line axes.y are.y)
-
-pub some_rows : (line : Line) (y : Option Axis) → 1 ≤ rows_of y
-some_rows line None = omega arith
-some_rows line (Some axis) = omega arith
-
-pub column_within : (axes : Axes) (cell rows : ℕ) → rows ≡ row_count axes → 1 ≤ rows
-    → cell < column_count axes * rows → cell / rows < column_count axes
-column_within axes cell rows is some inside =
-    let positive : zero < rows = omega (arith, some) in (div-lt_iff_lt-mul positive).1 inside
-
-pub row_within : (cell rows : ℕ) → 1 ≤ rows → cell % rows < rows
-row_within cell rows some =
-    let positive : zero < rows = omega (arith, some) in mod-lt cell positive
 
 -- ---- each delay of a cell is at least 1
 
@@ -128,7 +96,7 @@ module _ (known : Known) (line : Line) (axes : Axes) (first : ℕ) (spans : List
   cells_delayed can some lane inside c t lt early =
       let cell = cell_in axes first lane in
       let rows = row_count axes in
-      let full : 1 ≤ rows = some_rows line axes.y in
+      let full : 1 ≤ rows = some_rows axes.y in
       let last : cell ≤ cell_count axes - 1 = min-le_right (first + lane) (cell_count axes - 1) in
       let there : cell < column_count axes * rows = omega (arith, last, some) in
       subst (λ (e : Ends). 1 ≤ e.least)

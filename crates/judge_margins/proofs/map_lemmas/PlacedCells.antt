@@ -17,7 +17,8 @@ use Rattle.judge_margins.specs.{map.Known.Known, declared.map.axis.Axis.Axis, de
 use Rattle.judge_margins.specs.map.Placed.{AreOfLine, IsPlaced, width_of}
 use Rattle.judge_margins.specs.map.Axes.{IsSecond, ends_along, ends_up, least_at, moved, moves}
 use Rattle.judge_margins.specs.map.MapLaws.{ACellIsOfThePlacedLine, IsPlacedUp}
-use Rattle.judge_margins.proofs.{map_lemmas.ListLaws.place_of, map_lemmas.PlacedLaws.placed_rest}
+use Rattle.judge_margins.specs.map.PlaceLaws.{place_of}
+use Rattle.judge_margins.proofs.map_lemmas.PlacedLaws.{placed_rest}
 
 -- what is said of an interval of a line with the first n intervals placed
 record Told (line : Line) (params : List ℕ) (least n : ℕ) (other : Line) (i : ℕ) : Type 0 where

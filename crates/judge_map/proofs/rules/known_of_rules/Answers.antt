@@ -3,8 +3,8 @@ use Rattle.model_history.specs.ListLaws.{at_index}
 use Rattle.judge_map.specs.{Asked.box_of, Cells.IsKnownAt, declared.known.Known.Known}
 use Rattle.judge_margins.specs.map.Axes.{row_count}
 use Rattle.judge_map.proofs.{BoxLaws.cell_from_one, BoxLaws.cell_ordered, KnownLaws.known_by_rule}
-use Rattle.judge_map.proofs.{KnownLaws.known_more, PlaceLaws.column_within, PlaceLaws.row_within}
-use Rattle.judge_map.proofs.PlaceLaws.{some_rows}
+use Rattle.judge_margins.specs.map.PlaceLaws.{column_within, row_within, some_rows}
+use Rattle.judge_map.proofs.KnownLaws.{known_more}
 use Rattle.judge_map.proofs.rules.known_of_rules.Goals as goal
 
 pub loop-n-preserved : goal.loop-n-preserved

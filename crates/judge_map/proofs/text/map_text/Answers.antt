@@ -7,7 +7,7 @@ use Rattle.model_line.specs.{declared.line.Line.Line, declared.script.Script.Scr
 use Rattle.judge_margins.specs.declared.map.axis.Axes.{Axes}
 use Rattle.judge_map.specs.declared.cell.SettledCell.{SettledCell}
 use Rattle.judge_map.specs.MapText.{cell_record, cell_rows}
-use Rattle.judge_map.proofs.PlaceLaws.{few_cells}
+use Rattle.judge_margins.specs.map.PlaceLaws.{few_cells}
 use Rattle.judge_map.proofs.text.map_text.Goals as goal
 
 -- with the row of one cell more

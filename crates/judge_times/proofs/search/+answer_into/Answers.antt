@@ -39,7 +39,7 @@ returns t c =
     (λ u second. (
       first.0 ++ second.0,
       grown c.args.found.now.items c.answer_into.new.found.items
-      c.answer_into-in-Halves.new.found.items first.0 second.0 first.1 second.1,
+          c.answer_into-in-Halves.new.found.items first.0 second.0 first.1 second.1,
       joined of part lower upper first.0 second.0 at.2 at.0 at.1 first.2 second.2,
     ))
     c.answer_into-in-Halves.ensures

@@ -21,11 +21,14 @@ returns c =
     let ordered : IsPart c.as_slice-2.result.now =
     subst IsPart (sym same) (end_part c.args.late c.args.part.now c.requires.part) in
     IfOk-weaker c.push_failing.result _ _
-    (λ u grew. (grew.0, grew.1,
-    grew.2 c.args.of.now c.args.part.now ordered within
-    (c.what_is_known_of_a_part_is_known_within.ensures.rules c.args.of.now.fault c.args.part.now
-    c.as_slice-2.result.now c.args.rules.now within c.requires.rules)
-    (subst (AreFailing c.args.of.now c.as_slice-2.result.now) (sym c.as_slice-3.ensures.value)
-    (subst (λ (l : List Ends). AreFailing c.args.of.now l c.in_ok-fails.fails.items)
-    (c.as_slice.ensures.value ∙ sym c.as_slice-2.ensures.value) c.in_ok-fails.ensures))))
+    (λ u grew. (
+      grew.0,
+      grew.1,
+      grew.2 c.args.of.now c.args.part.now ordered within
+          (c.what_is_known_of_a_part_is_known_within.ensures.rules c.args.of.now.fault c.args.part.now
+          c.as_slice-2.result.now c.args.rules.now within c.requires.rules)
+          (subst (AreFailing c.args.of.now c.as_slice-2.result.now) (sym c.as_slice-3.ensures.value)
+          (subst (λ (l : List Ends). AreFailing c.args.of.now l c.in_ok-fails.fails.items)
+          (c.as_slice.ensures.value ∙ sym c.as_slice-2.ensures.value) c.in_ok-fails.ensures)),
+    ))
     c.push_failing.ensures

@@ -17,9 +17,9 @@ returns c =
     (λ u own. (
       first.0 ++ (second.0 ++ own.0 ∷ []),
       grown before at_first c.push_told.new.found.items first.0 (second.0 ++ own.0 ∷ []) first.1
-      (grown at_first at_second c.push_told.new.found.items second.0 (own.0 ∷ []) second.1 own.1),
+          (grown at_first at_second c.push_told.new.found.items second.0 (own.0 ∷ []) second.1 own.1),
       behind of part first.0 (second.0 ++ own.0 ∷ []) first.2
-      (behind of part second.0 (own.0 ∷ []) second.2
-      (alone of part own.0 own.2 (own.3 of part c.requires.part (within_self part) c.requires.rules (λ k at. absurd (cc))))),
+          (behind of part second.0 (own.0 ∷ []) second.2
+          (alone of part own.0 own.2 (own.3 of part c.requires.part (within_self part) c.requires.rules (λ k at. absurd (cc))))),
     ))
     c.push_told.ensures

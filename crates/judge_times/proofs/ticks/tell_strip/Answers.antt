@@ -36,6 +36,6 @@ returns c =
       first.0 ++ own.0 ∷ [],
       grown before at_least c.push_told.new.found.items first.0 (own.0 ∷ []) first.1 own.1,
       behind of strip first.0 (own.0 ∷ []) all
-      (alone of strip own.0 own.2 (own.3 of strip c.requires.part (within_self strip) rules_too c.requires.both)),
+          (alone of strip own.0 own.2 (own.3 of strip c.requires.part (within_self strip) rules_too c.requires.both)),
     ))
     c.push_told.ensures

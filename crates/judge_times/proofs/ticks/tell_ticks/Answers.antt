@@ -70,12 +70,12 @@ loop-t-preserved c =
       two.upper,
       within_within part rest upper inv.1 at.1,
       subst (λ (l : List Ends). AreFailing of l c.in_ok-after.after.items)
-      c.as_slice-in-loop-t.ensures.value c.in_ok-after.ensures,
+          c.as_slice-in-loop-t.ensures.value c.in_ok-after.ensures,
       inv.3 ++ told.0,
       grown c.args.found.now.items c.loop-t.found.items c.tell_strip.new.found.items inv.3 told.0 inv.4
-      told.1,
+          told.1,
       strip_more of part rest lower upper inv.3 told.0 at.2 (within_within part rest lower inv.1 at.0)
-      inv.5 answers,
+          inv.5 answers,
     )
 
 pub returns : goal.returns
@@ -93,10 +93,10 @@ returns c =
     (λ u own. (
       inv.3 ++ own.0 ∷ [],
       grown c.args.found.now.items c.loop-t.found.items c.push_told.new.found.items inv.3 (own.0 ∷ [])
-      inv.4 own.1,
+          inv.4 own.1,
       strips_whole of part c.as_slice-2.result.now inv.3 own.0 at.2 own.2
-      (own.3 of part at.3 at.0
-      (c.what_is_known_of_a_part_is_known_within.ensures.rules of.fault part c.as_slice-2.result.now
-      c.args.known.now at.0 c.requires.known) at.1),
+          (own.3 of part at.3 at.0
+          (c.what_is_known_of_a_part_is_known_within.ensures.rules of.fault part c.as_slice-2.result.now
+          c.args.known.now at.0 c.requires.known) at.1),
     ))
     c.push_told.ensures

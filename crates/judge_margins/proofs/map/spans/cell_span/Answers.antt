@@ -2,7 +2,7 @@ use Rattle.std.proofs.Common.{◌≡◌, ◌≢◌, ◌<◌, ◌≤◌, ◌+◌,
 use Rattle.std.proofs.Common.{get_or-set_other, get_or-set_same, below_more}
 use Rattle.std.specs.Prelude.{slice_index, slice_set}
 use Rattle.judge_margins.specs.map.Blocks.{lane_cell}
-use Rattle.judge_margins.proofs.map_lemmas.CellLaws.{few_cells}
+use Rattle.judge_margins.specs.map.PlaceLaws.{few_cells}
 use Rattle.judge_margins.proofs.map.spans.cell_span.Goals as goal
 
 -- what is said of the lanes so far, with the next one written

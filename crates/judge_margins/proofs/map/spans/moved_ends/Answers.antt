@@ -1,5 +1,5 @@
 use Rattle.std.proofs.Common.{arith}
-use Rattle.judge_margins.proofs.map_lemmas.CellLaws.{can_place}
+use Rattle.judge_margins.specs.map.PlaceLaws.{can_place}
 use Rattle.judge_margins.proofs.map.spans.moved_ends.Goals as goal
 
 pub returns-clause-limit : goal.returns-clause-limit

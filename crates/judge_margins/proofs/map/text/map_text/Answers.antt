@@ -6,7 +6,7 @@ use Rattle.csv.specs.Writing.{row_text, default_writer}
 use Rattle.model_line.specs.{declared.line.Line.Line, declared.script.Script.Script}
 use Rattle.judge_margins.specs.{declared.map.axis.Axes.Axes, declared.map.cell.Cell.Cell}
 use Rattle.judge_margins.specs.map.MapText.{cell_record, cell_rows}
-use Rattle.judge_margins.proofs.map_lemmas.CellLaws.{few_cells}
+use Rattle.judge_margins.specs.map.PlaceLaws.{few_cells}
 use Rattle.judge_margins.proofs.map.text.map_text.Goals as goal
 
 -- with the row of one cell more

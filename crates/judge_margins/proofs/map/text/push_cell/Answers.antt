@@ -7,7 +7,7 @@ use Rattle.judge_margins.specs.declared.map.cell.Cell.{Cell}
 use Rattle.judge_margins.specs.map.Cells.{lost_of, word_of}
 use Rattle.judge_margins.specs.map.Axes.{IsAxis, IsSecond, column_count, least_at, rows_of}
 use Rattle.judge_margins.specs.map.MapText.{cell_record, obligations_said, record_by, word_said}
-use Rattle.judge_margins.proofs.map_lemmas.CellLaws.{column_within, row_within}
+use Rattle.judge_margins.specs.map.PlaceLaws.{column_within, row_within}
 use Rattle.judge_margins.proofs.map.text.push_cell.Goals as goal
 
 -- a record by its row, its word and what is lost
