@@ -1,5 +1,5 @@
 -- Places of cells, and of obligations.
-use Rattle.std.proofs.Common.{◌≡◌, ◌≤◌, ◌<◌, ◌+◌, ◌*◌, ◌/◌, ◌%◌, ◌-◌, ℕ, zero, Option, None, Some, arith}
+use Rattle.std.proofs.Common.{◌≡◌, ◌≤◌, ◌<◌, ◌*◌, ◌/◌, ◌%◌, ◌-◌, ℕ, zero, Option, None, Some, arith}
 use Rattle.std.proofs.Math.Nat.{div-le_self, mul-le-mul, div-lt_iff_lt-mul, mod-lt}
 use Rattle.model_line.specs.declared.line.Line.{Line}
 use Rattle.judge_margins.specs.{declared.map.axis.Axis.Axis, declared.map.axis.Axes.Axes}
