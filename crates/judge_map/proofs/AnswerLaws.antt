@@ -1,10 +1,9 @@
 -- What an answer over the line with the intervals of a cell says of the cell.
-use Rattle.std.proofs.Common.{◌≡◌, ◌<◌, ℕ, true, false, refl, sym, subst, arith}
+use Rattle.std.proofs.Common.{◌<◌, ℕ, true, false, sym, subst, arith}
 use Rattle.model_line.specs.{declared.line.Line.Line, declared.script.Script.Script}
 use Rattle.model_line.specs.SetBounds.{SameButParams}
-use Rattle.model_line.specs.Parameters.{channel_count, param_count}
 use Rattle.model_logic.specs.{Boxes.IsSameBox, BoxLaws.turned}
-use Rattle.model_logic.specs.Choice.{Box, Choice, IsIn, IsInside, IsWithin, declared_box}
+use Rattle.model_logic.specs.Choice.{Box, Choice, IsInside, IsWithin, declared_box}
 use Rattle.model_logic.specs.Histories.{History, Meets, MeetsBy}
 use Rattle.model_timing.specs.Choice.{timing_choice}
 use Rattle.model_settle.specs.Schemes.{IsOneRailedBy}

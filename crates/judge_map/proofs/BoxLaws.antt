@@ -1,12 +1,12 @@
 -- The box of a cell: its intervals are in order, and each delay is at least 1.
-use Rattle.std.proofs.Common.{◌≡◌, ◌≤◌, ◌<◌, ◌+◌, ◌*◌, ◌/◌, ◌%◌, ◌||◌, ℕ, zero, suc, Bool, true, false, cond, List, []}
+use Rattle.std.proofs.Common.{◌≡◌, ◌≤◌, ◌<◌, ◌||◌, ℕ, zero, suc, Bool, true, false, cond, List, []}
 use Rattle.std.proofs.Common.{◌∷◌, Option, None, Some, subst, sym, ap, refl, arith, inl, inr}
 use Rattle.std.proofs.lemmas.Bool.{cases_eq, ne_eqb}
 use Rattle.std.specs.Prelude.{slice_get, ◌==◌}
 use Rattle.std.specs.List.{list_any}
 use Rattle.model_history.specs.Rails.{Ends}
 use Rattle.model_line.specs.{declared.line.Line.Line}
-use Rattle.model_line.specs.Parameters.{declared_ends, delay_param, is_delay, param_count}
+use Rattle.model_line.specs.Parameters.{declared_ends, delay_param, param_count}
 use Rattle.model_logic.specs.Choice.{LeastFromOne}
 use Rattle.model_settle.specs.Worst.{IsOrdered}
 use Rattle.judge_margins.specs.{declared.map.axis.Axis.Axis, declared.map.axis.Axes.Axes, map.Placed.CanPlace}

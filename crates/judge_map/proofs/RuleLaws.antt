@@ -1,5 +1,5 @@
 -- What the rules say over a box, and with them the worst choice.
-use Rattle.std.proofs.Common.{◌≡◌, ◌≤◌, ◌<◌, ◌↔◌, ◌∙◌, ℕ, Bool, true, false, refl, sym, arith, inr}
+use Rattle.std.proofs.Common.{◌≡◌, ◌<◌, ◌↔◌, ℕ, Bool, true, false, refl, sym, arith, inr}
 use Rattle.std.specs.Prelude.{IsTrue}
 use Rattle.model_line.specs.{declared.line.Line.Line, declared.script.Script.Script}
 use Rattle.model_line.specs.Parameters.{terminal_count}

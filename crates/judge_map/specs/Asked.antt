@@ -1,5 +1,5 @@
 -- The cell that is asked about.
-use Rattle.std.specs.Prelude.{◌≡◌, ◌<◌, ◌*◌, ℕ, List, length}
+use Rattle.std.specs.Prelude.{◌<◌, ◌*◌, ℕ, List, length}
 use Rattle.std.specs.List.{All}
 use Rattle.model_line.specs.{declared.line.Line.Line, Fits.Fits, Parameters.terminal_count}
 use Rattle.model_line.specs.SetBounds.{SameButParams}

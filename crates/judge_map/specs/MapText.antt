@@ -1,5 +1,5 @@
 -- The settled cells of a map as CSV records.
-use Rattle.std.specs.Prelude.{◌/◌, ◌%◌, ◌+◌, ◌++◌, ℕ, Bool, List, [], ◌∷◌, Option, None, Some}
+use Rattle.std.specs.Prelude.{◌/◌, ◌%◌, ◌+◌, ◌++◌, ℕ, List, [], ◌∷◌, Option, None, Some}
 use Rattle.std.specs.Prelude.{codes, decimal, get_or}
 use Rattle.csv.specs.Writing.{row_text, default_writer}
 use Rattle.model_line.specs.{declared.line.Line.Line, declared.script.Script.Script}

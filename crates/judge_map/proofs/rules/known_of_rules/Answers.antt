@@ -1,4 +1,4 @@
-use Rattle.std.proofs.Common.{◌≡◌, ◌<◌, ◌+◌, ◌/◌, ◌%◌, ℕ, length, refl, subst, sym, arith}
+use Rattle.std.proofs.Common.{◌<◌, ◌+◌, ◌/◌, ◌%◌, ℕ, length, refl, subst, sym, arith}
 use Rattle.model_history.specs.ListLaws.{at_index}
 use Rattle.judge_map.specs.{Asked.box_of, Cells.IsKnownAt, declared.known.Known.Known}
 use Rattle.judge_margins.specs.map.Axes.{row_count}

@@ -1,4 +1,3 @@
-use Rattle.std.proofs.Common.{ℕ}
 use Rattle.judge_map.specs.Asked.{AreKnownOf}
 use Rattle.judge_map.proofs.rules.known_of_rules.Given as goal
 

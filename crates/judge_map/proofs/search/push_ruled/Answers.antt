@@ -1,5 +1,4 @@
-use Rattle.std.proofs.Common.{◌≡◌, ◌<◌, ◌≤◌, ◌+◌, ◌*◌, ℕ, zero, suc, length, subst, sym, ap, arith}
-use Rattle.std.proofs.Math.Nat.{mul-le-mul_right}
+use Rattle.std.proofs.Common.{◌≡◌, ◌+◌, ◌*◌, ℕ, subst, arith}
 use Rattle.model_line.specs.Parameters.{terminal_count}
 use Rattle.judge_map.specs.{Asked.box_of, Cells.IsKnownAt}
 use Rattle.judge_map.proofs.KnownLaws.{known_more}

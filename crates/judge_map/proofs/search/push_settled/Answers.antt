@@ -5,7 +5,7 @@ use Rattle.model_history.specs.ListLaws.{exists_at}
 use Rattle.model_line.specs.Parameters.{terminal_count}
 use Rattle.judge_settle.specs.declared.settle.answer.Settled.{Settled}
 use Rattle.judge_map.specs.Answered.{known_in}
-use Rattle.judge_map.specs.{Asked.box_of, Cells.IsKnownAt, Known.IsKnown, declared.known.Known.Known}
+use Rattle.judge_map.specs.{Asked.box_of, Known.IsKnown, declared.known.Known.Known}
 use Rattle.judge_map.proofs.{AnswerLaws.known_of_the_answer, KnownLaws.known_at, KnownLaws.known_more}
 use Rattle.judge_map.proofs.search.push_settled.Goals as goal
 

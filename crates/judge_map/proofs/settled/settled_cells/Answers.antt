@@ -1,4 +1,4 @@
-use Rattle.std.proofs.Common.{◌≡◌, ◌+◌, ℕ, [], ◌∷◌, length, length-append, sym, ◌∙◌, ap}
+use Rattle.std.proofs.Common.{◌+◌, ℕ, [], ◌∷◌, length, length-append, sym, ◌∙◌, ap}
 use Rattle.model_history.specs.ListLaws.{each_more}
 use Rattle.judge_margins.specs.map.Axes.{place_box}
 use Rattle.judge_map.specs.Cells.{IsSettledCell}
