@@ -55,8 +55,8 @@ pub fn choice(
     let cut = cut(alloc, &of, timing)?;
     let name = name_of(&study.line, row.terminal);
     let named = NamedTiming { name, timing: cut };
-    let every = fails_for_every(row);
-    let why = told_why(alloc, &compiled, of_script, row.terminal, timing, every)?;
+    let each = fails_for_every(row);
+    let why = told_why(alloc, &compiled, of_script, row.terminal, timing, each)?;
     choice_of(alloc, &compiled, parts, row, of_script, &named, why)
 }
 

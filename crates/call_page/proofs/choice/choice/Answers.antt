@@ -36,6 +36,6 @@ pub returns : goal.returns
 returns c =
     let why = subst (λ (every : Bool). IsToldWhy c.args.study.now.line
     c.script_at-of_script.result.now c.args.row.now.terminal c.args.timing.now every
-    c.in_ok-why.why.items) c.fails_for_every-every.ensures c.in_ok-why.ensures in
+    c.in_ok-why.why.items) c.fails_for_every-each.ensures c.in_ok-why.ensures in
     c.choice_of.ensures c.args.timing.now c.in_ok-cut.ensures why c.args.study.now.scripts.items
     c.script_at-of_script.ensures
