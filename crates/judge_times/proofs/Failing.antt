@@ -1,5 +1,5 @@
 -- Answers that fail are told of, each by its timing.
-use Rattle.std.proofs.Common.{◌≡◌, ℕ, Bool, true, List, Some, map, subst, sym, ◌∙◌}
+use Rattle.std.proofs.Common.{◌≡◌, ℕ, Bool, true, List, Some, map, subst}
 use Rattle.std.specs.Prelude.{slice_get, IsTrue}
 use Rattle.model_history.specs.Rails.{Ends}
 use Rattle.model_history.specs.ListLaws.{mapped}
@@ -10,7 +10,7 @@ use Rattle.judge_settle.specs.settle.Trees.{IsFailing}
 use Rattle.judge_settle.specs.declared.settle.answer.{Answer.Answer, Settled.Settled}
 use Rattle.judge_settle.specs.declared.settle.answer.Answer.TheVariants.{Held, Fails, Open}
 use Rattle.judge_times.specs.declared.fault.Uncertain.{Uncertain}
-use Rattle.judge_times.specs.Answers.{AreFailing, FailsAt, exact_of}
+use Rattle.judge_times.specs.Answers.{AreFailing, exact_of}
 use Rattle.judge_times.specs.Scripts.{IsScriptAt}
 
 by_timing : (line : Line) (script : Script) (k : ℕ) (answer : Answer) → IsTrue (is_failing answer)

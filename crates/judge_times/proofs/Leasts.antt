@@ -1,9 +1,9 @@
 -- What fails at the least times of a part fails at those of each part with the same.
-use Rattle.std.proofs.Common.{◌≡◌, ◌<◌, ◌≤◌, ◌+◌, ℕ, Bool, true, false, List, Some, length, refl, sym, ap, subst, arith, ◌∙◌}
+use Rattle.std.proofs.Common.{◌≡◌, ◌≤◌, ◌+◌, ℕ, Bool, true, false, List, length, refl, sym, ap, subst, arith, ◌∙◌}
 use Rattle.std.proofs.Math.Path.{fun_ext}
 use Rattle.std.proofs.Math.ListN.{get_or-map}
 use Rattle.std.proofs.lemmas.List.{length-map}
-use Rattle.std.specs.Prelude.{get_or, map, slice_get}
+use Rattle.std.specs.Prelude.{get_or}
 use Rattle.model_history.specs.Rails.{Ends, single}
 use Rattle.model_borders.specs.Borders.{ends_at, shown_at, stands}
 use Rattle.judge_borders.specs.Parts.{IsPart}

@@ -4,3 +4,7 @@ pub mod Failing
 pub mod ToldSo
 pub mod Growing
 pub mod Strips
+pub mod Joins
+pub mod Places
+pub mod Gaps
+pub mod Ticked

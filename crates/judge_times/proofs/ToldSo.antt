@@ -1,5 +1,5 @@
 -- What is told of a part is so.
-use Rattle.std.proofs.Common.{◌≡◌, ◌<◌, ℕ, Bool, true, false, List, Option, Some, None, length, refl, sym, subst, ◌∙◌}
+use Rattle.std.proofs.Common.{◌≡◌, ◌<◌, ℕ, Bool, true, false, List, Option, Some, None, refl, sym, subst, ◌∙◌}
 use Rattle.std.specs.Prelude.{slice_get}
 use Rattle.model_history.specs.Rails.{Ends}
 use Rattle.model_line.specs.Parameters.{terminal_count}
@@ -11,7 +11,6 @@ use Rattle.judge_borders.specs.declared.fault.PartRule.TheVariants as rule
 use Rattle.judge_borders.specs.{Halves.AreWithin, Parts.AreRules, Parts.IsPart, Parts.RuleSays, Parts.line_of}
 use Rattle.judge_times.specs.declared.fault.Uncertain.{Uncertain}
 use Rattle.judge_times.specs.declared.part.{Part.Part, Told.Told}
-use Rattle.judge_times.specs.declared.part.Told.TheVariants.{Held, Broken, Fails, Open}
 use Rattle.judge_times.specs.Answers.{AreFailing, FailsAt, IsAnswer, Says}
 use Rattle.judge_times.specs.Told.{IsToldOf, told_by}
 

@@ -1,10 +1,9 @@
 -- Answers of parts are answers of the whole.
-use Rattle.std.proofs.Common.{◌≡◌, ◌++◌, ◌<◌, ◌≤◌, ◌⊎◌, ℕ, List, [], ◌∷◌, length, inl, inr, sym, subst, arith}
+use Rattle.std.proofs.Common.{◌≡◌, ◌++◌, ℕ, List, [], ◌∷◌, inl, inr, sym, subst, arith}
 use Rattle.std.proofs.Common.{⊎_elim, ◌∙◌}
 use Rattle.std.proofs.lemmas.List.Elements.{All-append, All-nil, All-cons, All-weaker}
-use Rattle.std.specs.Prelude.{get_or}
 use Rattle.std.specs.List.{All}
-use Rattle.model_history.specs.Rails.{Ends, single}
+use Rattle.model_history.specs.Rails.{Ends}
 use Rattle.model_borders.specs.Borders.{AreLengthsIn}
 use Rattle.judge_borders.specs.Halves.{AreWithin, ShareAnEnd}
 use Rattle.judge_times.specs.declared.{fault.Uncertain.Uncertain, part.Part.Part}

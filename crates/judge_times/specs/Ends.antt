@@ -1,5 +1,5 @@
 -- The least and the greatest times of a part.
-use Rattle.std.specs.Prelude.{◌≡◌, ℕ, Bool, List, length, get_or, map}
+use Rattle.std.specs.Prelude.{Bool, List, map}
 use Rattle.model_history.specs.Rails.{Ends, single}
 use Rattle.model_borders.specs.Borders.{ends_at}
 

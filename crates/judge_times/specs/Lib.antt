@@ -4,3 +4,5 @@ pub mod Ends
 pub mod Told
 pub mod Nexts
 pub mod Stripped
+pub mod Along
+pub mod Stretches

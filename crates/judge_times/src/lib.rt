@@ -3,16 +3,21 @@
 //! is halved, and where its times fail, whole tick by whole tick, they are settled one by one.
 #![tactic(auto)]
 
+mod along;
 mod ends;
 mod exact;
 mod fault;
+mod follow;
 mod part;
 mod script;
 mod search;
+mod stretch;
 mod ticks;
 
 pub use exact::fails_at;
 pub use fault::Uncertain;
+pub use follow::stretches;
 pub use part::{Part, Told};
 pub use script::script_at;
 pub use search::{Answered, answers};
+pub use stretch::{Along, Stretch};

@@ -1,4 +1,3 @@
-use Rattle.std.proofs.Common.{subst, sym}
 use Rattle.judge_times.specs.declared.part.Part.{Part}
 use Rattle.judge_times.proofs.ToldSo.{is_answer}
 use Rattle.judge_times.proofs.part.push_told.Goals as goal

@@ -1,9 +1,7 @@
-use Rattle.std.proofs.Common.{◌≡◌, ◌++◌, ◌∷◌, ◌∙◌, [], List, sym, subst}
+use Rattle.std.proofs.Common.{◌++◌, ◌∷◌, [], List, sym, subst}
 use Rattle.std.proofs.lemmas.Result.{IfOk-weaker}
 use Rattle.model_history.specs.Rails.{Ends}
-use Rattle.judge_borders.specs.declared.fault.PartRule.{PartRule}
 use Rattle.judge_borders.specs.{Halves.AreWithin, Halves.ShareAnEnd, Parts.AreRules}
-use Rattle.judge_times.specs.Answers.{AreAnswers}
 use Rattle.judge_times.proofs.Growing.{grown}
 use Rattle.judge_times.proofs.Wholes.{alone, joined, within_self}
 use Rattle.judge_times.proofs.search.+answer_into.Goals as goal

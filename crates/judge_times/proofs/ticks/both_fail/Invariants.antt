@@ -1,5 +1,4 @@
-use Rattle.std.proofs.Common.{◌≡◌, ℕ, true, Some, length}
-use Rattle.std.specs.Prelude.{slice_get}
+use Rattle.std.proofs.Common.{◌≡◌, length}
 use Rattle.judge_times.specs.Told.{AreAlso}
 use Rattle.judge_times.proofs.ticks.both_fail.Given as goal
 

@@ -1,9 +1,7 @@
 use Rattle.std.proofs.Common.{◌∙◌, List, sym, subst}
 use Rattle.std.proofs.lemmas.Result.{IfOk-weaker}
-use Rattle.std.specs.List.{All}
 use Rattle.model_history.specs.Rails.{Ends}
-use Rattle.judge_borders.specs.{Halves.AreWithin, Parts.AreRules, Parts.IsPart}
-use Rattle.judge_times.specs.declared.part.Part.{Part}
+use Rattle.judge_borders.specs.{Halves.AreWithin, Parts.IsPart}
 use Rattle.judge_times.specs.Answers.{AreFailing}
 use Rattle.judge_times.proofs.Leasts.{end_part, end_within}
 use Rattle.judge_times.proofs.ticks.tell_end.Goals as goal

@@ -1,7 +1,6 @@
 use Rattle.std.proofs.Common.{false, ◌≡◌, ◌++◌, ◌∷◌, ◌∙◌, [], List, sym, subst}
 use Rattle.std.proofs.lemmas.Result.{IfOk-weaker}
 use Rattle.model_history.specs.Rails.{Ends}
-use Rattle.judge_borders.specs.declared.fault.PartRule.{PartRule}
 use Rattle.judge_borders.specs.{Halves.AreWithin, Halves.HaveOneLeast, Parts.AreRules, Parts.IsPart}
 use Rattle.judge_times.specs.Ends.{end_of}
 use Rattle.judge_times.proofs.Growing.{grown}

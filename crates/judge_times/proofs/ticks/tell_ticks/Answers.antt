@@ -1,5 +1,4 @@
-use Rattle.std.proofs.Common.{◌≡◌, ◌++◌, ◌∷◌, ◌∙◌, [], ℕ, Bool, true, List, Some, sym, subst, append-nil}
-use Rattle.std.specs.Prelude.{slice_get}
+use Rattle.std.proofs.Common.{◌++◌, ◌∷◌, [], Bool, List, sym, subst, append-nil}
 use Rattle.std.proofs.lemmas.Result.{IfOk-weaker}
 use Rattle.model_history.specs.Rails.{Ends}
 use Rattle.judge_borders.specs.{Halves.AreWithin, Halves.HaveOneLeast, Halves.ShareAnEnd, Parts.IsPart}

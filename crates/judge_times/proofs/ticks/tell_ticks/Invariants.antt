@@ -1,4 +1,4 @@
-use Rattle.std.proofs.Common.{◌≡◌, ◌++◌, ◌<◌, ◌≤◌, List, length}
+use Rattle.std.proofs.Common.{◌≡◌, ◌++◌, List}
 use Rattle.judge_borders.specs.{Halves.AreWithin, Parts.IsPart}
 use Rattle.judge_times.specs.Answers.{AreFailing}
 use Rattle.judge_times.specs.declared.part.Part.{Part}
