@@ -47,7 +47,7 @@ strips_html cases verdicts = flat_map (strip_html cases) verdicts
 unfoldable pub script_heads_html : List ℕ
 script_heads_html =
     column_html (codes "Script") ++ column_html (codes "swept times")
-    ++ column_html (codes "deadline")
+    ++ column_html (codes "deadline in the play")
 
 unfoldable pub scripts_head_html : List Verdict → List ℕ
 scripts_head_html verdicts =

@@ -42,7 +42,7 @@ fn script_heads(alloc: Global) -> Result<Html, AllocError>
     ensures { IfOk result (λ html. html.text.items ≡ script_heads_html) }
 {
     let two = joined(column(alloc, b"Script"), column(alloc, b"swept times"));
-    joined(two, column(alloc, b"deadline"))
+    joined(two, column(alloc, b"deadline in the play"))
 }
 
 fn terminal_heads(alloc: Global, verdicts: &[Verdict]) -> Result<Html, AllocError>
