@@ -1,0 +1,6 @@
+pub mod Steps
+pub mod Times
+pub mod Whats
+pub mod Spans
+pub mod Alike
+pub mod Faults

@@ -1,12 +1,12 @@
 -- The borders and spans of a fault whose stages last for times that are not known.
 use Rattle.std.specs.Prelude.{◌≡◌, ◌+◌, ◌++◌, ◌==◌, ◌&&◌, ℕ, Bool, List, [], ◌∷◌, length, get_or, map, replicate, if◌then◌else◌}
-use Rattle.std.specs.List.{list_any, flat_map}
+use Rattle.std.specs.List.{list_any}
 use Rattle.model_history.specs.Rails.{Ends}
 use Rattle.model_line.specs.contracts.script.WhatPartialEq.TheImpl.{eq-value as what_eq}
 use Rattle.run_signal.specs.Spans.{ends_of}
 use Rattle.model_borders.specs.declared.script.{Border.Border, LooseSpan.LooseSpan}
 use Rattle.file_study.specs.declared.study.stage.Shown.{Shown}
-use Rattle.file_study.specs.study.Faults.{FaultValues, StageValues}
+use Rattle.file_study.specs.study.Faults.{StageValues}
 use Rattle.file_borders.specs.declared.drawn.{At.At, Drawn.Drawn}
 
 -- the first number of ticks that a stage names: how long it lasts, or at least

@@ -1,5 +1,5 @@
 -- A fault where each time that is not known is a number of ticks.
-use Rattle.std.specs.Prelude.{◌≡◌, ◌+◌, ℕ, Bool, false, List, [], ◌∷◌, if◌then◌else◌}
+use Rattle.std.specs.Prelude.{◌≡◌, ◌+◌, ℕ, false, List, [], ◌∷◌, if◌then◌else◌}
 use Rattle.model_line.specs.Seen.{is_seen, is_lost}
 use Rattle.model_line.specs.declared.script.Place.{Place}
 use Rattle.model_fine.specs.Loose.{Shown}

@@ -3,13 +3,12 @@ use Rattle.std.specs.Prelude.{◌≡◌, ◌≤◌, ◌+◌, ◌&&◌, ◌==◌,
 use Rattle.std.specs.Prelude.{length, get_or, nat_le, IsTrue, if◌then◌else◌}
 use Rattle.std.specs.List.{list_all}
 use Rattle.model_line.specs.declared.line.Line.{Line}
-use Rattle.model_line.specs.declared.script.Kind.{Kind}
-use Rattle.model_line.specs.declared.script.Kind.TheVariants.{Internal, External}
+use Rattle.model_line.specs.declared.script.Kind.TheVariants.{Internal}
 use Rattle.model_borders.specs.Borders.{AreLengthsIn, shown_at, stands}
 use Rattle.file_study.specs.declared.study.stage.Shown.{Shown}
 use Rattle.file_study.specs.study.Faults.{FaultValues, StageValues}
 use Rattle.file_study.specs.sweeps.Refusals.{horizon_of}
-use Rattle.file_borders.specs.Drawn.{borders_of, drawing_of, first_of, part_of}
+use Rattle.file_borders.specs.Drawn.{borders_of, first_of, part_of}
 use Rattle.file_borders.specs.Exact.{IsShownBy, exact_script}
 use Rattle.file_borders.specs.declared.fault.BordersFault.{BordersFault}
 use Rattle.file_borders.specs.declared.fault.BordersFault.TheVariants as fault

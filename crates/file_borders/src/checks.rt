@@ -2,7 +2,6 @@
 
 ghost use Rattle.std.specs.Prelude.{◌≡◌, ◌≤◌, Some, None, IfErr, length, map, min, nat_le, OnOk};
 ghost use Rattle.std.specs.List.{list_all};
-
 ghost use Rattle.file_study.specs.study.Faults.{fault_values, stage_values};
 ghost use Rattle.file_borders.specs.Drawn.{borders_of, later_in as later_of, part_of};
 ghost use Rattle.file_borders.specs.Loose.{comes_by as comes_by_of, comes_in_time as comes_in_time_of};
@@ -43,9 +42,7 @@ pub(crate) fn check(line: &Line, fault: &SweptFault) -> Result<(), BordersFault>
 fn is_unswept(fault: &SweptFault) -> bool
     ensures { result ≡ is_unswept_of (fault_values fault.now) }
 {
-    fault.start.len() == 1
-        && fault.trip_within.len() == 1
-        && all_have_one_time(&fault.stages)
+    fault.start.len() == 1 && fault.trip_within.len() == 1 && all_have_one_time(&fault.stages)
 }
 
 fn all_have_one_time(stages: &[Stage]) -> bool

@@ -155,7 +155,11 @@ fn some_goes_on(spans: &[LooseSpan], new: LooseSpan) -> bool
     spans.iter().any(|old| goes_on(new, *old))
 }
 
-fn all_extended(alloc: Global, spans: &[LooseSpan], new: LooseSpan) -> Result<Vec<LooseSpan>, Memory>
+fn all_extended(
+    alloc: Global,
+    spans: &[LooseSpan],
+    new: LooseSpan,
+) -> Result<Vec<LooseSpan>, Memory>
     ensures { IfOk result (λ all. all.items ≡ map (extended_of new) spans.now) }
 {
     let mut all = Vec::new(alloc);

@@ -32,8 +32,8 @@ pub(crate) fn borders_at(alloc: Global, ats: &[At]) -> Result<Vec<Border>, Memor
     ensures { IfOk result (λ borders. AreBorders ats.now borders.items) }
 {
     let mut borders = Vec::new(alloc);
-    for at in ats {
-        let border = border_at(alloc, *at)?;
+    for i in 0..ats.len() {
+        let border = border_at(alloc, ats[i])?;
         borders.push(border)?;
     }
     Ok(borders)

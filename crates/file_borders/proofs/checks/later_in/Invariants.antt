@@ -1,4 +1,4 @@
-use Rattle.std.proofs.Common.{◌≡◌, ◌≤◌, ◌+◌, drop, min}
+use Rattle.std.proofs.Common.{◌≡◌, ◌≤◌, ◌+◌, drop}
 use Rattle.file_borders.specs.Drawn.{later_in}
 use Rattle.file_borders.proofs.checks.later_in.Given as goal
 

@@ -8,7 +8,7 @@ use Rattle.file_borders.proofs.drawn.push_stage.Given as goal
 abbrev pub invariant-loop-shown : goal.invariant-loop-shown
 invariant-loop-shown l = record {
   is : with_all l.at l.from l.to (drop l.shown-index l.stage.shows.items) (drawing l.all)
-      ≡ with_stage l.at l.from (stage_values l.stage) (drawing l.initial.all);
+      ≡ with_stage l.at l.from (stage_values l.stage) (drawing l.fn.all);
   borders : length l.all.borders.items + later_in (drop l.shown-index l.stage.shows.items) ≤ 100;
   in_time : IsTrue (list_all (comes_by (first_of (stage_values l.stage))) (drop l.shown-index l.stage.shows.items));
 }
