@@ -82,8 +82,8 @@ fn told_of(alloc: Global, rules: &[PartRule], fails: &[bool]) -> Result<Vec<Told
     let mut told = Vec::new(alloc);
     for k in 0..rules.len() {
         let rule = rule_at(rules, k);
-        let fails = fails_at(fails, k);
-        told.push(told_by(rule, fails))?;
+        let mark = mark_at(fails, k);
+        told.push(told_by(rule, mark))?;
     }
     Ok(told)
 }
@@ -96,7 +96,7 @@ fn rule_at(rules: &[PartRule], k: usize) -> PartRule
 }
 
 // Whether the least times are told to fail, if something is told of them.
-fn fails_at(fails: &[bool], k: usize) -> Option<bool>
+fn mark_at(fails: &[bool], k: usize) -> Option<bool>
     ensures { result ≡ slice_get fails.now k }
 {
     if k < fails.len() {

@@ -13,6 +13,6 @@ loop-k-preserved c =
     → told ≡ told_by rule (slice_get c.args.fails.now k)) c.loop-k.k c.loop-k.told.items
     c.push.new.self.items c.told_by.result c.in_ok-push.ensures.items
     (λ rule at. c.told_by.ensures
-    ∙ ap (λ (r : PartRule). told_by r c.fails_at-fails.result)
+    ∙ ap (λ (r : PartRule). told_by r c.mark_at-mark.result)
     (one_value c.args.rules.now c.loop-k.k c.loop-k.k c.rule_at-rule.result rule refl c.rule_at-rule.ensures at)
-    ∙ ap (told_by rule) c.fails_at-fails.ensures) c.loop-k.invariant
+    ∙ ap (told_by rule) c.mark_at-mark.ensures) c.loop-k.invariant
