@@ -4,6 +4,7 @@ use crate::choose::ChooseAsk;
 use crate::explain::ExplainForm;
 use crate::map::MapAsk;
 use crate::shots::ShotsForm;
+use crate::why::WhyAsk;
 use draw_shapes::Rows;
 
 /// Where a line and its scripts stand, by the names of files.
@@ -16,7 +17,7 @@ pub enum Source<'a> {
 }
 
 /// Work over a line and its scripts; a picture, and timings that fail, are of one script, of the
-/// first where none is named.
+/// first where none is named; why one fails, of all where none is named.
 #[derive(Clone, Copy)]
 pub struct Ask<'a> {
     pub source: Source<'a>,
@@ -64,6 +65,8 @@ pub enum Work<'a> {
     Map(MapAsk<'a>),
     /// Which values of settings hold, where they stand, and what to write.
     Choose(ChooseAsk<'a>),
+    /// Why the first obligation that fails does so.
+    Why(WhyAsk<'a>),
     /// The page of the whole study, with at most so many analyses for each obligation.
     Page {
         analyses: u32,
@@ -88,8 +91,6 @@ pub enum Table {
     Faults { analyses: u32 },
     /// What each external fault has to spare at each terminal, as what ends and what begins.
     Races,
-    /// Why the first obligation that fails does so, with at most so many analyses for each obligation.
-    Why { analyses: u32 },
     /// What a test set plays: of each fault and terminal one script, in this form, with at most so many
     /// analyses for each obligation.
     Shots { form: ShotsForm, analyses: u32 },

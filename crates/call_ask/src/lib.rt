@@ -8,6 +8,7 @@ mod explain;
 mod map;
 mod records;
 mod shots;
+mod why;
 
 pub use ask::{Ask, Form, Source, Table, Work};
 pub use choose::ChooseAsk;
@@ -15,3 +16,4 @@ pub use explain::ExplainForm;
 pub use map::{MapAsk, MapForm};
 pub use records::{RecordsAsk, RecordsWork};
 pub use shots::ShotsForm;
+pub use why::{WhyAsk, WhyForm};

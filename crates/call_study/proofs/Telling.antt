@@ -59,6 +59,8 @@ module _ (r : Request) (Has More : HasBytes) (more : (f : File) (b : List ℕ) �
     denial_wider (denial.SeveralScripts there) line is = is
     denial_wider (denial.UnknownScript near) line is = is
     denial_wider (denial.UnknownTiming near) line is = is
+    denial_wider (denial.UnknownFault near) line is = is
+    denial_wider (denial.UnknownTerminal near) line is = is
     denial_wider (denial.UnknownPart parts) line is = is
     denial_wider (denial.Record why) line is = is
     denial_wider (denial.Map why) line is = is
@@ -132,6 +134,7 @@ module _ (files : List ℕ → Option (List ℕ)) where
   beside_told (request.explain name within form) b file.Study are = tt
   beside_told (request.map form x y made) b f are = tt
   beside_told (request.choose settings room) b f are = tt
+  beside_told (request.why form fault terminal) b f are = tt
   beside_told request.page b f are = tt
 
   -- they are those that the store tells

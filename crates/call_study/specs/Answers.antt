@@ -1,6 +1,6 @@
 -- What a call may answer: how it ends, which fixes its status and its line to err, and its text on
 -- out.
-use Rattle.std.specs.Prelude.{◌≡◌, ℕ, List, [], Option, None, Result, Ok, Err, map}
+use Rattle.std.specs.Prelude.{◌≡◌, ℕ, List, [], Option, Result, Ok, Err, map}
 use Rattle.file_records.specs.{recorded.Config.config_text, recorded.Map.map_text}
 use Rattle.file_line.specs.{LineFiles.line_of, Lines.line_values}
 use Rattle.file_tables.specs.script.Values.{values_of}
@@ -15,10 +15,10 @@ use Rattle.call_page.specs.Pages.{page_answer}
 use Rattle.call_tables.specs.{Margins.margins_answer, Recheck.recheck_answer}
 use Rattle.call_tables.specs.Settled.{settle_answer}
 use Rattle.call_races.specs.Races.{races_answer}
-use Rattle.call_why.specs.Why.{why_answer}
 use Rattle.call_shots.specs.Said.{shots_answer}
 use Rattle.call_verdicts.specs.{Faults.faults_answer, Verdicts.verdicts_answer}
 use Rattle.call_study.specs.{Linted.lint_answer, Settled.failing_answer, Settled.trees_answer}
+use Rattle.call_study.specs.Reasons.{why_answer}
 use Rattle.call_ask.specs.declared.ask.Table.TheVariants as table
 use Rattle.call_files.specs.{Files.contents, declared.stop.File.File}
 use Rattle.call_work.specs.{load.Halts.End, declared.load.halt.Halt.Halt}
@@ -56,7 +56,6 @@ answer_of (reading.table (table.Verdicts analyses) of) =
 answer_of (reading.table (table.Faults analyses) of) =
     faults_answer of.line of.scripts of.groups
 answer_of (reading.table table.Races of) = races_answer of.line of.scripts of.groups
-answer_of (reading.table (table.Why analyses) of) = why_answer of.line of.scripts None
 answer_of (reading.table (table.Shots form analyses) of) =
     shots_answer form of.line of.scripts of.groups
 answer_of (reading.table table.Line of) = prints (λ text. line_of text ≡ Ok (line_values of.line))
@@ -70,6 +69,7 @@ answer_of (reading.explain within form which line scripts record_bytes) =
 answer_of (reading.map form x y made both of) =
     map_answer of.line of.scripts form x y made both
 answer_of (reading.choose rows room of) = choose_answer of.line of.scripts rows room
+answer_of (reading.why form line scripts terminal) = why_answer form line scripts terminal
 answer_of (reading.page of) = page_answer of.line of.scripts of.groups of.title
 
 -- it is done

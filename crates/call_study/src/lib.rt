@@ -5,6 +5,7 @@
 
 mod choose;
 mod explain;
+mod few;
 mod linted;
 mod map;
 mod page;
@@ -12,5 +13,6 @@ mod pictures;
 mod read;
 mod settled;
 mod top;
+mod why;
 
 pub use top::study;

@@ -17,7 +17,6 @@ ghost use Rattle.call_work.specs.load.Reading.{which_unnamed};
 ghost use Rattle.call_work.specs.load.Reading.{at_most as at_most_of};
 ghost use Rattle.call_answer.specs.Answers.{Says};
 ghost use Rattle.call_races.specs.Races.{races_answer};
-ghost use Rattle.call_why.specs.Why.{why_answer};
 
 use crate::pictures::{bands_text, dump_text, record_data, run_text};
 use crate::settled::{failing_said, trees_said};
@@ -27,7 +26,6 @@ use call_races::races_table;
 use call_shots::shots_table;
 use call_tables::{margins_table, recheck_settled, settle_table};
 use call_verdicts::{Cases, faults_table, verdicts_table};
-use call_why::why_said;
 use call_work::load::{
     Bytes, Denial, Halt, Loaded, choose_script, choose_timing, load, unknown_script, unknown_timing,
 };
@@ -110,7 +108,6 @@ fn denied(which: Table, scripts: &[Script]) -> Option<Denial>
         | Table::Verdicts { .. }
         | Table::Faults { .. }
         | Table::Races
-        | Table::Why { .. }
         | Table::Shots { .. } => at_most(4_096_000, scripts),
         Table::Trees { .. } | Table::Margins => at_most(4096, scripts),
         Table::Line => None,
@@ -158,7 +155,6 @@ fn table_said(alloc: Global, which: Table, loaded: &Loaded) -> Result<Said, Memo
         Table::Verdicts { analyses } => verdicts_table(alloc, &cases_of(loaded), analyses),
         Table::Faults { analyses } => faults_table(alloc, &cases_of(loaded), analyses),
         Table::Races => races_of(alloc, &cases_of(loaded)),
-        Table::Why { analyses } => why_of(alloc, study, analyses),
         Table::Shots { form, analyses } => shots_table(alloc, &cases_of(loaded), form, analyses),
         Table::Line => Ok(Said::good(print_line(alloc, &study.line)?)),
         Table::Part(n) => match part_text(alloc, &study.line, &study.scripts, n as usize)? {
@@ -175,18 +171,6 @@ fn races_of(alloc: Global, cases: &Cases<'_>) -> Result<Said, Memory>
         cases.now.groups.now)) }
 {
     races_table(alloc, &cases.compiled, cases.scripts, cases.groups)
-}
-
-// Why the first obligation that fails does so.
-fn why_of(alloc: Global, study: &Study, analyses: u32) -> Result<Said, Memory>
-    requires { All (Fits study.now.line) study.now.scripts.items }
-    ensures { IfOk result (Says (why_answer study.now.line study.now.scripts.items None)) }
-{
-    let compiled = Compiled {
-        line: &study.line,
-        net: &study.net,
-    };
-    why_said(alloc, &compiled, study.scripts.as_slice(), None, analyses)
 }
 
 // The cases of all faults.

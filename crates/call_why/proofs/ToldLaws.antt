@@ -1,6 +1,6 @@
 -- What is told in a play is told in the history that it plays.
 use Rattle.std.proofs.Common.{◌≡◌, ℕ, ◌<◌, ◌++◌, Bool, List, [], length, subst, arith, ◌∙◌, ap, append_assoc}
-use Rattle.std.specs.Prelude.{Result, Ok, Err, IfOk, IsTrue, IsFalse}
+use Rattle.std.specs.Prelude.{IsTrue, IsFalse}
 use Rattle.model_line.specs.declared.line.Line.{Line}
 use Rattle.model_line.specs.declared.script.{Script.Script, Kind.Kind}
 use Rattle.model_line.specs.declared.script.Kind.TheVariants.{Internal, External}

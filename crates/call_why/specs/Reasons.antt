@@ -8,7 +8,7 @@ use Rattle.model_line.specs.declared.script.Kind.TheVariants.{Internal, External
 use Rattle.model_line.specs.NamesByNumber.{terminal_name}
 use Rattle.model_logic.specs.Choice.{Choice}
 use Rattle.model_logic.specs.Histories.{History, IsLineHistory}
-use Rattle.model_timing.specs.{Timing.TimingValues, Choice.timing_choice}
+use Rattle.model_timing.specs.{Timing.TimingValues, Choice.timing_choice, NamedValues.NamedValues}
 use Rattle.net_gates.specs.NetOf.{NetOf, IsNetOf, trip_of}
 use Rattle.draw_gates.specs.dump.GateValues.{gate_levels}
 use Rattle.judge_settle.specs.corner.Cuts.{IsCut}
@@ -66,15 +66,20 @@ pub record IsToldIn (play : PlayOf) (line : Line) (script : Script) (k : ℕ) (e
   pub why : IsWhy play (record { gate = trip_of play.net k; tick = tick }) facts
   pub text_is : text ≡ why_text line play.net script k every timing tick facts
 
--- a timing that fails the obligation, cut to what matters; and what is told in the play of it, in its
--- one history, over the line's net
-pub record IsToldWhy (line : Line) (script : Script) (k : ℕ) (whole : TimingValues) (every : Bool)
-    (text : List ℕ) : Type 0 where
-  pub cut : TimingValues
+-- a timing that fails the obligation, cut to what matters, under the name of the terminal; and what is
+-- told in the play of it, in its one history, over the line's net
+pub record IsReason (line : Line) (script : Script) (k : ℕ) (whole : TimingValues) (every : Bool)
+    (named : NamedValues) (text : List ℕ) : Type 0 where
   pub net : NetOf
   pub history : History
-  pub is_cut : IsCut line script k whole cut
+  pub name : named.name ≡ terminal_name line k
+  pub is_cut : IsCut line script k whole named.timing
   pub of_line : IsNetOf line net
-  pub is : IsLineHistory line script (timing_choice line cut) history
-  pub told : IsToldIn (play_over line script (timing_choice line cut) history net) line script k every
-      cut text
+  pub is : IsLineHistory line script (timing_choice line named.timing) history
+  pub told : IsToldIn (play_over line script (timing_choice line named.timing) history net) line
+      script k every named.timing text
+
+-- it is the text of such a reason
+abbrev pub IsToldWhy : Line → Script → ℕ → TimingValues → Bool → List ℕ → Type 0
+IsToldWhy line script k whole every text =
+    (named : NamedValues) × IsReason line script k whole every named text

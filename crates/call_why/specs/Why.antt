@@ -1,15 +1,15 @@
--- What the command answers.
+-- Which obligation is told of, and why it fails.
 use Rattle.std.specs.Prelude.{◌≡◌, ◌+◌, ◌||◌, ◌&&◌, ◌==◌, ◌⊎◌, ℕ, Bool, true, false, List, [], ◌∷◌, Option, None, Some}
-use Rattle.std.specs.Prelude.{codes, slice_get, if◌then◌else◌}
+use Rattle.std.specs.Prelude.{◌<◌, ⊤, codes, length, slice_get, if◌then◌else◌}
 use Rattle.model_line.specs.{declared.line.Line.Line, declared.script.Script.Script}
-use Rattle.call_answer.specs.{Answers.Answers, Answers.status_by, declared.done.Done.Done}
-use Rattle.call_answer.specs.declared.done.Done.TheVariants.{SomeNo}
+use Rattle.model_timing.specs.{Inside.IsTimingInside, NamedValues.NamedValues, NamedValues.values_of}
 use Rattle.judge_settle.specs.settle.Answers.{AreAnswers, is_failing, is_open}
 use Rattle.judge_settle.specs.declared.settle.answer.{Answer.Answer, Settled.Settled}
 use Rattle.judge_settle.specs.declared.settle.answer.Answer.TheVariants.{Held, Fails, Open}
-use Rattle.call_why.specs.declared.why.Found.{Found}
+use Rattle.call_why.specs.declared.{why.Found.Found, why.InScript.InScript, reasons.Reason.Reason}
 use Rattle.call_why.specs.declared.why.Found.TheVariants.{Told, Quiet}
-use Rattle.call_why.specs.Reasons.{IsToldWhy}
+use Rattle.call_why.specs.declared.why.InScript.TheVariants as in_script
+use Rattle.call_why.specs.Reasons.{IsReason}
 
 -- the obligation at terminal k is asked about: all are, or that of one terminal
 abbrev pub is_asked : Option ℕ → ℕ → Bool
@@ -35,13 +35,15 @@ none_text true = codes "nothing is known to fail, and something is open\n"
 none_text false = codes "nothing fails\n"
 
 -- why the obligation with this answer fails
-abbrev pub IsToldOf : Line → Script → ℕ → Answer → List ℕ → Type 0
-IsToldOf line script k (Held nodes) text = ⊥
-IsToldOf line script k (Fails timing every) text = IsToldWhy line script k timing every text
-IsToldOf line script k (Open nodes) text = ⊥
+abbrev pub IsReasonOf : Line → Script → ℕ → Answer → NamedValues → List ℕ → Type 0
+IsReasonOf line script k (Held nodes) named text = ⊥
+IsReasonOf line script k (Fails timing every) named text =
+    IsReason line script k timing every named text
+IsReasonOf line script k (Open nodes) named text = ⊥
 
--- the answers to a script's obligations are so, and the first of them that fails is told of
-pub record IsToldScript (line : Line) (script : Script) (terminal : Option ℕ) (status : Done)
+-- the answers to a script's obligations are so, and why the first of them fails that is asked about
+-- and does: the choice that is told, and what is told
+pub record IsFirst (line : Line) (script : Script) (terminal : Option ℕ) (named : NamedValues)
     (text : List ℕ) : Type 0 where
   pub settled : List Settled
   pub are : AreAnswers line script settled
@@ -49,10 +51,9 @@ pub record IsToldScript (line : Line) (script : Script) (terminal : Option ℕ) 
   pub one : Settled
   pub first : first_failing terminal settled 0 ≡ Some k
   pub at : slice_get settled k ≡ Some one
-  pub told : IsToldOf line script k one.answer text
-  pub status_is : status ≡ SomeNo
+  pub reason : IsReasonOf line script k one.answer named text
 
--- they are so, none of them fails, and it is told whether some is open
+-- they are so, none of them fails that is asked about, and it is told whether some of these is open
 pub record IsQuiet (line : Line) (script : Script) (terminal : Option ℕ) (unsettled : Bool)
     : Type 0 where
   pub settled : List Settled
@@ -60,20 +61,45 @@ pub record IsQuiet (line : Line) (script : Script) (terminal : Option ℕ) (unse
   pub none : first_failing terminal settled 0 ≡ None
   pub open_is : unsettled ≡ some_open terminal settled 0
 
--- the first of these scripts with an obligation that fails is told of; where there is none, that there
--- is none, and whether some is open
-abbrev pub why_over : Line → Option ℕ → List Script → Bool → Answers
-why_over line terminal [] unsettled status text =
-    (status ≡ status_by false unsettled) × (text ≡ none_text unsettled)
-why_over line terminal (script ∷ more) unsettled status text =
-    IsToldScript line script terminal status text
+-- what holds of the reason of the first of these scripts with an obligation that fails; or, where there
+-- is none, of whether some obligation is open
+abbrev pub of_first : Line → Option ℕ → List Script → Bool → (Bool → Type 0)
+    → (Script → NamedValues → List ℕ → Type 0) → Type 0
+of_first line terminal [] unsettled WhereNone WhereOne = WhereNone unsettled
+of_first line terminal (script ∷ more) unsettled WhereNone WhereOne =
+    ((named : NamedValues) × ((text : List ℕ) × (IsFirst line script terminal named text
+    × WhereOne script named text)))
     ⊎ ((left : Bool) × (IsQuiet line script terminal left
-    × why_over line terminal more (unsettled || left) status text))
+    × of_first line terminal more (unsettled || left) WhereNone WhereOne))
 
-abbrev pub why_answer : Line → List Script → Option ℕ → Answers
-why_answer line scripts terminal status text = why_over line terminal scripts false status text
+-- ---- what is found
 
--- what is found of a script: that it is told of, or whether some of its obligations is open
-abbrev pub IsFound : Line → Script → Option ℕ → Found → Type 0
-IsFound line script terminal (Told text) = IsToldScript line script terminal SomeNo text.items
-IsFound line script terminal (Quiet left) = IsQuiet line script terminal left
+-- of a script: the reason of the first of its obligations that fails, or whether some is open
+abbrev pub IsInScript : Line → Script → Option ℕ → InScript → Type 0
+IsInScript line script terminal (in_script.Fails reason) =
+    IsFirst line script terminal (values_of reason.named) reason.text.items
+IsInScript line script terminal (in_script.Quiet left) = IsQuiet line script terminal left
+
+-- a reason, of the script at a place; or that there is none, and whether some is open
+abbrev pub IsNone : Found → Bool → Type 0
+IsNone found unsettled = found ≡ Quiet unsettled
+
+pub record IsTold (scripts : List Script) (found : Found) (script : Script) (named : NamedValues)
+    (text : List ℕ) : Type 0 where
+  pub place : ℕ
+  pub reason : Reason
+  pub is : found ≡ Told place reason
+  pub at : slice_get scripts place ≡ Some script
+  pub named_is : named ≡ values_of reason.named
+  pub text_is : text ≡ reason.text.items
+
+-- it is what is found of these scripts
+abbrev pub IsFound : Line → List Script → Option ℕ → Found → Type 0
+IsFound line scripts terminal found =
+    of_first line terminal scripts false (IsNone found) (IsTold scripts found)
+
+-- a reason that is told is of one of the scripts, and its choice inside the declared intervals
+abbrev pub IsPlayable : Line → List Script → Found → Type 0
+IsPlayable line scripts (Told place reason) =
+    (place < length scripts) × IsTimingInside line reason.named.timing
+IsPlayable line scripts (Quiet unsettled) = ⊤

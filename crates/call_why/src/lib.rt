@@ -16,5 +16,5 @@ mod why;
 mod words;
 
 pub use part::Part;
-pub use reasons::told_why;
-pub use why::why_said;
+pub use reasons::{Reason, told_why};
+pub use why::{Found, first_reason, quiet_words};

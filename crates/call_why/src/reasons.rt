@@ -2,11 +2,12 @@
 
 ghost use Rattle.std.specs.Prelude.{◌≡◌, ◌<◌, ◌++◌, IfOk, OnOk};
 ghost use Rattle.model_line.specs.{Fits.Fits, Parameters.terminal_count};
+ghost use Rattle.model_line.specs.NamesByNumber.{terminal_name};
 ghost use Rattle.model_logic.specs.Histories.{History, IsLineHistory};
-ghost use Rattle.model_timing.specs.{Inside.IsTimingInside, Choice.timing_choice};
+ghost use Rattle.model_timing.specs.{Inside.IsTimingInside, Choice.timing_choice, NamedValues.values_of};
 ghost use Rattle.judge_settle.specs.settle.Trees.{IsFailing};
 ghost use Rattle.judge_why.specs.Plays.{IsPlay, play_of};
-ghost use Rattle.call_why.specs.Reasons.{IsToldIn, IsToldWhy, choices_words, head_line, play_over};
+ghost use Rattle.call_why.specs.Reasons.{IsReason, IsToldIn, IsToldWhy, choices_words, head_line, play_over};
 ghost use Rattle.call_why.specs.Reasons.{verdict_words};
 
 use crate::decision::decision;
@@ -17,13 +18,21 @@ use draw_gates::dump::play_waves;
 use judge_settle::corner::{Obligation, cut};
 use judge_why::{Play, Spot, why};
 use model_line::laws::deadlines_are_below_the_horizon;
-use model_line::{Kind, Line, Memory, Script, name_of_terminal};
+use model_line::{Kind, Line, Memory, Name, Script, name_of_terminal};
 use model_timing::{NamedTiming, Timing};
 use net_gates::Compiled;
 use std::alloc::Global;
 
 // How many lines a reason has at most.
 const LINES: u32 = 10;
+
+/// Why an obligation fails: a choice that fails it, cut to what matters, under the name of its terminal,
+/// and what is told of its play.
+#[derive(Drop)]
+pub struct Reason {
+    pub named: NamedTiming,
+    pub text: Vec<u8>,
+}
 
 /// Why the obligation of a terminal fails, which a timing fails: every choice, or some.
 pub fn told_why(
@@ -40,15 +49,42 @@ pub fn told_why(
     ensures { IfOk result (λ text. IsToldWhy compiled.now.line.now script.now terminal timing.now
         every text.items) }
 {
+    let reason = reason_of(alloc, compiled, script, terminal, timing, every)?;
+    Ok(reason.text)
+}
+
+/// The same with the choice that is told.
+pub fn reason_of(
+    alloc: Global,
+    compiled: &Compiled<'_>,
+    script: &Script,
+    terminal: u32,
+    timing: &Timing,
+    every: bool,
+) -> Result<Reason, Memory>
+    requires fits { Fits compiled.now.line.now script.now }
+    requires terminal { terminal < terminal_count compiled.now.line.now }
+    requires fails { IsFailing compiled.now.line.now script.now terminal timing.now }
+    ensures { IfOk result (λ reason. IsReason compiled.now.line.now script.now terminal timing.now
+        every (values_of reason.named) reason.text.items) }
+{
     let of = Obligation {
         compiled: *compiled,
         script,
         terminal,
     };
     let cut = cut(alloc, &of, timing)?;
-    let name = compiled.line.terminals[terminal as usize].name;
+    let name = name_of(compiled.line, terminal);
     let named = NamedTiming { name, timing: cut };
-    told_over(alloc, compiled, script, terminal, &named, every)
+    let text = told_over(alloc, compiled, script, terminal, &named, every)?;
+    Ok(Reason { named, text })
+}
+
+fn name_of(line: &Line, terminal: u32) -> Name
+    requires { terminal < terminal_count line.now }
+    ensures { result ≡ terminal_name line.now terminal }
+{
+    line.terminals[terminal as usize].name
 }
 
 // The same in the play of this timing.

@@ -3,57 +3,56 @@
 ghost use Rattle.std.specs.Prelude.{◌≡◌, ◌<◌, ◌+◌, ◌||◌, ◌&&◌, ◌==◌, false, IfOk, IfSome, length};
 ghost use Rattle.std.specs.List.{All};
 ghost use Rattle.model_line.specs.{Fits.Fits, Parameters.terminal_count};
-ghost use Rattle.call_answer.specs.{Answers.Says, Answers.status_by};
+ghost use Rattle.model_timing.specs.NamedValues.{values_of};
 ghost use Rattle.judge_settle.specs.settle.Answers.{AreAnswers, IsAnswer};
-ghost use Rattle.call_why.specs.Why.{IsFound, IsToldOf, first_failing as first_failing_of};
+ghost use Rattle.call_why.specs.Why.{IsFound, IsInScript, IsPlayable, IsReasonOf, first_failing as first_failing_of};
 ghost use Rattle.call_why.specs.Why.{is_asked as is_asked_of};
 ghost use Rattle.judge_settle.specs.settle.Answers.{is_failing as is_failing_of, is_open as is_open_of};
 ghost use Rattle.call_why.specs.Why.{none_text, some_open as some_open_of};
-ghost use Rattle.call_why.specs.Why.{why_answer};
 
-use crate::reasons::told_why;
-use call_answer::{Done, Said};
+use crate::reasons::{Reason, reason_of};
 use judge_settle::settle::{Answer, Settled, settle};
 use judge_verdict::verdict::analyse;
 use model_line::{Memory, Script};
 use net_gates::Compiled;
 use std::alloc::Global;
 
-/// What is found of a script: the text of the first of its obligations that fails, or whether some is
-/// open.
+/// What is found of scripts: why the first of their obligations fails that does, with the place of its
+/// script; or that none does, and whether some is open.
 #[derive(Drop)]
 pub enum Found {
-    Told(Vec<u8>),
+    Told { script: usize, reason: Reason },
+    Quiet(bool),
+}
+
+/// The same of one script.
+#[derive(Drop)]
+pub(crate) enum InScript {
+    Fails(Reason),
     Quiet(bool),
 }
 
 /// Why the first obligation of these scripts fails that does, each settled after at most so many
-/// analyses, or the first at a terminal: with status 1. Where none fails the status is 2 if some is
-/// open, else 0.
-pub fn why_said(
+/// analyses, or the first at a terminal.
+pub fn first_reason(
     alloc: Global,
     compiled: &Compiled<'_>,
     scripts: &[Script],
     terminal: Option<u32>,
     analyses: u32,
-) -> Result<Said, Memory>
+) -> Result<Found, Memory>
     requires { All (Fits compiled.now.line.now) scripts.now }
-    ensures { IfOk result
-        (Says (why_answer compiled.now.line.now scripts.now terminal)) }
+    ensures found { IfOk result (IsFound compiled.now.line.now scripts.now terminal) }
+    ensures playable { IfOk result (IsPlayable compiled.now.line.now scripts.now) }
 {
     let mut unsettled = false;
-    for script in scripts {
-        match look(alloc, compiled, script, terminal, analyses)? {
-            Found::Told(text) => {
-                return Ok(Said {
-                    status: Done::SomeNo,
-                    text,
-                });
-            }
-            Found::Quiet(left) => unsettled = either(unsettled, left),
+    for i in 0..scripts.len() {
+        match look(alloc, compiled, &scripts[i], terminal, analyses)? {
+            InScript::Fails(reason) => return Ok(Found::Told { script: i, reason }),
+            InScript::Quiet(left) => unsettled = either(unsettled, left),
         }
     }
-    none_said(alloc, unsettled)
+    Ok(Found::Quiet(unsettled))
 }
 
 fn either(one: bool, other: bool) -> bool
@@ -62,25 +61,15 @@ fn either(one: bool, other: bool) -> bool
     one || other
 }
 
-// What is said where nothing fails.
-fn none_said(alloc: Global, unsettled: bool) -> Result<Said, Memory>
-    ensures status { IfOk result (λ said. said.status ≡ status_by false unsettled) }
-    ensures text { IfOk result (λ said. said.text.items ≡ none_text unsettled) }
+/// What is told where nothing fails.
+pub fn quiet_words(unsettled: bool) -> &'static [u8]
+    ensures { result.now ≡ none_text unsettled }
 {
-    let words: &[u8] = if unsettled {
+    if unsettled {
         b"nothing is known to fail, and something is open\n"
     } else {
         b"nothing fails\n"
-    };
-    let text = Vec::from_slice(alloc, words)?;
-    Ok(Said {
-        status: if unsettled {
-            Done::SomeUndecided
-        } else {
-            Done::Good
-        },
-        text,
-    })
+    }
 }
 
 // What is found of a script.
@@ -90,9 +79,9 @@ fn look(
     script: &Script,
     terminal: Option<u32>,
     analyses: u32,
-) -> Result<Found, Memory>
+) -> Result<InScript, Memory>
     requires { Fits compiled.now.line.now script.now }
-    ensures { IfOk result (IsFound compiled.now.line.now script.now terminal) }
+    ensures { IfOk result (IsInScript compiled.now.line.now script.now terminal) }
 {
     let waves = analyse(alloc, compiled, script)?;
     let settled = settle(alloc, compiled, script, &waves, analyses)?;
@@ -106,36 +95,37 @@ fn look_at(
     script: &Script,
     terminal: Option<u32>,
     settled: &[Settled],
-) -> Result<Found, Memory>
+) -> Result<InScript, Memory>
     requires fits { Fits compiled.now.line.now script.now }
     requires answers { AreAnswers compiled.now.line.now script.now settled.now }
-    ensures { IfOk result (IsFound compiled.now.line.now script.now terminal) }
+    ensures { IfOk result (IsInScript compiled.now.line.now script.now terminal) }
 {
     match first_failing(terminal, settled, 0) {
-        None => Ok(Found::Quiet(some_open(terminal, settled, 0))),
+        None => Ok(InScript::Quiet(some_open(terminal, settled, 0))),
         Some(k) => {
-            let text = told_of(alloc, compiled, script, k, &settled[k as usize].answer)?;
-            Ok(Found::Told(text))
+            let reason = reason_by(alloc, compiled, script, k, &settled[k as usize].answer)?;
+            Ok(InScript::Fails(reason))
         }
     }
 }
 
 // Why the obligation with this answer fails.
-fn told_of(
+fn reason_by(
     alloc: Global,
     compiled: &Compiled<'_>,
     script: &Script,
     k: u32,
     answer: &Answer,
-) -> Result<Vec<u8>, Memory>
+) -> Result<Reason, Memory>
     requires fits { Fits compiled.now.line.now script.now }
     requires terminal { k < terminal_count compiled.now.line.now }
     requires answer { IsAnswer compiled.now.line.now script.now k answer.now }
-    ensures { IfOk result (λ text.
-        IsToldOf compiled.now.line.now script.now k answer.now text.items) }
+    ensures { IfOk result (λ reason.
+        IsReasonOf compiled.now.line.now script.now k answer.now (values_of reason.named)
+        reason.text.items) }
 {
     match answer {
-        Answer::Fails { timing, every } => { told_why(alloc, compiled, script, k, timing, *every) }
+        Answer::Fails { timing, every } => reason_of(alloc, compiled, script, k, timing, *every),
         Answer::Held(_) | Answer::Open(_) => Err(Memory),
     }
 }

@@ -1,4 +1,5 @@
 pub mod Chosen
+pub mod Few
 pub mod Halts
 pub mod Reading
 pub mod Request

@@ -19,6 +19,6 @@ pub use fetched::{Fetched, Unread, fetch_files};
 pub use halt::{Halt, status_of};
 pub(crate) use lines::{near_words, one_line, quoted_name};
 pub(crate) use nearest::nearest_parameter;
-pub use nearest::{unknown_script, unknown_timing};
+pub use nearest::{unknown_fault, unknown_script, unknown_terminal, unknown_timing};
 pub use sources::{Bytes, Loaded, load};
 pub use telling::tell;

@@ -40,6 +40,11 @@ abbrev pub scripts_name : Source → List ℕ
 scripts_name (request.files line scripts) = scripts
 scripts_name (request.study name) = name
 
+-- that in which the line stands
+abbrev pub line_name : Source → List ℕ
+line_name (request.files line scripts) = line
+line_name (request.study name) = name
+
 -- the further file
 abbrev pub further_name : Asked → List ℕ
 further_name (request.play form name timing) = name
@@ -50,6 +55,15 @@ further_name asked = []
 abbrev pub timing_asked : Asked → Option (List ℕ)
 timing_asked (request.play form name timing) = timing
 timing_asked asked = None
+
+-- the fault and the terminal whose obligations are asked about
+abbrev pub fault_asked : Asked → Option (List ℕ)
+fault_asked (request.why form fault terminal) = fault
+fault_asked asked = None
+
+abbrev pub terminal_asked : Asked → Option (List ℕ)
+terminal_asked (request.why form fault terminal) = terminal
+terminal_asked asked = None
 
 -- the words of the axes of a map
 abbrev pub x_asked : Asked → List ℕ
@@ -138,6 +152,10 @@ IsDenialLine r Has (denial.UnknownScript near) line =
     line ≡ unknown_line (scripts_name r.source) (codes "script") r.script near
 IsDenialLine r Has (denial.UnknownTiming near) line =
     line ≡ unknown_line (further_name r.asked) (codes "timing") (timing_asked r.asked) near
+IsDenialLine r Has (denial.UnknownFault near) line =
+    line ≡ unknown_line (scripts_name r.source) (codes "fault") (fault_asked r.asked) near
+IsDenialLine r Has (denial.UnknownTerminal near) line =
+    line ≡ unknown_line (line_name r.source) (codes "terminal") (terminal_asked r.asked) near
 IsDenialLine r Has (denial.UnknownPart parts) line =
     line ≡ part_line (scripts_name r.source) (part_asked r.asked) parts
 IsDenialLine r Has (denial.Record why) line =

@@ -5,7 +5,9 @@ use Rattle.std.specs.List.{All, Contains, concat}
 use Rattle.model_line.specs.declared.script.Script.{Script}
 use Rattle.model_timing.specs.NamedValues.{NamedValues}
 use Rattle.strsim.specs.Edits.{levenshtein_row}
-use Rattle.call_work.specs.load.Chosen.{name_of_script}
+use Rattle.model_line.specs.declared.line.Line.{Line}
+use Rattle.file_study.specs.declared.sweeps.group.Group.{Group}
+use Rattle.call_work.specs.load.Chosen.{name_of_fault, name_of_script, name_of_terminal}
 use Rattle.call_work.specs.declared.load.denial.Denial.{Denial}
 use Rattle.call_work.specs.declared.load.denial.Denial.TheVariants as denial
 use Rattle.call_work.specs.declared.load.nearest.Near.{Near}
@@ -47,7 +49,7 @@ abbrev pub near_words : Option (List ℕ) → List ℕ
 near_words None = codes ": there is none at all"
 near_words (Some near) = concat (codes ": did you mean \"" ∷ near ∷ codes "\"?" ∷ [])
 
--- ---- scripts and timings
+-- ---- scripts, timings, faults and terminals
 
 -- the nearest to a name; none where no name is asked for
 abbrev pub IsNearestTo : List (List ℕ) → Option (List ℕ) → Option (List ℕ) → Type 0
@@ -59,9 +61,16 @@ abbrev pub IsUnknown : (Option (List ℕ) → Denial) → List (List ℕ) → Op
 IsUnknown told names asked why =
     (near : Option (List ℕ)) × (why ≡ told near) × IsNearestTo names asked near
 
--- no script has the name, no timing
+-- no script has the name, no timing, no fault, no terminal
 abbrev pub IsUnknownScript : List Script → Option (List ℕ) → Denial → Type 0
 IsUnknownScript scripts name = IsUnknown denial.UnknownScript (map name_of_script scripts) name
 
 abbrev pub IsUnknownTiming : List NamedValues → Option (List ℕ) → Denial → Type 0
 IsUnknownTiming all name = IsUnknown denial.UnknownTiming (map (λ timing. timing.name) all) name
+
+abbrev pub IsUnknownFault : List Group → Option (List ℕ) → Denial → Type 0
+IsUnknownFault groups name = IsUnknown denial.UnknownFault (map name_of_fault groups) name
+
+abbrev pub IsUnknownTerminal : Line → Option (List ℕ) → Denial → Type 0
+IsUnknownTerminal line name =
+    IsUnknown denial.UnknownTerminal (map name_of_terminal line.terminals.items) name

@@ -13,6 +13,7 @@ use Rattle.call_work.specs.declared.explain.{fault.ExplainFault.ExplainFault, un
 use Rattle.call_work.specs.declared.explain.fault.ExplainFault.TheVariants as explain_fault
 use Rattle.judge_match.specs.matching.Waves.{SeenValues, records_said}
 use Rattle.call_ask.specs.declared.map.MapForm.{MapForm}
+use Rattle.call_ask.specs.declared.why.WhyForm.{WhyForm}
 use Rattle.call_choose.specs.Rows.{Row}
 use Rattle.call_work.specs.choose.Asked.{chosen_rows}
 use Rattle.call_work.specs.declared.choose.denial.ChooseDenial.{ChooseDenial}
@@ -29,7 +30,9 @@ use Rattle.call_work.specs.declared.load.denial.Denial.TheVariants as denial
 use Rattle.call_work.specs.declared.load.halt.Halt.TheVariants as halt
 use Rattle.call_work.specs.load.Request as request
 use Rattle.call_work.specs.{load.Chosen.chosen_script, load.Chosen.chosen_timing}
-use Rattle.call_work.specs.load.Nearest.{IsUnknownScript, IsUnknownTiming}
+use Rattle.call_work.specs.load.Few.{number_of_terminal, script_alone, scripts_of_fault}
+use Rattle.call_work.specs.load.Nearest.{IsUnknownFault, IsUnknownScript, IsUnknownTerminal}
+use Rattle.call_work.specs.load.Nearest.{IsUnknownTiming}
 use Rattle.call_work.specs.load.Request.{Asked, Request, Source}
 use Rattle.call_work.specs.load.Studied.{Given, Studied, of_files, of_study_file, refused_by}
 
@@ -44,6 +47,7 @@ pub data Wanted : Type 0 where
   explain : ℕ → ExplainForm → Option ℕ → Line → List Script → List ℕ → Wanted
   map : MapForm → List ℕ → Option (List ℕ) → List ℕ → Both → Studied → Wanted
   choose : List Row → Option ℕ → Studied → Wanted
+  why : WhyForm → Line → List Script → Option ℕ → Wanted
   page : Studied → Wanted
 
 -- what holds of what is wanted, or of why it can't be done
@@ -96,14 +100,13 @@ at_most most scripts =
     if nat_le scripts most then None else Some (denial.TooManyScripts scripts most)
 
 -- most work over all scripts takes 4,096; the tables of settled obligations, of verdicts, of faults, of
--- races and of shots, and why one fails, as many as a study can come to, 1,000 faults of 4,096; an
--- explanation 64; and there are as many parts as hold 64 each
+-- races and of shots as many as a study can come to, 1,000 faults of 4,096; an explanation 64; and there
+-- are as many parts as hold 64 each
 abbrev pub denied_of : Table → ℕ → Option Denial
 denied_of (tables.Settled analyses) scripts = at_most 4096000 scripts
 denied_of (tables.Verdicts analyses) scripts = at_most 4096000 scripts
 denied_of (tables.Faults analyses) scripts = at_most 4096000 scripts
 denied_of tables.Races scripts = at_most 4096000 scripts
-denied_of (tables.Why analyses) scripts = at_most 4096000 scripts
 denied_of (tables.Shots form analyses) scripts = at_most 4096000 scripts
 denied_of (tables.Trees analyses) scripts = at_most 4096 scripts
 denied_of tables.Margins scripts = at_most 4096 scripts
@@ -206,6 +209,34 @@ choose_of settings room given halted holds =
     (of_rows (chosen_rows studied.line settings) halted
     (λ rows. holds (choose rows room studied))))
 
+-- what holds of what a name stands for, or of why it stands for nothing
+abbrev pub of_named : {A : Type 0} → Option A → (Denial → Type 0) → (Halt → Type 0) → (A → Type 0)
+    → Type 0
+of_named (Some a) IsWhy halted holds = holds a
+of_named None IsWhy halted holds = denied_by IsWhy halted
+
+-- why an obligation fails, of those of a fault, of a script and of a terminal
+abbrev pub why_at : WhyForm → Line → List Script → Option (List ℕ) → Reading
+why_at form line scripts terminal halted holds =
+    of_named (number_of_terminal line terminal) (IsUnknownTerminal line terminal) halted
+    (λ asked. holds (why form line scripts asked))
+
+abbrev pub why_among : WhyForm → Line → List Script → Option (List ℕ) → Option (List ℕ) → Reading
+why_among form line scripts script terminal halted holds =
+    of_named (script_alone scripts script) (IsUnknownScript scripts script) halted
+    (λ few. why_at form line few terminal halted holds)
+
+abbrev pub why_in : WhyForm → Studied → Option (List ℕ) → Option (List ℕ) → Option (List ℕ) → Reading
+why_in form studied fault script terminal halted holds =
+    of_named (scripts_of_fault studied.groups studied.scripts fault)
+    (IsUnknownFault studied.groups fault) halted
+    (λ own. why_among form studied.line own script terminal halted holds)
+
+abbrev pub why_of : WhyForm → Given → Option (List ℕ) → Option (List ℕ) → Option (List ℕ) → Reading
+why_of form given fault script terminal halted holds =
+    given halted (λ studied. unless_denied (at_most 4096000 (length studied.scripts)) halted
+    (why_in form studied fault script terminal halted holds))
+
 -- the page
 abbrev pub page_of : Given → Reading
 page_of given halted holds =
@@ -231,6 +262,8 @@ over_source from script (request.explain _ within form) (record_bytes ∷ []) =
     explain_of within form (given from) record_bytes script
 over_source from script (request.map form x y made) [] = map_of form x y made (given from)
 over_source from script (request.choose settings room) [] = choose_of settings room (given from)
+over_source from script (request.why form fault terminal) [] =
+    why_of form (given from) fault script terminal
 over_source from script request.page [] = page_of (given from)
 over_source from script asked bytes = λ halted holds. ⊥
 

@@ -7,6 +7,7 @@ use Rattle.call_files.specs.declared.stop.File.TheVariants as file
 use Rattle.draw_shapes.specs.declared.rows.Rows.{Rows}
 use Rattle.call_ask.specs.declared.explain.ExplainForm.{ExplainForm}
 use Rattle.call_ask.specs.declared.map.MapForm.{MapForm}
+use Rattle.call_ask.specs.declared.why.WhyForm.{WhyForm}
 use Rattle.call_ask.specs.declared.ask as asks
 use Rattle.call_ask.specs.declared.ask.{Ask.Ask, Form.Form, Table.Table, Work.Work}
 use Rattle.call_ask.specs.declared.ask.Source.TheVariants as source
@@ -19,8 +20,9 @@ pub data Source : Type 0 where
 
 -- a picture of every choice of delays, or of a play of a timing of a further file; a table; timings
 -- that fail; whether the trees of a further file are accepted; what is suspicious in the files; what
--- explains a record of a further file; a map, by the words of one axis or two; choices of settings, by their words; or the page. What a
--- picture and a map say made them stands behind the rest
+-- explains a record of a further file; a map, by the words of one axis or two; choices of settings, by their words; why
+-- one of the obligations of a fault and a terminal fails; or the page. What a picture and a map say made them stands
+-- behind the rest
 pub data Asked : Type 0 where
   bands : Rows → List ℕ → Asked
   play : Form → List ℕ → Option (List ℕ) → Asked
@@ -31,9 +33,10 @@ pub data Asked : Type 0 where
   explain : List ℕ → ℕ → ExplainForm → Asked
   map : MapForm → List ℕ → Option (List ℕ) → List ℕ → Asked
   choose : List (List ℕ) → Option ℕ → Asked
+  why : WhyForm → Option (List ℕ) → Option (List ℕ) → Asked
   page : Asked
 
--- a picture, timings that fail and a record are of one script
+-- a picture, timings that fail and a record are of one script, and so may be why one fails
 pub record Request : Type 0 where
   pub source : Source
   pub script : Option (List ℕ)
@@ -53,6 +56,7 @@ files_beside lint = []
 files_beside (explain name within form) = named file.Record name ∷ []
 files_beside (map form x y made) = []
 files_beside (choose settings room) = []
+files_beside (why form fault terminal) = []
 files_beside page = []
 
 -- the files of a request in the order of its words
@@ -74,6 +78,7 @@ asked_of work.Lint = lint
 asked_of (work.Explain name within analyses form) = explain name.now within form
 asked_of (work.Map ask) = map ask.form ask.x.now (option_copied ask.y) ask.made.now
 asked_of (work.Choose ask) = choose (list.map (λ word. word.now) ask.settings.now) ask.room
+asked_of (work.Why ask) = why ask.form (option_copied ask.fault) (option_copied ask.terminal)
 asked_of (work.Page analyses made) = page
 
 abbrev pub request_of : Ask → Request

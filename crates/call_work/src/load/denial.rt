@@ -24,6 +24,10 @@ pub enum Denial {
     UnknownScript(Option<Name>),
     /// No timing has the name; this one has the nearest.
     UnknownTiming(Option<Name>),
+    /// No fault has the name; this one has the nearest.
+    UnknownFault(Option<Name>),
+    /// No terminal has the name; this one has the nearest.
+    UnknownTerminal(Option<Name>),
     /// There is no such part of the scripts; there are so many.
     UnknownPart(usize),
     /// No record of a file is the one that is asked about.
@@ -46,6 +50,8 @@ impl Denial {
             Denial::SeveralScripts(_)
             | Denial::UnknownScript(_)
             | Denial::UnknownTiming(_)
+            | Denial::UnknownFault(_)
+            | Denial::UnknownTerminal(_)
             | Denial::UnknownPart(_)
             | Denial::Record(_) => 9,
             Denial::Map(why) => why.status(),

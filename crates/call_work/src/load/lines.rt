@@ -11,6 +11,8 @@ ghost use Rattle.call_work.specs.load.Lines.{part_asked as part_of, part_line as
 ghost use Rattle.call_work.specs.load.Lines.{further_name as further_of, scripts_name as scripts_of};
 ghost use Rattle.call_work.specs.load.Lines.{settings_asked as settings_of};
 ghost use Rattle.call_work.specs.load.Lines.{several_line as several, several_scripts_line as several_scripts};
+ghost use Rattle.call_work.specs.load.Lines.{fault_asked as fault_of, line_name as line_of_source};
+ghost use Rattle.call_work.specs.load.Lines.{terminal_asked as terminal_of};
 ghost use Rattle.call_work.specs.load.Lines.{timing_asked as timing_of, x_asked as x_of, y_asked as y_of};
 ghost use Rattle.call_work.specs.load.Lines.{unknown_line as unknown, unpicked_line as unpicked};
 ghost use Rattle.call_work.specs.load.Nearest.{near_words as words_of_near, quoted};
@@ -120,6 +122,22 @@ pub fn denial_line(
             timing_asked(ask.work),
             *near,
         ),
+        Denial::UnknownFault(near) => {
+            unknown_line(
+                alloc,
+                scripts_name(ask.source),
+                b"fault",
+                fault_asked(ask.work),
+                *near,
+            )
+        }
+        Denial::UnknownTerminal(near) => unknown_line(
+            alloc,
+            line_name(ask.source),
+            b"terminal",
+            terminal_asked(ask.work),
+            *near,
+        ),
         Denial::UnknownPart(parts) => part_line(alloc, ask, *parts),
         Denial::Record(why) => unpicked_line(alloc, ask, *why),
         Denial::Map(why) => map_denial_line(alloc, x_asked(ask.work), y_asked(ask.work), why),
@@ -133,6 +151,16 @@ fn scripts_name(source: Source<'_>) -> &str
 {
     match source {
         Source::Files { scripts, .. } => scripts,
+        Source::Study(study) => study,
+    }
+}
+
+// The file in which the line stands.
+fn line_name(source: Source<'_>) -> &str
+    ensures { result.now ≡ line_of_source (source_of source.entry) }
+{
+    match source {
+        Source::Files { line, .. } => line,
         Source::Study(study) => study,
     }
 }
@@ -154,6 +182,26 @@ fn timing_asked(work: Work<'_>) -> Option<&str>
 {
     match work {
         Work::Play { timing, .. } => timing,
+        _ => None,
+    }
+}
+
+// The fault whose obligations are asked about.
+fn fault_asked(work: Work<'_>) -> Option<&str>
+    ensures { option_copied result ≡ fault_of (asked_of work.entry) }
+{
+    match work {
+        Work::Why(ask) => ask.fault,
+        _ => None,
+    }
+}
+
+// And the terminal.
+fn terminal_asked(work: Work<'_>) -> Option<&str>
+    ensures { option_copied result ≡ terminal_of (asked_of work.entry) }
+{
+    match work {
+        Work::Why(ask) => ask.terminal,
         _ => None,
     }
 }

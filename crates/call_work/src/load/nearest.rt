@@ -2,11 +2,14 @@
 
 ghost use Rattle.std.specs.Prelude.{◌≡◌, IfOk, map};
 ghost use Rattle.std.specs.Option.{option_copied};
-ghost use Rattle.call_work.specs.load.Chosen.{name_of_param, name_of_script, name_of_timing};
+ghost use Rattle.call_work.specs.load.Chosen.{name_of_fault, name_of_param, name_of_script, name_of_terminal};
+ghost use Rattle.call_work.specs.load.Chosen.{name_of_timing};
+ghost use Rattle.call_work.specs.load.Nearest.{IsUnknownFault, IsUnknownTerminal};
 ghost use Rattle.call_work.specs.load.Nearest.{IsNearest, IsUnknown, IsUnknownScript, near_name, nearer as nearer_of, nearest};
 ghost use Rattle.call_work.specs.declared.load.denial.Denial.TheVariants.{UnknownTiming};
 
 use crate::load::denial::Denial;
+use file_study::sweeps::Group;
 use model_line::{Line, Memory, Name, Script};
 use model_timing::NamedTiming;
 use std::alloc::Global;
@@ -52,6 +55,57 @@ pub fn unknown_timing(
         }
         None => Ok(Denial::UnknownTiming(None)),
     }
+}
+
+/// That no fault has the name, and the nearest that one has.
+pub fn unknown_fault(
+    alloc: Global,
+    groups: &[Group],
+    name: Option<&str>,
+) -> Result<Denial, Memory>
+    ensures { IfOk result (IsUnknownFault groups.now (option_copied name.entry)) }
+{
+    match name {
+        Some(name) => {
+            let near = nearest_fault(alloc, groups, name.as_bytes())?;
+            Ok(Denial::UnknownFault(near))
+        }
+        None => Ok(Denial::UnknownFault(None)),
+    }
+}
+
+/// That no terminal has the name, and the nearest that one has.
+pub fn unknown_terminal(alloc: Global, line: &Line, name: Option<&str>) -> Result<Denial, Memory>
+    ensures { IfOk result (IsUnknownTerminal line.now (option_copied name.entry)) }
+{
+    match name {
+        Some(name) => {
+            let near = nearest_terminal(alloc, line, name.as_bytes())?;
+            Ok(Denial::UnknownTerminal(near))
+        }
+        None => Ok(Denial::UnknownTerminal(None)),
+    }
+}
+
+fn nearest_fault(alloc: Global, groups: &[Group], asked: &[u8]) -> Result<Option<Name>, Memory>
+    ensures { IfOk result (IsNearest (map name_of_fault groups.now) asked.now) }
+{
+    let mut near: Option<Near> = None;
+    for i in 0..groups.len() {
+        near = Some(nearer(alloc, near, groups[i].name, asked)?);
+    }
+    Ok(name_in(near))
+}
+
+fn nearest_terminal(alloc: Global, line: &Line, asked: &[u8]) -> Result<Option<Name>, Memory>
+    ensures { IfOk result (IsNearest (map name_of_terminal line.now.terminals.items) asked.now) }
+{
+    let terminals = line.terminals.as_slice();
+    let mut near: Option<Near> = None;
+    for i in 0..terminals.len() {
+        near = Some(nearer(alloc, near, terminals[i].name, asked)?);
+    }
+    Ok(name_in(near))
 }
 
 fn nearest_script(alloc: Global, scripts: &[Script], asked: &[u8]) -> Result<Option<Name>, Memory>

@@ -3,11 +3,12 @@ use Rattle.std.proofs.lemmas.Option.{slice_get_read}
 use Rattle.std.specs.Prelude.{slice_get}
 use Rattle.judge_settle.specs.declared.settle.answer.Settled.{Settled}
 use Rattle.judge_settle.specs.settle.Answers.{IsAnswer}
-use Rattle.call_why.specs.Why.{IsToldOf}
+use Rattle.model_timing.specs.NamedValues.{values_of}
+use Rattle.call_why.specs.Why.{IsReasonOf}
 use Rattle.call_why.proofs.why.look_at.Goals as goal
 
-pub told_of-requires-clause-answer : goal.told_of-requires-clause-answer
-told_of-requires-clause-answer c =
+pub reason_by-requires-clause-answer : goal.reason_by-requires-clause-answer
+reason_by-requires-clause-answer c =
     let settled : List Settled = c.args.settled.now in
     let there : c.in-Some.k < length settled = omega (arith, c.in-Some.ensures.there) in
     let at : slice_get settled c.in-Some.k ≡ Some c.index-settled-k.result =
@@ -18,8 +19,8 @@ told_of-requires-clause-answer c =
     subst (λ (one : Settled). IsAnswer line script c.in-Some.k one.answer) c.index-settled-k.is
     (c.requires.answers.each c.in-Some.k c.index-settled-k.result at).answer
 
-pub returns-in_ok-text-in-Some : goal.returns-in_ok-text-in-Some
-returns-in_ok-text-in-Some c =
+pub returns-in_ok-reason-in-Some : goal.returns-in_ok-reason-in-Some
+returns-in_ok-reason-in-Some c =
     let settled : List Settled = c.args.settled.now in
     let there : c.in-Some.k < length settled = omega (arith, c.in-Some.ensures.there) in
     let at : slice_get settled c.in-Some.k ≡ Some c.index-settled-k.result =
@@ -32,8 +33,8 @@ returns-in_ok-text-in-Some c =
       one = c.index-settled-k.result;
       first = sym c.first_failing.ensures.is ∙ c.in-Some.is;
       at = at;
-      told = subst (λ (one : Settled). IsToldOf c.args.compiled.now.line.now c.args.script.now
-          c.in-Some.k one.answer c.in_ok-text-in-Some.text.items) (sym c.index-settled-k.is)
-          c.in_ok-text-in-Some.ensures;
-      status_is = refl;
+      reason = subst (λ (one : Settled). IsReasonOf c.args.compiled.now.line.now c.args.script.now
+          c.in-Some.k one.answer (values_of c.in_ok-reason-in-Some.reason.named)
+          c.in_ok-reason-in-Some.reason.text.items) (sym c.index-settled-k.is)
+          c.in_ok-reason-in-Some.ensures;
     }

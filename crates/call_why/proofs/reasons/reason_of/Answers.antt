@@ -1,5 +1,4 @@
-use Rattle.std.proofs.lemmas.Result.{IfOk-weaker}
-use Rattle.call_why.proofs.reasons.told_why.Goals as goal
+use Rattle.call_why.proofs.reasons.reason_of.Goals as goal
 
 pub cut-requires-clause-fails : goal.cut-requires-clause-fails
 cut-requires-clause-fails c =
@@ -11,14 +10,12 @@ told_over-requires-clause-inside c = c.in_ok-cut.ensures.fails.inside
 pub returns : goal.returns
 returns c =
     let failing = c.in_ok-cut.ensures.fails.fails in
-    IfOk-weaker c.told_over.result _ _
-    (λ text so. record {
-      cut = c.in_ok-cut.cut;
+    record {
       net = c.args.compiled.now.net.now;
       history = failing.history;
+      name = c.name_of-name.ensures;
       is_cut = c.in_ok-cut.ensures;
       of_line = c.args.compiled.now.of_line;
       is = failing.is;
-      told = so failing.history failing.is;
-    })
-    c.told_over.ensures
+      told = c.in_ok-text.ensures failing.history failing.is;
+    }

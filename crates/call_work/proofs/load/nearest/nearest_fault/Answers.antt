@@ -1,0 +1,17 @@
+use Rattle.std.proofs.Common.{map}
+use Rattle.std.proofs.lemmas.List.{take_all}
+use Rattle.call_work.specs.load.Chosen.{name_of_fault}
+use Rattle.call_work.proofs.load_lemmas.NearestLaws.{near_on, nearest_found}
+use Rattle.call_work.proofs.load.nearest.nearest_fault.Goals as goal
+
+pub loop-i-preserved : goal.loop-i-preserved
+loop-i-preserved c =
+    rw c.in_ok-nearer.ensures
+    (near_on name_of_fault c.args.asked.now c.args.groups.now c.loop-i.i c.index-groups-i.result c.loop-i.near
+    c.loop-i-test.true c.loop-i.invariant)
+
+pub returns : goal.returns
+returns c =
+    rw c.name_in.ensures
+    (nearest_found c.args.asked.now (map name_of_fault c.args.groups.now) c.loop-i.near
+    (rw (take_all c.loop-i.i c.args.groups.now c.loop-i-test.false) at c.loop-i.invariant))
