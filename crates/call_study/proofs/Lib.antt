@@ -5,4 +5,6 @@ pub mod Reading
 pub mod Fetching
 pub mod Mapping
 pub mod Explaining
+pub mod FewLaws
+pub mod Shown
 pub mod Telling

@@ -1,9 +1,7 @@
 //! The few obligations that are asked about, by the names of a fault, a script and a terminal.
 
-ghost use Rattle.std.specs.Prelude.{◌≡◌, IfSome};
-ghost use Rattle.std.specs.List.{All};
+ghost use Rattle.std.specs.Prelude.{◌≡◌};
 ghost use Rattle.std.specs.Option.{option_copied};
-ghost use Rattle.model_line.specs.declared.script.Script.{Script as ScriptOf};
 ghost use Rattle.call_work.specs.load.Few.{number_of_terminal as number_of};
 ghost use Rattle.call_work.specs.load.Few.{script_alone as alone, scripts_named as named};
 ghost use Rattle.call_work.specs.load.Few.{scripts_of_fault as of_fault};
@@ -18,9 +16,8 @@ pub fn scripts_of_fault<'a>(
     scripts: &'a [Script],
     fault: Option<&str>,
 ) -> Option<&'a [Script]>
-    ensures is { option_copied result
+    ensures { option_copied result
         ≡ of_fault groups.now scripts.now (option_copied fault.entry) }
-    ensures all { (P : ScriptOf → Type 0) → All P scripts.now → IfSome result (λ own. All P own.now) }
 {
     match fault {
         None => Some(scripts),
@@ -34,8 +31,7 @@ fn scripts_named<'a>(
     scripts: &'a [Script],
     name: &[u8],
 ) -> Option<&'a [Script]>
-    ensures is { option_copied result ≡ named groups.now scripts.now name.now }
-    ensures all { (P : ScriptOf → Type 0) → All P scripts.now → IfSome result (λ own. All P own.now) }
+    ensures { option_copied result ≡ named groups.now scripts.now name.now }
 {
     match groups {
         [] => None,
@@ -52,8 +48,7 @@ fn scripts_named<'a>(
 
 /// The script of that name alone, or all where none is asked for.
 pub fn script_alone<'a>(scripts: &'a [Script], name: Option<&str>) -> Option<&'a [Script]>
-    ensures is { option_copied result ≡ alone scripts.now (option_copied name.entry) }
-    ensures all { (P : ScriptOf → Type 0) → All P scripts.now → IfSome result (λ own. All P own.now) }
+    ensures { option_copied result ≡ alone scripts.now (option_copied name.entry) }
 {
     match name {
         None => Some(scripts),

@@ -74,13 +74,14 @@ fn colors_of<'a>(own: &ArgMatches<'a>) -> Result<Colors, WordFault<'a>> {
 fn may_be_table(call: &Call<'_>) -> bool {
     match call {
         Call::Study(ask) => match ask.work {
-            Work::Table(Table::Line | Table::Part(_) | Table::Why { .. }) => false,
+            Work::Table(Table::Line | Table::Part(_)) => false,
             Work::Table(_) | Work::Timings { .. } | Work::Explain { .. } | Work::Choose(_) => true,
             Work::Bands { .. }
             | Work::Play { .. }
             | Work::Recheck { .. }
             | Work::Lint
             | Work::Map(_)
+            | Work::Why(_)
             | Work::Page { .. } => false,
         },
         _ => is_table(call),
@@ -109,7 +110,7 @@ fn is_table_of(work: Work<'_>) -> bool {
             | Table::Faults { .. }
             | Table::Races
             | Table::Shots { .. } => true,
-            Table::Trees { .. } | Table::Why { .. } | Table::Line | Table::Part(_) => false,
+            Table::Trees { .. } | Table::Line | Table::Part(_) => false,
         },
         Work::Explain { form, .. } => match form {
             ExplainForm::Changes => true,
@@ -122,6 +123,7 @@ fn is_table_of(work: Work<'_>) -> bool {
         | Work::Recheck { .. }
         | Work::Lint
         | Work::Map(_)
+        | Work::Why(_)
         | Work::Page { .. } => false,
     }
 }

@@ -14,27 +14,36 @@ Show:      page, bands, run, vcd
 Test:      shots
 Exchange:  lines, scripts, comtrade
 
-A study is one file (TOML), as examples/studies has some; in place of it two files
-do, a line and its fault scripts, as `pilot` takes them.
+A study is one file (TOML); examples/studies has some. Two files can stand in for it,
+a line and its fault scripts, as `pilot` takes them.
 
     study verdicts reversal.toml --faults
+    study why reversal.toml --fault reversal
     study page reversal.toml -o reversal.html
     study map reversal.toml '*.z2.pickup=0 ms..30 ms:1 ms' -o map.svg
     study verdicts line.toml scripts.csv
 
 Exit status: 0 done, and all that was asked is held; 1 something fails; 2 something is
-open or suspicious; 3 rejected; 4 usage; 5 to 8 input, output or memory; 9 a name that
-there is not. `study COMMAND --help` says more of a command.";
+open or suspicious; 3 rejected; 4 usage; 5 to 8 input, output or memory; 9 an unknown
+name. `study COMMAND --help` says more of a command.";
 
-// A command: its word, what it is for, its files, its options beside `-o`, and whether it writes three
-// files.
+// A command: its word, what it is for, its files, its options beside `-o`, and what it writes.
 #[derive(Clone, Copy)]
 struct Word {
     name: &'static str,
     about: &'static str,
     files: Files,
     options: &'static [Opt],
-    in_three: bool,
+    output: Output,
+}
+
+// What a command writes: its text, to standard output or to a file; a diagram, to a file, and without one
+// its text; or three files.
+#[derive(Clone, Copy)]
+enum Output {
+    Text,
+    Diagram,
+    ThreeFiles,
 }
 
 // From how many files to how many a command takes, how its help calls them, and what they are.
@@ -179,7 +188,7 @@ const COLOR: Opt = Opt {
     value: Some("WHEN"),
     required: false,
     beside: Beside::Any,
-    help: "Whether columns have colours: always, never or auto, on a terminal without NO_COLOR",
+    help: "Colours in columns: always, never, or auto (on a terminal, unless NO_COLOR is set)",
 };
 
 const PART: Opt = Opt {
@@ -187,7 +196,7 @@ const PART: Opt = Opt {
     value: Some("N"),
     required: false,
     beside: Beside::Any,
-    help: "The part of this number, where there are more than 64; 1 without it",
+    help: "Which part, where there are more than 64 scripts (default: 1)",
 };
 
 const ANALYSES: Opt = Opt {
@@ -195,7 +204,7 @@ const ANALYSES: Opt = Opt {
     value: Some("N"),
     required: false,
     beside: Beside::Any,
-    help: "An obligation is left open once so many analyses are made; 4000 without it",
+    help: "How many analyses an obligation may take before it is left open (default: 4000)",
 };
 
 const ALL_ROWS: Opt = Opt {
@@ -211,7 +220,31 @@ const SCRIPT: Opt = Opt {
     value: Some("NAME"),
     required: false,
     beside: Beside::Any,
-    help: "The name of the script; the first without it",
+    help: "The name of the script (default: the first)",
+};
+
+const FAULT: Opt = Opt {
+    name: "fault",
+    value: Some("NAME"),
+    required: false,
+    beside: Beside::Any,
+    help: "Only the scripts of this fault (default: all faults)",
+};
+
+const ONE_SCRIPT: Opt = Opt {
+    name: "script",
+    value: Some("NAME"),
+    required: false,
+    beside: Beside::Any,
+    help: "Only this script, by the name that `study verdicts` prints (default: all)",
+};
+
+const TERMINAL: Opt = Opt {
+    name: "terminal",
+    value: Some("NAME"),
+    required: false,
+    beside: Beside::Any,
+    help: "Only the obligations of this terminal (default: all)",
 };
 
 const TIMING: Opt = Opt {
@@ -219,7 +252,7 @@ const TIMING: Opt = Opt {
     value: Some("NAME"),
     required: false,
     beside: Beside::Any,
-    help: "The name of the timing; the first without it",
+    help: "The name of the timing (default: the first)",
 };
 
 const SETTLE: &[Opt] = &[
@@ -259,7 +292,7 @@ const EXPORT: &[Opt] = &[
         value: None,
         required: false,
         beside: Beside::Any,
-        help: "Write over files of these names that it did not make",
+        help: "Overwrite files of these names that it did not make",
     },
 ];
 
@@ -276,7 +309,7 @@ const ROOM: Opt = Opt {
     value: Some("T"),
     required: false,
     beside: Beside::Any,
-    help: "How many ticks are to be left to each bound",
+    help: "How many ticks to leave to each bound",
 };
 
 const EXPLAIN: &[Opt] = &[
@@ -292,7 +325,7 @@ const EXPLAIN: &[Opt] = &[
         value: Some("NAME"),
         required: false,
         beside: Beside::Any,
-        help: "The script of the record; without it the file has to have one record alone",
+        help: "The script of the record; needed where the file has several records",
     },
     Opt {
         name: "timings",
@@ -306,7 +339,7 @@ const EXPLAIN: &[Opt] = &[
         value: Some("N"),
         required: false,
         beside: Beside::Any,
-        help: "It ends once so many analyses are made; 20000 without it",
+        help: "How many analyses it may take (default: 20000)",
     },
     TABLE,
     CSV,
@@ -320,49 +353,49 @@ const ANSWERS: &[Word] = &[
         about: "Whether each fault is met at each terminal, script by script, in milliseconds (CSV)",
         files: STUDY,
         options: &[FAULTS, ANALYSES, TABLE, CSV, COLOR],
-        in_three: false,
+        output: Output::Text,
     },
     Word {
         name: "why",
-        about: "Why the first obligation that fails does so: a choice of times, and what waits for what",
+        about: "Why an obligation fails, the first or one that is named: a choice of times, and what waits for what",
         files: STUDY,
-        options: &[ANALYSES],
-        in_three: false,
+        options: &[FAULT, ONE_SCRIPT, TERMINAL, ANALYSES],
+        output: Output::Diagram,
     },
     Word {
         name: "compare",
-        about: "What changed from one version of a study to another, what was held and is not first (CSV)",
+        about: "What changed between two versions of a study; what no longer holds comes first (CSV)",
         files: VERSIONS,
         options: &[ANALYSES, TABLE, CSV, COLOR],
-        in_three: false,
+        output: Output::Text,
     },
     Word {
         name: "lint",
         about: "What is suspicious in files of any kind, or where and why one is refused",
         files: ANY,
         options: &[],
-        in_three: false,
+        output: Output::Text,
     },
     Word {
         name: "settle",
         about: "An answer to each obligation, also where the interval rules leave it open (CSV)",
         files: STUDY,
         options: SETTLE,
-        in_three: false,
+        output: Output::Text,
     },
     Word {
         name: "recheck",
         about: "Whether the trees of `settle --trees` are so, without trusting who made them",
         files: TREES,
         options: &[],
-        in_three: false,
+        output: Output::Text,
     },
     Word {
         name: "explain",
-        about: "A timing whose play is what the field recorded, each change within some ticks; or that there is none",
+        about: "Whether some timing explains what the field recorded, each change within some ticks, and which",
         files: RECORD,
         options: EXPLAIN,
-        in_three: false,
+        output: Output::Text,
     },
 ];
 
@@ -370,31 +403,31 @@ const ANSWERS: &[Word] = &[
 const CHOICES: &[Word] = &[
     Word {
         name: "choose",
-        about: "Which values of each setting hold, where it stands, and what to write (CSV)",
+        about: "For each setting the values that hold, where it stands, and what to write (CSV)",
         files: SETTINGS,
         options: &[ROOM, TABLE, CSV, COLOR],
-        in_three: false,
+        output: Output::Text,
     },
     Word {
         name: "margins",
         about: "How far each end of each interval can move with all held that is held today (CSV)",
         files: STUDY,
         options: &[TABLE, CSV, COLOR],
-        in_three: false,
+        output: Output::Text,
     },
     Word {
         name: "races",
-        about: "What each external fault has to spare, as what ends and what begins (CSV)",
+        about: "What each external fault has to spare: what ends, what begins, and the time between (CSV)",
         files: STUDY,
         options: &[TABLE, CSV, COLOR],
-        in_three: false,
+        output: Output::Text,
     },
     Word {
         name: "map",
         about: "Where all obligations are held as one setting or two move (SVG)",
         files: AXES,
         options: &[CELLS, ANALYSES],
-        in_three: false,
+        output: Output::Text,
     },
 ];
 
@@ -405,35 +438,35 @@ const PICTURES: &[Word] = &[
         about: "The whole study as one page (HTML), to print and to sign",
         files: STUDY,
         options: &[ANALYSES],
-        in_three: false,
+        output: Output::Text,
     },
     Word {
         name: "shots",
-        about: "What an end-to-end test plays: of each fault the script that tells most, and what is expected (CSV)",
+        about: "Shots for an end-to-end test: of each fault the script that tells most, and what to expect (CSV)",
         files: STUDY,
         options: &[STATES, DELAYS, ANALYSES, TABLE, CSV, COLOR],
-        in_three: false,
+        output: Output::Text,
     },
     Word {
         name: "bands",
         about: "Every choice of delays at once as a timing diagram (SVG)",
         files: STUDY,
         options: &[SCRIPT, ALL_ROWS],
-        in_three: false,
+        output: Output::Text,
     },
     Word {
         name: "run",
         about: "A play as a timing diagram (SVG): the script under one timing",
         files: TIMINGS,
         options: &[TIMING, SCRIPT, ALL_ROWS],
-        in_three: false,
+        output: Output::Text,
     },
     Word {
         name: "vcd",
         about: "A play as a value change dump (VCD) of every gate, for a waveform viewer",
         files: TIMINGS,
         options: &[TIMING, SCRIPT],
-        in_three: false,
+        output: Output::Text,
     },
 ];
 
@@ -444,14 +477,14 @@ const FILES: &[Word] = &[
         about: "The line as a line file for `pilot` (TOML, in ticks)",
         files: STUDY,
         options: &[],
-        in_three: false,
+        output: Output::Text,
     },
     Word {
         name: "scripts",
         about: "The scripts as a scripts file for `pilot` (CSV), 64 at most",
         files: STUDY,
         options: &[PART],
-        in_three: false,
+        output: Output::Text,
     },
 ];
 
@@ -462,28 +495,28 @@ const RECORDS: &[Word] = &[
         about: "What the relays saw, as a scripts file for `pilot` with one script",
         files: MAP,
         options: &[],
-        in_three: false,
+        output: Output::Text,
     },
     Word {
         name: "record",
         about: "What the relays keyed and when they tripped, as a record file for `pilot match` and `explain`",
         files: MAP,
         options: &[],
-        in_three: false,
+        output: Output::Text,
     },
     Word {
         name: "show",
         about: "One record for each channel that the map names: its signal, and when it first changes (CSV)",
         files: MAP,
         options: &[TABLE, CSV, COLOR],
-        in_three: false,
+        output: Output::Text,
     },
     Word {
         name: "export",
         about: "A play as a record: NAME.cfg, NAME.dat, and NAME.toml, the map that reads them back",
         files: TIMINGS,
         options: EXPORT,
-        in_three: true,
+        output: Output::ThreeFiles,
     },
 ];
 
@@ -548,7 +581,7 @@ fn written<'a>(alloc: Global, word: Word) -> Result<Command<'a>, AllocError> {
     for opt in word.options {
         command = command.arg(option_of(alloc, *opt)?)?;
     }
-    command.arg(output_of(alloc, word.in_three))
+    command.arg(output_of(alloc, word.output))
 }
 
 fn files_of<'a>(alloc: Global, files: Files) -> Arg<'a> {
@@ -572,19 +605,18 @@ fn option_of<'a>(alloc: Global, opt: Opt) -> Result<Arg<'a>, AllocError> {
     }
 }
 
-// Where the text of a command goes: to standard output or to a file; or to three files.
-fn output_of<'a>(alloc: Global, in_three: bool) -> Arg<'a> {
-    let output = Arg::new(alloc, "output")
-        .short('o')
-        .long("output")
-        .required(in_three);
-    if in_three {
-        output
-            .value_name("NAME")
-            .help("What the names of the three files begin with")
-    } else {
-        output.value_name("FILE").help(
-            "The file to write; standard output without it, or where it is -",
-        )
+// Where what a command writes goes.
+fn output_of<'a>(alloc: Global, output: Output) -> Arg<'a> {
+    let arg = Arg::new(alloc, "output").short('o').long("output");
+    match output {
+        Output::Text => arg.value_name("FILE").help(
+            "The file to write (default: -, standard output)",
+        ),
+        Output::Diagram => arg.value_name("FILE").help(
+            "The file to write its timing diagram to (SVG), in place of the words; not written where nothing fails",
+        ),
+        Output::ThreeFiles => arg.required(true).value_name("NAME").help(
+            "What the names of the three files begin with",
+        ),
     }
 }

@@ -8,7 +8,7 @@ use crate::look::{Look, look_of};
 use base_text::store::number;
 use call_ask::{
     Ask, ChooseAsk, ExplainForm, Form, MapAsk, MapForm, RecordsAsk, RecordsWork, ShotsForm, Source,
-    Table, Work,
+    Table, WhyAsk, WhyForm, Work,
 };
 use clap::ArgMatches;
 use draw_shapes::Rows;
@@ -246,7 +246,7 @@ fn work_of<'a>(
         "recheck" => Work::Recheck { trees: *last },
         "margins" => Work::Table(Table::Margins),
         "races" => Work::Table(Table::Races),
-        "why" => Work::Table(Table::Why { analyses }),
+        "why" => why_of(own, analyses),
         "shots" => Work::Table(shots_of(own, analyses)),
         "run" => played(own, *last, diagram(own)),
         "vcd" => played(own, *last, Form::Dump),
@@ -286,6 +286,7 @@ fn source_of<'a>(work: Work<'_>, files: &[&'a str]) -> Result<Source<'a>, WordFa
         | Work::Table(_)
         | Work::Timings { .. }
         | Work::Lint
+        | Work::Why(_)
         | Work::Page { .. } => files.len(),
     };
     match &files[..own] {
@@ -355,6 +356,19 @@ fn shots_of(own: &ArgMatches<'_>, analyses: u32) -> Table {
         ShotsForm::Expected
     };
     Table::Shots { form, analyses }
+}
+
+// Why an obligation fails, in words; as a diagram where an output is named.
+fn why_of<'a>(own: &ArgMatches<'a>, analyses: u32) -> Work<'a> {
+    Work::Why(WhyAsk {
+        fault: own.get_str("fault"),
+        terminal: own.get_str("terminal"),
+        form: match own.get_str("output") {
+            None => WhyForm::Words,
+            Some(_) => WhyForm::Diagram { made: MADE },
+        },
+        analyses,
+    })
 }
 
 // A map over the words from the first axis on: one or two.

@@ -1,5 +1,8 @@
 //! Exit statuses that are not those of an answer.
 
+/// Something that was asked about fails.
+pub const FAILS: u8 = 1;
+
 /// Words that ask for nothing, or that would write over a file that they should not.
 pub const USAGE: u8 = 4;
 

@@ -47,3 +47,13 @@ pub fn tell_input<'a>(rt: &HostRuntime, name: &'a str, what: &'a str) {
         ],
     );
 }
+
+/// Tells that no obligation fails, so that there is no picture of one to write.
+pub fn tell_no_picture<'a>(rt: &HostRuntime, name: &'a str, status: u8) {
+    let found: &[u8] = if status == 0 {
+        b"study: nothing fails: "
+    } else {
+        b"study: nothing is known to fail, and something is open: "
+    };
+    tell(rt, &[found, name.as_bytes(), b" is not written\n"]);
+}
