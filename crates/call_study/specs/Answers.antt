@@ -69,7 +69,7 @@ answer_of (reading.explain within form which line scripts record_bytes) =
 answer_of (reading.map form x y made both of) =
     map_answer of.line of.scripts form x y made both
 answer_of (reading.choose rows room of) = choose_answer of.line of.scripts rows room
-answer_of (reading.why form line scripts terminal) = why_answer form line scripts terminal
+answer_of (reading.reason form line scripts terminal) = why_answer form line scripts terminal
 answer_of (reading.page of) = page_answer of.line of.scripts of.groups of.title
 
 -- it is done

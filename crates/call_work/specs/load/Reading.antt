@@ -47,7 +47,7 @@ pub data Wanted : Type 0 where
   explain : ℕ → ExplainForm → Option ℕ → Line → List Script → List ℕ → Wanted
   map : MapForm → List ℕ → Option (List ℕ) → List ℕ → Both → Studied → Wanted
   choose : List Row → Option ℕ → Studied → Wanted
-  why : WhyForm → Line → List Script → Option ℕ → Wanted
+  reason : WhyForm → Line → List Script → Option ℕ → Wanted
   page : Studied → Wanted
 
 -- what holds of what is wanted, or of why it can't be done
@@ -219,7 +219,7 @@ of_named None IsWhy halted holds = denied_by IsWhy halted
 abbrev pub why_at : WhyForm → Line → List Script → Option (List ℕ) → Reading
 why_at form line scripts terminal halted holds =
     of_named (number_of_terminal line terminal) (IsUnknownTerminal line terminal) halted
-    (λ asked. holds (why form line scripts asked))
+    (λ asked. holds (reason form line scripts asked))
 
 abbrev pub why_among : WhyForm → Line → List Script → Option (List ℕ) → Option (List ℕ) → Reading
 why_among form line scripts script terminal halted holds =

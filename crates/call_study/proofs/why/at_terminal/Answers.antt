@@ -1,21 +1,15 @@
 use Rattle.std.proofs.Common.{None, Some, refl}
-use Rattle.std.specs.List.{All}
 use Rattle.std.specs.Option.{option_copied}
-use Rattle.model_line.specs.Fits.{Fits}
-use Rattle.call_study.specs.Answers.{answer_by}
-use Rattle.call_work.specs.load.Few.{scripts_of_fault}
-use Rattle.call_work.specs.load.Loaded.{studied}
-use Rattle.call_work.specs.load.Reading.{why_among, why_in}
-use Rattle.call_study.proofs.FewLaws.{fault_fit}
-use Rattle.call_study.proofs.Reading.{gives_wider}
-use Rattle.call_study.proofs.Shown.{none_named, of_some, one_named}
+use Rattle.call_study.proofs.Shown.{none_named, one_named}
+use Rattle.call_work.specs.load.Few.{number_of_terminal}
 use Rattle.call_study.proofs.why.at_terminal.Goals as goal
 
 pub returns-in_default : goal.returns-in_default
-returns-in_default c = ?
+returns-in_default c =
+    none_named _ _ _ (number_of_terminal c.args.compiled.now.line.now (option_copied c.args.ask.now.terminal))
+    c.in_default.ensures (_, (c.in_ok-why.ensures, (refl, refl)))
 
-pub among-requires : goal.among-requires
-among-requires c = ?
-
-pub returns : goal.returns
-returns c = ?
+pub returns-in_ok-said : goal.returns-in_ok-said
+returns-in_ok-said c =
+    one_named _ _ _ (number_of_terminal c.args.compiled.now.line.now (option_copied c.args.ask.now.terminal))
+    c.in-Some.terminal c.in-Some.ensures c.in_ok-said.ensures

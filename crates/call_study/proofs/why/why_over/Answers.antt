@@ -12,10 +12,35 @@ use Rattle.call_study.proofs.Shown.{none_named, of_some, one_named}
 use Rattle.call_study.proofs.why.why_over.Goals as goal
 
 pub returns-in_default : goal.returns-in_default
-returns-in_default c = ?
+returns-in_default c =
+    let loaded = c.args.loaded.now in
+    none_named _ _ _ (scripts_of_fault loaded.groups.items loaded.study.scripts.items
+    (option_copied c.args.ask.now.fault))
+    ?
+    (_, (?, (refl, refl)))
 
 pub among-requires : goal.among-requires
-among-requires c = ?
+among-requires c =
+    let loaded = c.args.loaded.now in
+    let fault = option_copied c.args.ask.now.fault in
+    of_some (All (Fits loaded.study.line))
+    (scripts_of_fault loaded.groups.items loaded.study.scripts.items fault) c.in-Some.own.now ?
+    (fault_fit (Fits loaded.study.line) loaded.groups.items loaded.study.scripts.items fault
+    c.requires.fit)
 
 pub returns : goal.returns
-returns c = ?
+returns c =
+    let loaded = c.args.loaded.now in
+    let line = loaded.study.line in
+    let fault = option_copied c.args.ask.now.fault in
+    let form = c.args.ask.now.form in
+    let script = option_copied c.args.script in
+    let terminal = option_copied c.args.ask.now.terminal in
+    gives_wider
+    (answer_by (why_among form line c.in-Some.own.now script terminal))
+    (answer_by (why_in form (studied loaded) fault script terminal))
+    c.among.result
+    (λ end text said. one_named _ _ _
+    (scripts_of_fault loaded.groups.items loaded.study.scripts.items fault) c.in-Some.own.now ?
+    said)
+    c.among.ensures
