@@ -64,6 +64,10 @@ pub enum Work<'a> {
     Map(MapAsk<'a>),
     /// Which values of settings hold, where they stand, and what to write.
     Choose(ChooseAsk<'a>),
+    /// For which times of its stages each fault is held, after at most so many analyses of each.
+    Times {
+        analyses: u32,
+    },
     /// The page of the whole study, with at most so many analyses for each obligation.
     Page {
         analyses: u32,

@@ -11,6 +11,7 @@ mod page;
 mod pictures;
 mod read;
 mod settled;
+mod times;
 mod top;
 
 pub use top::study;

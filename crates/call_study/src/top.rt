@@ -13,6 +13,7 @@ use crate::linted::lint_said;
 use crate::map::map;
 use crate::page::page;
 use crate::read::{bands, play, recheck, table, timings};
+use crate::times::times;
 use base_files::{Reason, Reasoned};
 use base_text::store::{Sink, put_all};
 use call_answer::{Done, Said};
@@ -135,6 +136,7 @@ fn said_over(alloc: Global, ask: &Ask<'_>, fetched: &Fetched) -> Result<Said, Ha
         }
         Work::Map(axes) => map(alloc, bytes, &axes),
         Work::Choose(settings) => choose(alloc, bytes, &settings),
+        Work::Times { analyses } => times(alloc, bytes, analyses),
         Work::Page { analyses, made } => page(alloc, bytes, analyses, made),
     }
 }

@@ -53,6 +53,7 @@ fn further_of<'a>(work: Work<'a>) -> Option<Input<'a>> {
         | Work::Lint
         | Work::Map(_)
         | Work::Choose(_)
+        | Work::Times { .. }
         | Work::Page { .. } => None,
     }
 }

@@ -246,6 +246,7 @@ fn work_of<'a>(
         "recheck" => Work::Recheck { trees: *last },
         "margins" => Work::Table(Table::Margins),
         "races" => Work::Table(Table::Races),
+        "times" => Work::Times { analyses },
         "why" => Work::Table(Table::Why { analyses }),
         "shots" => Work::Table(shots_of(own, analyses)),
         "run" => played(own, *last, diagram(own)),
@@ -286,6 +287,7 @@ fn source_of<'a>(work: Work<'_>, files: &[&'a str]) -> Result<Source<'a>, WordFa
         | Work::Table(_)
         | Work::Timings { .. }
         | Work::Lint
+        | Work::Times { .. }
         | Work::Page { .. } => files.len(),
     };
     match &files[..own] {

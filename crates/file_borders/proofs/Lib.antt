@@ -4,3 +4,4 @@ pub mod Whats
 pub mod Spans
 pub mod Alike
 pub mod Faults
+pub mod Studies

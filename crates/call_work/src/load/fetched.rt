@@ -92,6 +92,7 @@ fn fetch_further<S: Store>(alloc: Global, work: Work<'_>, store: &mut S) -> Resu
         | Work::Lint
         | Work::Map(_)
         | Work::Choose(_)
+        | Work::Times { .. }
         | Work::Page { .. } => Ok(Vec::new(alloc)),
     }
 }
