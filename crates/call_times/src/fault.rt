@@ -1,41 +1,57 @@
 //! What is told of a fault.
 
+ghost use Rattle.std.specs.Prelude.{◌≡◌, IfOk};
+ghost use Rattle.std.specs.List.{All};
+ghost use Rattle.file_borders.specs.Studies.{IsAnswerable};
+ghost use Rattle.call_times.specs.Times.{Adds, OfFault, OfFaults};
+
+use crate::found::{Found, both, nothing};
 use crate::played::played_on;
-use crate::rows::push_stretch;
+use crate::terminals::push_terminals;
 use file_borders::LooseFault;
 use judge_borders::{Asked, Fault};
-use judge_times::{Along, Stretch, Uncertain, answers, stretches};
+use judge_times::Uncertain;
 use judge_verdict::verdict::declared_spans;
+use model_line::laws::{delays_are_parameters, parameters_are_numbered};
 use model_line::{Line, Memory};
 use net_compile::compile;
 use net_gates::Compiled;
 use std::alloc::Global;
 
-/// Whether something fails, and whether something is open.
-#[derive(Clone, Copy)]
-pub(crate) struct Found {
-    pub fails: bool,
-    pub open: bool,
-}
-
-impl Found {
-    /// What is found of two things.
-    pub(crate) fn and(self, other: Found) -> Found {
-        Found {
-            fails: self.fails || other.fails,
-            open: self.open || other.open,
+/// Appends the records of faults, one after another, of each after at most so many analyses.
+pub(crate) fn push_faults(
+    alloc: Global,
+    text: &mut Vec<u8>,
+    exact: &Compiled<'_>,
+    faults: &[LooseFault],
+    analyses: u32,
+) -> Result<Found, Memory>
+    requires { All (IsAnswerable exact.now.line.now) faults.now }
+    ensures { IfOk result (Adds (OfFaults exact.now.line.now faults.now) text.old.items text.new.items) }
+{
+    match faults {
+        [] => Ok(nothing()),
+        [fault, more @ ..] => {
+            let first = push_fault(alloc, text, exact, fault, analyses)?;
+            let others = push_faults(alloc, text, exact, more, analyses)?;
+            Ok(both(first, others))
         }
     }
 }
 
-/// Appends the records of a fault at each terminal, after at most so many analyses.
-pub(crate) fn push_fault(
+// Appends the records of a fault at each terminal, over a line that is played on.
+fn push_fault(
     alloc: Global,
     text: &mut Vec<u8>,
     exact: &Compiled<'_>,
     fault: &LooseFault,
     analyses: u32,
-) -> Result<Found, Memory> {
+) -> Result<Found, Memory>
+    requires { IsAnswerable exact.now.line.now fault.now }
+    ensures { IfOk result (Adds (OfFault exact.now.line.now fault.now) text.old.items text.new.items) }
+{
+    delays_are_parameters();
+    parameters_are_numbered();
     let long = played_on(alloc, exact.line, fault.part.as_slice())?;
     let net = compile(alloc, &long)?;
     let compiled = Compiled {
@@ -57,60 +73,16 @@ pub(crate) fn push_fault(
 }
 
 // What is asked of a fault: its deadline is counted from its start.
-fn asked_of(line: &Line, fault: &LooseFault) -> Asked {
+fn asked_of(line: &Line, fault: &LooseFault) -> Asked
+    ensures kind { result.kind ≡ fault.now.kind }
+    ensures counted { result.counted ≡ 0 }
+    ensures within { result.within ≡ fault.now.within }
+    ensures end { result.end ≡ line.now.horizon }
+{
     Asked {
         kind: fault.kind,
         counted: 0,
         within: fault.within,
         end: line.horizon,
-    }
-}
-
-// Appends the records at each terminal.
-fn push_terminals(
-    alloc: Global,
-    text: &mut Vec<u8>,
-    of: &Uncertain<'_>,
-    fault: &LooseFault,
-) -> Result<Found, Memory> {
-    let answered = answers(alloc, of, fault.part.as_slice())?;
-    let parts = answered.parts.as_slice();
-    let line = of.exact.line;
-    let mut found = Found {
-        fails: false,
-        open: false,
-    };
-    for k in 0..line.terminals.len() as u32 {
-        let own = stretches(alloc, parts, fault.part.as_slice(), k)?;
-        let here = push_stretches(alloc, text, line, fault, k, own.as_slice())?;
-        found = found.and(here);
-    }
-    Ok(found)
-}
-
-// Appends the records of stretches.
-fn push_stretches(
-    alloc: Global,
-    text: &mut Vec<u8>,
-    line: &Line,
-    fault: &LooseFault,
-    terminal: u32,
-    all: &[Stretch],
-) -> Result<Found, Memory> {
-    let mut found = Found {
-        fails: false,
-        open: false,
-    };
-    for stretch in all {
-        push_stretch(alloc, text, line, fault, terminal, stretch)?;
-        found = found.and(found_of(stretch.told));
-    }
-    Ok(found)
-}
-
-fn found_of(told: Along) -> Found {
-    Found {
-        fails: matches!(told, Along::Fails),
-        open: matches!(told, Along::Open),
     }
 }

@@ -1,14 +1,24 @@
 //! The records of a fault at a terminal.
 
+ghost use Rattle.std.specs.Prelude.{◌≡◌, ◌++◌, IfOk, OnOk};
+ghost use Rattle.base_text.specs.lines.Milliseconds.{ticks_text};
+ghost use Rattle.csv.specs.Writing.{row_text, default_writer};
+ghost use Rattle.call_times.specs.Rows.{along_text, joined_text, place_text as place_words};
+ghost use Rattle.call_times.specs.Rows.{stretch_record, stretch_rows, times_header};
+ghost use Rattle.call_times.specs.Times.{found_in};
+
+use crate::found::{Found, both, found_of, nothing};
 use base_records::push_record;
 use base_text::lines::push_ticks;
 use file_borders::LooseFault;
 use judge_times::{Along, Stretch};
-use model_line::{Kind, Line, Memory, name_of_terminal};
+use model_line::{Line, Memory, kind_word, name_of_terminal};
 use std::alloc::Global;
 
 /// Appends the header.
-pub(crate) fn push_header(alloc: Global, text: &mut Vec<u8>) -> Result<(), Memory> {
+pub(crate) fn push_header(alloc: Global, text: &mut Vec<u8>) -> Result<(), Memory>
+    ensures { OnOk result (text.new.items ≡ text.old.items ++ row_text default_writer times_header) }
+{
     push_record(
         alloc,
         text,
@@ -24,19 +34,45 @@ pub(crate) fn push_header(alloc: Global, text: &mut Vec<u8>) -> Result<(), Memor
     )
 }
 
-/// Appends the record of a stretch of a fault at a terminal.
-pub(crate) fn push_stretch(
+/// Appends the records of stretches of a fault at a terminal: whether one fails, and whether one is open.
+pub(crate) fn push_stretches(
     alloc: Global,
     text: &mut Vec<u8>,
     line: &Line,
     fault: &LooseFault,
     terminal: u32,
-    stretch: &Stretch,
-) -> Result<(), Memory> {
-    let (mut from, mut to) = (Vec::new(alloc), Vec::new(alloc));
-    push_ticks(&mut from, line.tick_us, stretch.from)?;
-    push_ticks(&mut to, line.tick_us, stretch.to)?;
-    let place = place_text(alloc, line.tick_us, stretch.place.as_slice())?;
+    all: &[Stretch],
+) -> Result<Found, Memory>
+    ensures text { OnOk result (text.new.items
+        ≡ text.old.items ++ stretch_rows line.now fault.now terminal all.now) }
+    ensures found { IfOk result (λ found. found ≡ found_in all.now) }
+{
+    match all {
+        [] => Ok(nothing()),
+        [one, more @ ..] => {
+            push_stretch(alloc, text, line, fault, terminal, one)?;
+            let further = push_stretches(alloc, text, line, fault, terminal, more)?;
+            Ok(both(found_of(one.told), further))
+        }
+    }
+}
+
+// Appends the record of a stretch of a fault at a terminal.
+#[tactic(auto, unfolding(crate::specs::Rows::stretch_record))]
+fn push_stretch(
+    alloc: Global,
+    text: &mut Vec<u8>,
+    line: &Line,
+    fault: &LooseFault,
+    terminal: u32,
+    one: &Stretch,
+) -> Result<(), Memory>
+    ensures { OnOk result (text.new.items
+        ≡ text.old.items ++ row_text default_writer (stretch_record line.now fault.now terminal one.now)) }
+{
+    let from = time_text(alloc, line.tick_us, one.from)?;
+    let to = time_text(alloc, line.tick_us, one.to)?;
+    let place = place_text(alloc, line.tick_us, one.place.as_slice(), one.told)?;
     push_record(
         alloc,
         text,
@@ -46,32 +82,62 @@ pub(crate) fn push_stretch(
             kind_word(fault.kind),
             from.as_slice(),
             to.as_slice(),
-            along_word(stretch.told),
+            along_word(one.told),
             place.as_slice(),
         ],
     )
 }
 
-// Times in milliseconds, joined by `/`.
-fn place_text(alloc: Global, tick_us: u32, place: &[u32]) -> Result<Vec<u8>, Memory> {
+// A time in milliseconds.
+fn time_text(alloc: Global, tick_us: u32, t: u32) -> Result<Vec<u8>, Memory>
+    ensures { IfOk result (λ text. text.items ≡ ticks_text tick_us t) }
+{
     let mut text = Vec::new(alloc);
-    for i in 0..place.len() {
-        if i > 0 {
-            text.push(b'/')?;
-        }
-        push_ticks(&mut text, tick_us, place[i])?;
+    push_ticks(&mut text, tick_us, t)?;
+    Ok(text)
+}
+
+// A place, where something fails.
+fn place_text(alloc: Global, tick_us: u32, place: &[u32], told: Along) -> Result<Vec<u8>, Memory>
+    ensures { IfOk result (λ text. text.items ≡ place_words tick_us place.now told) }
+{
+    let mut text = Vec::new(alloc);
+    if let Along::Fails = told {
+        push_joined(&mut text, b"", tick_us, place)?;
     }
     Ok(text)
 }
 
-fn kind_word(kind: Kind) -> &'static [u8] {
-    match kind {
-        Kind::Internal => b"internal",
-        Kind::External => b"external",
+// Appends times in milliseconds, the first behind this, the others behind `/`.
+fn push_joined(
+    text: &mut Vec<u8>,
+    before: &[u8],
+    tick_us: u32,
+    place: &[u32],
+) -> Result<(), Memory>
+    ensures { OnOk result (text.new.items ≡ text.old.items ++ joined_text before.now tick_us place.now) }
+{
+    match place {
+        [] => Ok(()),
+        [t, more @ ..] => {
+            push_behind(text, before, tick_us, *t)?;
+            push_joined(text, b"/", tick_us, more)
+        }
     }
 }
 
-fn along_word(told: Along) -> &'static [u8] {
+// Appends a time behind this.
+fn push_behind(text: &mut Vec<u8>, before: &[u8], tick_us: u32, t: u32) -> Result<(), Memory>
+    ensures { OnOk result (text.new.items ≡ text.old.items ++ (before.now ++ ticks_text tick_us t)) }
+{
+    text.extend_from_slice(before)?;
+    push_ticks(text, tick_us, t)?;
+    Ok(())
+}
+
+fn along_word(told: Along) -> &'static [u8]
+    ensures { result.now ≡ along_text told }
+{
     match told {
         Along::Held => b"held",
         Along::Fails => b"fails",

@@ -1,6 +1,13 @@
 //! What the command says.
 
-use crate::fault::{Found, push_fault};
+ghost use Rattle.std.specs.Prelude.{◌≡◌, IfOk};
+ghost use Rattle.std.specs.List.{All};
+ghost use Rattle.call_answer.specs.{Answers.Says, Answers.status_by};
+ghost use Rattle.file_borders.specs.Studies.{IsAnswerable};
+ghost use Rattle.call_times.specs.Times.{times_answer};
+
+use crate::fault::push_faults;
+use crate::found::Found;
 use crate::rows::push_header;
 use call_answer::{Done, Said};
 use file_borders::LooseFault;
@@ -15,24 +22,22 @@ pub fn times_table(
     compiled: &Compiled<'_>,
     faults: &[LooseFault],
     analyses: u32,
-) -> Result<Said, Memory> {
+) -> Result<Said, Memory>
+    requires { All (IsAnswerable compiled.now.line.now) faults.now }
+    ensures { IfOk result (Says (times_answer compiled.now.line.now faults.now)) }
+{
     let mut text = Vec::new(alloc);
     push_header(alloc, &mut text)?;
-    let mut found = Found {
-        fails: false,
-        open: false,
-    };
-    for fault in faults {
-        let own = push_fault(alloc, &mut text, compiled, fault, analyses)?;
-        found = found.and(own);
-    }
+    let found = push_faults(alloc, &mut text, compiled, faults, analyses)?;
     Ok(Said {
         status: status_of(found),
         text,
     })
 }
 
-fn status_of(found: Found) -> Done {
+fn status_of(found: Found) -> Done
+    ensures { result ≡ status_by found.fails found.open }
+{
     if found.fails {
         Done::SomeNo
     } else if found.open {

@@ -33,6 +33,12 @@ pub fn push_borders_words(text: &mut Vec<u8>, why: &BordersFault) -> Result<(), 
             &[b"it has more than 100 begins and ends of what is seen; write fewer stages"],
         ),
         BordersFault::Horizon(ticks, tick_us) => push_horizon_words(text, *ticks, *tick_us),
+        BordersFault::PlayedLong(_, _) => push_pieces(
+            text,
+            &[
+                b"the line is played on for as long as its times may move, for more than 4000 ticks in all; write narrower intervals, a shorter horizon or a longer tick_us",
+            ],
+        ),
     }
 }
 

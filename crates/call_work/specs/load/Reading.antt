@@ -3,6 +3,9 @@
 use Rattle.std.specs.Prelude.{◌≡◌, ◌∷◌, ℕ, List, [], Option, None, Some}
 use Rattle.std.specs.Prelude.{Result, Ok, Err, if◌then◌else◌, length, nat_le, option_map, slice_get}
 use Rattle.file_study.specs.sweeps.Parts.{is_part, parts_of}
+use Rattle.file_study.specs.study.Studies.{loose_study_of}
+use Rattle.file_borders.specs.declared.loose.LooseFault.{LooseFault}
+use Rattle.file_borders.specs.declared.study.StudyBordersFault.TheVariants as borders_fault
 use Rattle.draw_shapes.specs.declared.rows.Rows.{Rows}
 use Rattle.model_line.specs.{declared.line.Line.Line, declared.script.Script.Script}
 use Rattle.model_timing.specs.NamedValues.{NamedValues}
@@ -31,7 +34,7 @@ use Rattle.call_work.specs.load.Request as request
 use Rattle.call_work.specs.{load.Chosen.chosen_script, load.Chosen.chosen_timing}
 use Rattle.call_work.specs.load.Nearest.{IsUnknownScript, IsUnknownTiming}
 use Rattle.call_work.specs.load.Request.{Asked, Request, Source}
-use Rattle.call_work.specs.load.Studied.{Given, Studied, of_files, of_study_file, refused_by}
+use Rattle.call_work.specs.load.Studied.{Given, Studied, of_files, of_study_file, of_times, refused_by, times_halt}
 
 -- what is asked for, over what the files say
 pub data Wanted : Type 0 where
@@ -44,6 +47,7 @@ pub data Wanted : Type 0 where
   explain : ℕ → ExplainForm → Option ℕ → Line → List Script → List ℕ → Wanted
   map : MapForm → List ℕ → Option (List ℕ) → List ℕ → Both → Studied → Wanted
   choose : List Row → Option ℕ → Studied → Wanted
+  times : Line → List LooseFault → Wanted
   page : Studied → Wanted
 
 -- what holds of what is wanted, or of why it can't be done
@@ -206,6 +210,12 @@ choose_of settings room given halted holds =
     (of_rows (chosen_rows studied.line settings) halted
     (λ rows. holds (choose rows room studied))))
 
+-- times of faults, which only a study file has
+abbrev pub times_of : Source → Reading
+times_of (request.files line_bytes scripts_bytes) halted holds = halted (times_halt borders_fault.NoTimes)
+times_of (request.study study_bytes) halted holds =
+    of_times (loose_study_of study_bytes) halted (λ line faults. holds (times line faults))
+
 -- the page
 abbrev pub page_of : Given → Reading
 page_of given halted holds =
@@ -231,6 +241,7 @@ over_source from script (request.explain _ within form) (record_bytes ∷ []) =
     explain_of within form (given from) record_bytes script
 over_source from script (request.map form x y made) [] = map_of form x y made (given from)
 over_source from script (request.choose settings room) [] = choose_of settings room (given from)
+over_source from script request.times [] = times_of from
 over_source from script request.page [] = page_of (given from)
 over_source from script asked bytes = λ halted holds. ⊥
 

@@ -175,7 +175,8 @@ impl From<Stopped<StudySweepFault>> for Halt {
 }
 
 impl From<Stopped<StudyBordersFault>> for Halt {
-    ghost use Rattle.call_work.specs.load.Loaded.{halt_by, times_halt};
+    ghost use Rattle.call_work.specs.load.Loaded.{halt_by};
+    ghost use Rattle.call_work.specs.load.Studied.{times_halt};
 
     ghost from_gives = { λ why halt. halt ≡ halt_by times_halt why };
 

@@ -1,4 +1,4 @@
-use Rattle.std.proofs.Common.{◌≡◌, List, ap, subst, arith, ◌∙◌, map}
+use Rattle.std.proofs.Common.{List, subst, arith, map}
 use Rattle.file_study.specs.declared.study.stage.SweptFault.{SweptFault}
 use Rattle.file_study.specs.study.Faults.{fault_values}
 use Rattle.file_borders.specs.Studies.{AreLooseOf, with_intervals}
