@@ -32,6 +32,10 @@ delay_same line long on c =
     ∙ ap (λ (l : List Channel). unwrap_or (setting_number (line_settings line.scheme line.terminals.items l)
     (owner.Channel c) Delay) 0) on.channels
 
+pub span_at : (line : Line) (spans : List Ends) → spans ≡ declared_spans line → (i : ℕ)
+    → get_or spans i (single 0) ≡ declared_ends line i
+span_at line spans is i = ap (λ (l : List Ends). get_or l i (single 0)) is ∙ span_own line.params.items i
+
 box_by : (ℕ → Ends) → (ℕ → ℕ → Ends) → Box
 box_by ends delay = record { ends = ends; delay = delay }
 

@@ -62,7 +62,7 @@ module _ (goes : EachHistoryGoesOn) (of : Uncertain) (whole : List Ends) (posed 
       → AreBetween (asked_of of whole) from to n x → Onward whole n x h
       → MeetsAt n x of.fault (length whole) (h.trip k)
   held_by from to n x h is some at (late, g, fine, shown, iff) =
-      iff.0 (is n x late g some at.are at.from at.to fine shown)
+      iff.0 (is n x late g some at.are at.low at.high fine shown)
 
   held : (from to : ℕ) → IsHeldAlong of whole k from to → IsHeld (asked_of of whole) k from to
   held from to is = λ n x choice h some at inside is_h.

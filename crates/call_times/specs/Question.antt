@@ -60,8 +60,8 @@ ForEach q AtTimes Fact =
 -- all times of the question, the first of them from one tick to the other
 pub record AreBetween (q : Question) (from to n : ℕ) (x : ℕ → ℕ) : Type 0 where
   pub are : AreLengthsIn n q.part x
-  pub from : from * n ≤ x 0
-  pub to : x 0 ≤ to * n
+  pub low : from * n ≤ x 0
+  pub high : x 0 ≤ to * n
 
 -- at each of these times terminal k is as it is asked
 abbrev pub IsHeld : Question → ℕ → ℕ → ℕ → Type 0

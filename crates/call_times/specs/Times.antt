@@ -12,15 +12,18 @@ use Rattle.call_times.specs.Question.{AreTold, question_of}
 use Rattle.call_times.specs.Rows.{stretch_rows, times_header}
 
 abbrev pub nothing : Found
-nothing = record { fails = false; open = false }
+nothing = record { some_fails = false; some_open = false }
 
 abbrev pub and_found : Found → Found → Found
-and_found one other = record { fails = one.fails || other.fails; open = one.open || other.open }
+and_found one other = record {
+  some_fails = one.some_fails || other.some_fails;
+  some_open = one.some_open || other.some_open;
+}
 
 abbrev pub found_of : Along → Found
 found_of along.Held = nothing
-found_of along.Fails = record { fails = true; open = false }
-found_of along.Open = record { fails = false; open = true }
+found_of along.Fails = record { some_fails = true; some_open = false }
+found_of along.Open = record { some_fails = false; some_open = true }
 
 abbrev pub found_in : List Stretch → Found
 found_in [] = nothing
@@ -70,7 +73,7 @@ pub record AreTimesTold (line : Line) (faults : List LooseFault) (status : Done)
   pub found : Found
   pub rows : List ℕ
   pub are : OfFaults line faults found rows
-  pub status_is : status ≡ status_by found.fails found.open
+  pub status_is : status ≡ status_by found.some_fails found.some_open
   pub text_is : text ≡ row_text default_writer times_header ++ rows
 
 abbrev pub times_answer : Line → List LooseFault → Answers

@@ -2,6 +2,8 @@
 
 ghost use Rattle.std.specs.Prelude.{◌≡◌, IfOk};
 ghost use Rattle.std.specs.List.{All};
+ghost use Rattle.model_fine.specs.Onward.{IsPlayedOn};
+ghost use Rattle.judge_verdict.specs.verdict.Spans.{declared_spans as spans_of};
 ghost use Rattle.file_borders.specs.Studies.{IsAnswerable};
 ghost use Rattle.call_times.specs.Times.{Adds, OfFault, OfFaults};
 
@@ -12,10 +14,11 @@ use file_borders::LooseFault;
 use judge_borders::{Asked, Fault};
 use judge_times::Uncertain;
 use judge_verdict::verdict::declared_spans;
-use model_line::laws::{delays_are_parameters, parameters_are_numbered};
-use model_line::{Line, Memory};
+use model_line::laws::delays_are_parameters;
+use model_line::Memory;
 use net_compile::compile;
 use net_gates::Compiled;
+use run_signal::Within;
 use std::alloc::Global;
 
 /// Appends the records of faults, one after another, of each after at most so many analyses.
@@ -39,7 +42,7 @@ pub(crate) fn push_faults(
     }
 }
 
-// Appends the records of a fault at each terminal, over a line that is played on.
+// Appends the records of a fault at each terminal.
 fn push_fault(
     alloc: Global,
     text: &mut Vec<u8>,
@@ -50,8 +53,6 @@ fn push_fault(
     requires { IsAnswerable exact.now.line.now fault.now }
     ensures { IfOk result (Adds (OfFault exact.now.line.now fault.now) text.old.items text.new.items) }
 {
-    delays_are_parameters();
-    parameters_are_numbered();
     let long = played_on(alloc, exact.line, fault.part.as_slice())?;
     let net = compile(alloc, &long)?;
     let compiled = Compiled {
@@ -59,30 +60,39 @@ fn push_fault(
         net: &net,
     };
     let spans = declared_spans(alloc, exact.line)?;
+    push_over(alloc, text, &compiled, spans.as_slice(), exact, fault, analyses)
+}
+
+// The same over the line that is played on.
+fn push_over<'a>(
+    alloc: Global,
+    text: &mut Vec<u8>,
+    compiled: &'a Compiled<'a>,
+    spans: &'a [Within],
+    exact: &'a Compiled<'a>,
+    fault: &'a LooseFault,
+    analyses: u32,
+) -> Result<Found, Memory>
+    requires can { IsAnswerable exact.now.line.now fault.now }
+    requires on { IsPlayedOn exact.now.line.now compiled.now.line.now }
+    requires spans { spans.now ≡ spans_of exact.now.line.now }
+    ensures { IfOk result (Adds (OfFault exact.now.line.now fault.now) text.old.items text.new.items) }
+{
+    delays_are_parameters();
     let of = Uncertain {
         fault: Fault {
-            compiled: &compiled,
-            spans: spans.as_slice(),
+            compiled,
+            spans,
             script: &fault.script,
-            asked: asked_of(exact.line, fault),
+            asked: Asked {
+                kind: fault.kind,
+                counted: 0,
+                within: fault.within,
+                end: exact.line.horizon,
+            },
         },
         exact,
         analyses,
     };
     push_terminals(alloc, text, &of, fault)
-}
-
-// What is asked of a fault: its deadline is counted from its start.
-fn asked_of(line: &Line, fault: &LooseFault) -> Asked
-    ensures kind { result.kind ≡ fault.now.kind }
-    ensures counted { result.counted ≡ 0 }
-    ensures within { result.within ≡ fault.now.within }
-    ensures end { result.end ≡ line.now.horizon }
-{
-    Asked {
-        kind: fault.kind,
-        counted: 0,
-        within: fault.within,
-        end: line.horizon,
-    }
 }

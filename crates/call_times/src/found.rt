@@ -8,8 +8,8 @@ use judge_times::Along;
 /// Whether something fails, and whether something is open.
 #[derive(Clone, Copy)]
 pub struct Found {
-    pub fails: bool,
-    pub open: bool,
+    pub some_fails: bool,
+    pub some_open: bool,
 }
 
 /// Nothing fails, and nothing is open.
@@ -17,8 +17,8 @@ pub(crate) fn nothing() -> Found
     ensures { result ≡ nothing_found }
 {
     Found {
-        fails: false,
-        open: false,
+        some_fails: false,
+        some_open: false,
     }
 }
 
@@ -29,12 +29,12 @@ pub(crate) fn found_of(told: Along) -> Found
     match told {
         Along::Held => nothing(),
         Along::Fails => Found {
-            fails: true,
-            open: false,
+            some_fails: true,
+            some_open: false,
         },
         Along::Open => Found {
-            fails: false,
-            open: true,
+            some_fails: false,
+            some_open: true,
         },
     }
 }
@@ -44,7 +44,7 @@ pub(crate) fn both(one: Found, other: Found) -> Found
     ensures { result ≡ and_found one other }
 {
     Found {
-        fails: one.fails || other.fails,
-        open: one.open || other.open,
+        some_fails: one.some_fails || other.some_fails,
+        some_open: one.some_open || other.some_open,
     }
 }

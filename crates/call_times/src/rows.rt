@@ -59,10 +59,10 @@ pub(crate) fn push_stretches(
 
 // Appends the record of a stretch of a fault at a terminal.
 #[tactic(auto, unfolding(crate::specs::Rows::stretch_record))]
-fn push_stretch(
+fn push_stretch<'a>(
     alloc: Global,
     text: &mut Vec<u8>,
-    line: &Line,
+    line: &'a Line,
     fault: &LooseFault,
     terminal: u32,
     one: &Stretch,
@@ -73,16 +73,20 @@ fn push_stretch(
     let from = time_text(alloc, line.tick_us, one.from)?;
     let to = time_text(alloc, line.tick_us, one.to)?;
     let place = place_text(alloc, line.tick_us, one.place.as_slice(), one.told)?;
+    let name = fault.script.name;
+    let at: &'a [u8] = name_of_terminal(line, terminal);
+    let kind: &'a [u8] = kind_word(fault.kind);
+    let answer: &'a [u8] = along_word(one.told);
     push_record(
         alloc,
         text,
         &[
-            fault.script.name.bytes(),
-            name_of_terminal(line, terminal),
-            kind_word(fault.kind),
+            name.bytes(),
+            at,
+            kind,
             from.as_slice(),
             to.as_slice(),
-            along_word(one.told),
+            answer,
             place.as_slice(),
         ],
     )

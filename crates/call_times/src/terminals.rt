@@ -54,5 +54,6 @@ fn push_terminal(
 {
     each_history_goes_on();
     let own = stretches(alloc, parts, fault.part.as_slice(), k)?;
-    push_stretches(alloc, text, of.exact.line, fault, k, own.as_slice())
+    let found = push_stretches(alloc, text, of.exact.line, fault, k, own.as_slice())?;
+    Ok(found)
 }

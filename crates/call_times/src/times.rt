@@ -36,11 +36,11 @@ pub fn times_table(
 }
 
 fn status_of(found: Found) -> Done
-    ensures { result ≡ status_by found.fails found.open }
+    ensures { result ≡ status_by found.some_fails found.some_open }
 {
-    if found.fails {
+    if found.some_fails {
         Done::SomeNo
-    } else if found.open {
+    } else if found.some_open {
         Done::SomeUndecided
     } else {
         Done::Good
