@@ -1,6 +1,6 @@
 -- What is told, one thing after another.
-use Rattle.std.proofs.Common.{◌≡◌, ◌≤◌, ◌<◌, ◌+◌, ◌-◌, ◌++◌, ℕ, suc, arith, Bool, false, List, [], ◌∷◌, length, take, drop, refl, ap, sym, ◌∙◌, subst}
-use Rattle.std.specs.Prelude.{◌||◌, get_or}
+use Rattle.std.proofs.Common.{◌≡◌, ◌≤◌, ◌<◌, ◌+◌, ◌-◌, ◌++◌, ℕ, suc, arith, List, [], ◌∷◌, length, take, drop, refl, ap, sym, ◌∙◌, subst}
+use Rattle.std.specs.Prelude.{get_or}
 use Rattle.std.proofs.lemmas.List.{append-nil, append_assoc, take_rest}
 use Rattle.model_line.specs.declared.line.Line.{Line}
 use Rattle.file_borders.specs.declared.loose.LooseFault.{LooseFault}

@@ -1,10 +1,8 @@
 -- What is told over the line that is played on is so over the line itself.
-use Rattle.std.proofs.Common.{◌≡◌, ◌≤◌, ◌<◌, ◌+◌, ◌*◌, ◌⊎◌, inl, inr, ℕ, Bool, List, length, refl, sym, ap, subst, arith, ◌∙◌}
+use Rattle.std.proofs.Common.{◌≡◌, ◌≤◌, ◌<◌, ◌+◌, ◌*◌, ◌⊎◌, inl, inr, ℕ, List, length, refl, sym, subst}
 use Rattle.std.specs.Prelude.{◌↔◌, get_or}
-use Rattle.std.specs.List.{All}
-use Rattle.model_history.specs.Rails.{Ends, single}
+use Rattle.model_history.specs.Rails.{Ends}
 use Rattle.model_line.specs.declared.line.Line.{Line}
-use Rattle.model_line.specs.declared.script.Script.{Script}
 use Rattle.model_line.specs.Parameters.{terminal_count}
 use Rattle.model_logic.specs.Choice.{Box, Choice, declared_box}
 use Rattle.model_logic.specs.Histories.{History}
@@ -14,12 +12,12 @@ use Rattle.judge_borders.specs.declared.fault.PartRule.TheVariants as rule
 use Rattle.judge_borders.specs.{Onward.EachHistoryGoesOn, Onward.IsAskedWithin}
 use Rattle.judge_borders.specs.Parts.{MeetsAt, RuleSays, box_of, line_of}
 use Rattle.judge_times.specs.Answers.{FailsAt, exact_of}
-use Rattle.judge_times.specs.Stretches.{AreStretches, FailsThere, IsHeldAlong, IsPlace, IsStretch, SaysAlong, times_of}
+use Rattle.judge_times.specs.Stretches.{AreStretches, FailsThere, IsHeldAlong, IsStretch, SaysAlong, times_of}
 use Rattle.judge_times.specs.declared.fault.Uncertain.{Uncertain}
 use Rattle.judge_times.specs.declared.stretch.{Along.Along, Stretch.Stretch}
 use Rattle.judge_times.specs.declared.stretch.Along.TheVariants.{Held, Fails, Open}
 use Rattle.call_times.specs.Posed.{IsPosed, asked_of}
-use Rattle.call_times.specs.Question.{AreBetween, AreTold, FailsFrom, HasTiming, IsBroken, IsHeld, IsTold, Meets, Tells}
+use Rattle.call_times.specs.Question.{AreBetween, AreTold, FailsFrom, HasTiming, IsBroken, IsHeld, IsTold, Tells}
 use Rattle.call_times.proofs.Boxes.{box_is}
 
 module _ (goes : EachHistoryGoesOn) (of : Uncertain) (whole : List Ends) (posed : IsPosed of whole) (k : ℕ)

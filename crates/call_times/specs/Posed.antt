@@ -4,7 +4,7 @@ use Rattle.model_history.specs.Rails.{Ends}
 use Rattle.model_fine.specs.Onward.{IsPlayedOn}
 use Rattle.model_borders.specs.Borders.{stands}
 use Rattle.judge_verdict.specs.verdict.Spans.{declared_spans}
-use Rattle.judge_borders.specs.Parts.{CanAsk, IsPart, line_of}
+use Rattle.judge_borders.specs.Parts.{IsPart, line_of}
 use Rattle.judge_times.specs.Answers.{CanAnswer, exact_of}
 use Rattle.judge_times.specs.declared.fault.Uncertain.{Uncertain}
 use Rattle.call_times.specs.Question.{Question}

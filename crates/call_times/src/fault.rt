@@ -14,8 +14,8 @@ use file_borders::LooseFault;
 use judge_borders::{Asked, Fault};
 use judge_times::Uncertain;
 use judge_verdict::verdict::declared_spans;
-use model_line::laws::delays_are_parameters;
 use model_line::Memory;
+use model_line::laws::delays_are_parameters;
 use net_compile::compile;
 use net_gates::Compiled;
 use run_signal::Within;
@@ -60,7 +60,15 @@ fn push_fault(
         net: &net,
     };
     let spans = declared_spans(alloc, exact.line)?;
-    push_over(alloc, text, &compiled, spans.as_slice(), exact, fault, analyses)
+    push_over(
+        alloc,
+        text,
+        &compiled,
+        spans.as_slice(),
+        exact,
+        fault,
+        analyses,
+    )
 }
 
 // The same over the line that is played on.

@@ -113,12 +113,7 @@ fn place_text(alloc: Global, tick_us: u32, place: &[u32], told: Along) -> Result
 }
 
 // Appends times in milliseconds, the first behind this, the others behind `/`.
-fn push_joined(
-    text: &mut Vec<u8>,
-    before: &[u8],
-    tick_us: u32,
-    place: &[u32],
-) -> Result<(), Memory>
+fn push_joined(text: &mut Vec<u8>, before: &[u8], tick_us: u32, place: &[u32]) -> Result<(), Memory>
     ensures { OnOk result (text.new.items ≡ text.old.items ++ joined_text before.now tick_us place.now) }
 {
     match place {

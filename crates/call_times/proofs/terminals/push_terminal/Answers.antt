@@ -1,4 +1,4 @@
-use Rattle.std.proofs.Common.{◌≡◌, ◌++◌, ℕ, List, sym, ap, subst, ◌∙◌}
+use Rattle.std.proofs.Common.{◌++◌, List, sym, ap, subst, ◌∙◌}
 use Rattle.model_history.specs.Rails.{Ends}
 use Rattle.judge_times.specs.Answers.{AreAnswers, exact_of}
 use Rattle.judge_times.specs.Stretches.{AreStretches}
