@@ -6,7 +6,7 @@ ghost use Rattle.call_refused.specs.told.Told.{IsToldAt};
 use crate::places::place_of_key;
 use crate::told::one_line::told;
 use crate::told::study::place_of_item;
-use crate::words::times::{NO_TIMES, push_borders_words};
+use crate::words::times::{WRITE_TIMES, push_borders_words};
 use base_memory::Memory;
 use file_borders::StudyBordersFault;
 use std::alloc::Global;
@@ -24,7 +24,7 @@ pub fn refused_times(
     match fault {
         StudyBordersFault::NoTimes => {
             let at = place_of_key(alloc, bytes, b"fault")?;
-            told(alloc, name, bytes, at, "", &[NO_TIMES])
+            told(alloc, name, bytes, at, "no stage lasts for an interval", &[WRITE_TIMES])
         }
         StudyBordersFault::Refused(i, own, why) => {
             let at = place_of_item(alloc, bytes, b"fault", *i, b"name")?;

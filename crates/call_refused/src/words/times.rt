@@ -5,9 +5,9 @@ use base_text::lines::push_ms;
 use base_text::pieces::push_pieces;
 use file_borders::BordersFault;
 
-/// What is said of a study of which no stage lasts for an interval.
-pub const NO_TIMES: &[u8] =
-    b"no stage lasts for an interval; write one, as lasts = \"8 .. 120 ms\", without `by`, or ask `study verdicts`";
+/// What to write in a study of which no stage lasts for an interval.
+pub const WRITE_TIMES: &[u8] =
+    b"; write one, as lasts = \"8 .. 120 ms\", without `by`, or ask `study verdicts`";
 
 /// Appends what is wrong, and what to write.
 pub fn push_borders_words(text: &mut Vec<u8>, why: &BordersFault) -> Result<(), Memory> {
