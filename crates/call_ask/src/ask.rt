@@ -67,6 +67,10 @@ pub enum Work<'a> {
     Choose(ChooseAsk<'a>),
     /// Why the first obligation that fails does so.
     Why(WhyAsk<'a>),
+    /// For which times of its stages each fault is held, after at most so many analyses of each.
+    Times {
+        analyses: u32,
+    },
     /// The page of the whole study, with at most so many analyses for each obligation.
     Page {
         analyses: u32,

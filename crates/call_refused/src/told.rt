@@ -12,6 +12,7 @@ mod record;
 mod records;
 mod study;
 mod sweep;
+mod times;
 mod text;
 
 pub use line::refused_line;
@@ -20,4 +21,5 @@ pub use record::refused_record;
 pub use records::{refused_scripts, refused_timings};
 pub use study::{place_of_item, refused_map, refused_study};
 pub use sweep::refused_sweep;
+pub use times::refused_times;
 pub use text::{refused_text, too_long};

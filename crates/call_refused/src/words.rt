@@ -18,6 +18,7 @@ pub mod said;
 pub mod slip;
 pub mod studies;
 pub mod sweeps;
+pub mod times;
 pub mod value;
 mod wrong;
 

@@ -12,6 +12,7 @@ use Rattle.call_work.specs.explain.Explain.{explain_answer}
 use Rattle.call_choose.specs.Answers.{choose_answer}
 use Rattle.call_work.specs.map.Answers.{map_answer}
 use Rattle.call_page.specs.Pages.{page_answer}
+use Rattle.call_times.specs.Times.{times_answer}
 use Rattle.call_tables.specs.{Margins.margins_answer, Recheck.recheck_answer}
 use Rattle.call_tables.specs.Settled.{settle_answer}
 use Rattle.call_races.specs.Races.{races_answer}
@@ -70,6 +71,7 @@ answer_of (reading.map form x y made both of) =
     map_answer of.line of.scripts form x y made both
 answer_of (reading.choose rows room of) = choose_answer of.line of.scripts rows room
 answer_of (reading.reason form line scripts terminal) = why_answer form line scripts terminal
+answer_of (reading.times line faults) = times_answer line faults
 answer_of (reading.page of) = page_answer of.line of.scripts of.groups of.title
 
 -- it is done

@@ -12,6 +12,7 @@ mod page;
 mod pictures;
 mod read;
 mod settled;
+mod times;
 mod top;
 mod why;
 

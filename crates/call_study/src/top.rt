@@ -14,6 +14,7 @@ use crate::map::map;
 use crate::page::page;
 use crate::read::{bands, play, recheck, table, timings};
 use crate::why::why;
+use crate::times::times;
 use base_files::{Reason, Reasoned};
 use base_text::store::{Sink, put_all};
 use call_answer::{Done, Said};
@@ -137,6 +138,7 @@ fn said_over(alloc: Global, ask: &Ask<'_>, fetched: &Fetched) -> Result<Said, Ha
         Work::Map(axes) => map(alloc, bytes, &axes),
         Work::Choose(settings) => choose(alloc, bytes, &settings),
         Work::Why(which) => why(alloc, bytes, &which, script),
+        Work::Times { analyses } => times(alloc, bytes, analyses),
         Work::Page { analyses, made } => page(alloc, bytes, analyses, made),
     }
 }

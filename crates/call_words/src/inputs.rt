@@ -54,6 +54,7 @@ fn further_of<'a>(work: Work<'a>) -> Option<Input<'a>> {
         | Work::Map(_)
         | Work::Choose(_)
         | Work::Why(_)
+        | Work::Times { .. }
         | Work::Page { .. } => None,
     }
 }

@@ -75,7 +75,11 @@ fn may_be_table(call: &Call<'_>) -> bool {
     match call {
         Call::Study(ask) => match ask.work {
             Work::Table(Table::Line | Table::Part(_)) => false,
-            Work::Table(_) | Work::Timings { .. } | Work::Explain { .. } | Work::Choose(_) => true,
+            Work::Table(_)
+            | Work::Timings { .. }
+            | Work::Explain { .. }
+            | Work::Choose(_)
+            | Work::Times { .. } => true,
             Work::Bands { .. }
             | Work::Play { .. }
             | Work::Recheck { .. }
@@ -116,7 +120,7 @@ fn is_table_of(work: Work<'_>) -> bool {
             ExplainForm::Changes => true,
             ExplainForm::Timings => false,
         },
-        Work::Choose(_) => true,
+        Work::Choose(_) | Work::Times { .. } => true,
         Work::Bands { .. }
         | Work::Play { .. }
         | Work::Timings { .. }

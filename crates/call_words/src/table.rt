@@ -9,7 +9,7 @@ const VERSION: &str = "0.32.0";
 
 // What the help says behind the commands.
 const AFTER: &str = "Answer:    verdicts, why, compare, lint, settle, recheck, explain
-Choose:    choose, margins, races, map
+Choose:    choose, margins, races, times, map
 Show:      page, bands, run, vcd
 Test:      shots
 Exchange:  lines, scripts, comtrade
@@ -79,6 +79,14 @@ const STUDY: Files = Files {
     most: 2,
     names: &["STUDY | LINE", "SCRIPTS"],
     help: "A study file; or a line file and a file of fault scripts",
+};
+
+// A study with times that are intervals.
+const TIMED: Files = Files {
+    least: 1,
+    most: 1,
+    names: &["STUDY"],
+    help: "A study file, some stages of which last for intervals, as lasts = \"8 .. 120 ms\"",
 };
 
 // Two versions of a study.
@@ -420,6 +428,13 @@ const CHOICES: &[Word] = &[
         about: "What each external fault has to spare: what ends, what begins, and the time between (CSV)",
         files: STUDY,
         options: &[TABLE, CSV, COLOR],
+        output: Output::Text,
+    },
+    Word {
+        name: "times",
+        about: "For which times of its stages each fault is held, and where it fails (CSV)",
+        files: TIMED,
+        options: &[ANALYSES, TABLE, CSV, COLOR],
         output: Output::Text,
     },
     Word {

@@ -247,6 +247,7 @@ fn work_of<'a>(
         "margins" => Work::Table(Table::Margins),
         "races" => Work::Table(Table::Races),
         "why" => why_of(own, analyses),
+        "times" => Work::Times { analyses },
         "shots" => Work::Table(shots_of(own, analyses)),
         "run" => played(own, *last, diagram(own)),
         "vcd" => played(own, *last, Form::Dump),
@@ -287,6 +288,7 @@ fn source_of<'a>(work: Work<'_>, files: &[&'a str]) -> Result<Source<'a>, WordFa
         | Work::Timings { .. }
         | Work::Lint
         | Work::Why(_)
+        | Work::Times { .. }
         | Work::Page { .. } => files.len(),
     };
     match &files[..own] {

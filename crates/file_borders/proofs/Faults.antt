@@ -21,6 +21,7 @@ use Rattle.file_borders.specs.Loose.{IsAccepted, IsLooseOf, has_one_time}
 use Rattle.file_borders.proofs.Times.{at_time, no_times, place, some, stands_at}
 use Rattle.file_borders.proofs.Spans.{both_of, here, holds}
 use Rattle.file_borders.proofs.Alike.{Grows, all_drawn}
+use Rattle.file_borders.proofs.Begins.{Starts, first_stands, starts_drawn}
 use Rattle.file_borders.proofs.Steps.{as_many, few_ticks, many_drawn}
 
 one_of : (n : ℕ) → nat_eq n 1 ≡ true → n ≡ 1
@@ -162,6 +163,14 @@ module _ (f : FaultValues) (accepted : IsAccepted f) (loose : LooseFault) (ats :
         (record { borders = record { ticks = get_or f.start 0 0; lengths = 0 } ∷ []; spans = [] }) in
         omega (arith, one, two, three, accepted.borders);
     within = omega (arith, within, (few_ticks f accepted.ends).1);
+    within_is = within;
+    starts = λ n x.
+        first_stands n (length loose.part.items) x (record { ticks = get_or f.start 0 0; lengths = 0 }) ats
+        loose.script.borders.items refl
+        (subst (λ (a : List At). Starts (record { ticks = get_or f.start 0 0; lengths = 0 }) a) (sym ats_are)
+        (starts_drawn (record { ticks = get_or f.start 0 0; lengths = 0 }) (record { ticks = get_or f.start 0 0; lengths = 0 }) 0
+        f.stages (record { borders = record { ticks = get_or f.start 0 0; lengths = 0 } ∷ []; spans = [] }) refl))
+        are;
     deadline = λ x is internal.
         deadline f accepted x (inside x is) (sym kind ∙ internal)
         ∙ ap (λ (n : ℕ). n + get_or f.trip_within 0 0) (sym (begins f accepted x (inside x is)))

@@ -121,7 +121,7 @@ least_below (s ∷ stages) =
 pub first_below : (l : List ℕ) → get_or l 0 0 ≤ greatest l
 first_below = least_greatest
 
-most : (a b n : ℕ) → max a b ≤ n → (a ≤ n) × (b ≤ n)
+pub most : (a b n : ℕ) → max a b ≤ n → (a ≤ n) × (b ≤ n)
 most a b n le = (omega (arith, le), omega (arith, le))
 
 -- the ticks of a fault whose horizon is small

@@ -1,3 +1,4 @@
 pub mod Drawn
 pub mod Exact
 pub mod Loose
+pub mod Studies

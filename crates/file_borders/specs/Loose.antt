@@ -1,5 +1,5 @@
 -- The script of a fault whose times are not known, and which faults have none.
-use Rattle.std.specs.Prelude.{◌≡◌, ◌≤◌, ◌+◌, ◌&&◌, ◌==◌, ℕ, Bool, Option, None, Some}
+use Rattle.std.specs.Prelude.{◌≡◌, ◌≤◌, ◌+◌, ◌*◌, ◌&&◌, ◌==◌, ℕ, Bool, Option, None, Some}
 use Rattle.std.specs.Prelude.{length, get_or, nat_le, IsTrue, if◌then◌else◌}
 use Rattle.std.specs.List.{list_all}
 use Rattle.model_line.specs.declared.line.Line.{Line}
@@ -55,6 +55,9 @@ pub record IsLooseOf (f : FaultValues) (loose : LooseFault) : Type 0 where
   pub few : length loose.part.items ≤ 3
   pub borders : length loose.script.borders.items ≤ 100
   pub within : loose.within ≤ 4000
+  pub within_is : loose.within ≡ get_or f.trip_within 0 0
+  pub starts : (n : ℕ) (x : ℕ → ℕ)
+      → stands n loose.script.borders.items (length loose.part.items) x 0 ≡ get_or f.start 0 0 * n
   pub deadline : (x : ℕ → ℕ) → AreLengthsIn 1 loose.part.items x → loose.kind ≡ Internal
       → (exact_script x f).deadline
       ≡ stands 1 loose.script.borders.items (length loose.part.items) x 0 + loose.within

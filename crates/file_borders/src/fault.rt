@@ -13,4 +13,7 @@ pub enum BordersFault {
     ComesLate,
     /// More than 100 begins and ends of what is seen.
     TooManyBorders,
+    /// The line is played on for as many ticks as its times may move: so many, of so many microseconds each, and at
+    /// most 4,000.
+    PlayedLong(u32, u32),
 }

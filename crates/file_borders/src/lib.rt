@@ -10,7 +10,11 @@ mod drawn;
 mod fault;
 mod loose;
 mod part;
+mod room;
+mod study;
 
 pub use drawn::{At, Drawn};
 pub use fault::BordersFault;
 pub use loose::{LooseFault, is_loose, loose_fault};
+pub use room::played_ticks;
+pub use study::{StudyBordersFault, loose_faults};

@@ -1,10 +1,10 @@
 //! The script of a fault whose times are not known.
 
 ghost use Rattle.std.specs.Prelude.{◌≡◌, None, Some, IfErr, IfOk, OnOk};
-ghost use Rattle.std.specs.List.{list_any};
 ghost use Rattle.base_memory.specs.Gives.{OfFault};
 ghost use Rattle.file_study.specs.study.Faults.{fault_values};
 ghost use Rattle.file_borders.specs.Loose.{IsAccepted, IsLooseOf, refusal_of};
+ghost use Rattle.file_borders.specs.Studies.{has_interval};
 
 use crate::checks::check;
 use crate::drawn::{draw, first_of};
@@ -30,7 +30,7 @@ pub struct LooseFault {
 
 /// Whether a stage of a fault lasts for an interval.
 pub fn is_loose(fault: &SweptFault) -> bool
-    ensures { result ≡ list_any (λ s. s.between) (fault_values fault.now).stages }
+    ensures { result ≡ has_interval (fault_values fault.now) }
 {
     for stage in &fault.stages {
         if stage.between {

@@ -30,7 +30,7 @@ fn key_said(fault: &DocumentFault, path: &[u8], value: &[u8]) -> Said<'static> {
         ),
         DocumentFault::NoInstant(_) => words(
             "one time stands here, without a tolerance",
-            "one time, as \"50 ms\", or of a fault a sweep, as \"8 .. 16 ms by 1 ms\"",
+            "one time, as \"50 ms\", or of a fault a sweep, as \"8 .. 16 ms by 1 ms\"; `study times` takes a stage that lasts for any time of an interval",
         ),
         DocumentFault::TooMany(_) => words("a sweep has at most 1000 values", "a longer step"),
         DocumentFault::NotToml

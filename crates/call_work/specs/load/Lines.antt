@@ -144,6 +144,7 @@ IsRefusalLine r Has refusal.UnknownParameter line = line ≡ []
 abbrev pub IsDenialLine : Request → HasBytes → Denial → List ℕ → Type 0
 IsDenialLine r Has (denial.Study why) line = IsToldIn r Has file.Study line
 IsDenialLine r Has (denial.Scripts why) line = IsToldIn r Has file.Study line
+IsDenialLine r Has (denial.Times why) line = IsToldIn r Has file.Study line
 IsDenialLine r Has (denial.TooManyScripts there most) line =
     line ≡ many_line (scripts_name r.source) there most
 IsDenialLine r Has (denial.SeveralScripts there) line =

@@ -3,6 +3,9 @@
 use Rattle.std.specs.Prelude.{◌≡◌, ◌∷◌, ℕ, List, [], Option, None, Some}
 use Rattle.std.specs.Prelude.{Result, Ok, Err, if◌then◌else◌, length, nat_le, option_map, slice_get}
 use Rattle.file_study.specs.sweeps.Parts.{is_part, parts_of}
+use Rattle.file_study.specs.study.Studies.{loose_study_of}
+use Rattle.file_borders.specs.declared.loose.LooseFault.{LooseFault}
+use Rattle.file_borders.specs.declared.study.StudyBordersFault.TheVariants as borders_fault
 use Rattle.draw_shapes.specs.declared.rows.Rows.{Rows}
 use Rattle.model_line.specs.{declared.line.Line.Line, declared.script.Script.Script}
 use Rattle.model_timing.specs.NamedValues.{NamedValues}
@@ -34,7 +37,7 @@ use Rattle.call_work.specs.load.Few.{number_of_terminal, script_alone, scripts_o
 use Rattle.call_work.specs.load.Nearest.{IsUnknownFault, IsUnknownScript, IsUnknownTerminal}
 use Rattle.call_work.specs.load.Nearest.{IsUnknownTiming}
 use Rattle.call_work.specs.load.Request.{Asked, Request, Source}
-use Rattle.call_work.specs.load.Studied.{Given, Studied, of_files, of_study_file, refused_by}
+use Rattle.call_work.specs.load.Studied.{Given, Studied, of_files, of_study_file, of_times, refused_by, times_halt}
 
 -- what is asked for, over what the files say
 pub data Wanted : Type 0 where
@@ -48,6 +51,7 @@ pub data Wanted : Type 0 where
   map : MapForm → List ℕ → Option (List ℕ) → List ℕ → Both → Studied → Wanted
   choose : List Row → Option ℕ → Studied → Wanted
   reason : WhyForm → Line → List Script → Option ℕ → Wanted
+  times : Line → List LooseFault → Wanted
   page : Studied → Wanted
 
 -- what holds of what is wanted, or of why it can't be done
@@ -236,6 +240,11 @@ abbrev pub why_of : WhyForm → Given → Option (List ℕ) → Option (List ℕ
 why_of form given fault script terminal halted holds =
     given halted (λ studied. unless_denied (at_most 4096000 (length studied.scripts)) halted
     (why_in form studied fault script terminal halted holds))
+-- times of faults, which only a study file has
+abbrev pub times_of : Source → Reading
+times_of (request.files line_bytes scripts_bytes) halted holds = halted (times_halt borders_fault.NoTimes)
+times_of (request.study study_bytes) halted holds =
+    of_times (loose_study_of study_bytes) halted (λ line faults. holds (times line faults))
 
 -- the page
 abbrev pub page_of : Given → Reading
@@ -264,6 +273,7 @@ over_source from script (request.map form x y made) [] = map_of form x y made (g
 over_source from script (request.choose settings room) [] = choose_of settings room (given from)
 over_source from script (request.why form fault terminal) [] =
     why_of form (given from) fault script terminal
+over_source from script request.times [] = times_of from
 over_source from script request.page [] = page_of (given from)
 over_source from script asked bytes = λ halted holds. ⊥
 

@@ -9,6 +9,9 @@ use Rattle.file_study.specs.sweeps.Groups.{group_values, single_group}
 use Rattle.file_study.specs.declared.sweeps.group.Group.{Group}
 use Rattle.file_study.specs.sweeps.Studies.{AreScriptsOf, IsStudyRefused}
 use Rattle.file_study.specs.declared.sweeps.study_fault.StudySweepFault.{StudySweepFault}
+use Rattle.file_borders.specs.Studies as borders
+use Rattle.file_borders.specs.Studies.{AreLooseOf, with_intervals}
+use Rattle.file_borders.specs.declared.{loose.LooseFault.LooseFault, study.StudyBordersFault.StudyBordersFault}
 use Rattle.call_files.specs.Said.{of_study}
 use Rattle.call_files.specs.declared.refusal.Refusal.{Refusal}
 use Rattle.call_files.specs.declared.stop.Stop.TheVariants as stop
@@ -64,3 +67,26 @@ of_values (Err why) halted holds = halted (halt.Denied (denial.Study why))
 -- the bytes of a study file
 abbrev pub of_study_file : List ℕ → Given
 of_study_file bytes = of_values (study_of bytes)
+
+-- a line, and its faults that have times which are not known
+pub record IsTimed (values : StudyValues) (line : Line) (faults : List LooseFault) : Type 0 where
+  pub line_is : line_values line ≡ values.line
+  pub are : AreLooseOf (with_intervals values.faults) faults
+
+-- none has one, or one that has is wrong
+pub record IsUntimed (values : StudyValues) (why : StudyBordersFault) : Type 0 where
+  pub line : Line
+  pub is : line_values line ≡ values.line
+  pub refused : borders.IsStudyRefused line values.faults why
+
+-- why there are no times
+abbrev pub times_halt : StudyBordersFault → Halt
+times_halt why = halt.Denied (denial.Times why)
+
+-- what holds of a line and such faults, or of why there are none
+abbrev pub of_times : Result StudyValues DocumentFault → (Halt → Type 0)
+    → (Line → List LooseFault → Type 0) → Type 0
+of_times (Ok values) halted holds =
+    ((line : Line) × (faults : List LooseFault) × IsTimed values line faults × holds line faults)
+    ⊎ ((why : StudyBordersFault) × IsUntimed values why × halted (times_halt why))
+of_times (Err why) halted holds = halted (halt.Denied (denial.Study why))

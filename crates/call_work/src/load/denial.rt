@@ -5,6 +5,7 @@ ghost use Rattle.std.specs.Prelude.{◌≡◌};
 use crate::choose::ChooseDenial;
 use crate::explain::Unpicked;
 use crate::map::MapDenial;
+use file_borders::StudyBordersFault;
 use file_document::DocumentFault;
 use file_study::sweeps::StudySweepFault;
 use model_line::Name;
@@ -16,6 +17,8 @@ pub enum Denial {
     Study(DocumentFault),
     /// A fault of the study comes to no scripts.
     Scripts(StudySweepFault),
+    /// A study has no faults whose times are intervals, or one of them is refused.
+    Times(StudyBordersFault),
     /// There are so many scripts, and this work takes so many at most.
     TooManyScripts { there: usize, most: usize },
     /// There are so many scripts, and none is named.
@@ -46,7 +49,10 @@ impl Denial {
         ensures { result ≡ denial_status self.now }
     {
         match self {
-            Denial::Study(_) | Denial::Scripts(_) | Denial::TooManyScripts { .. } => 5,
+            Denial::Study(_)
+            | Denial::Scripts(_)
+            | Denial::Times(_)
+            | Denial::TooManyScripts { .. } => 5,
             Denial::SeveralScripts(_)
             | Denial::UnknownScript(_)
             | Denial::UnknownTiming(_)

@@ -93,6 +93,7 @@ fn fetch_further<S: Store>(alloc: Global, work: Work<'_>, store: &mut S) -> Resu
         | Work::Map(_)
         | Work::Choose(_)
         | Work::Why(_)
+        | Work::Times { .. }
         | Work::Page { .. } => Ok(Vec::new(alloc)),
     }
 }

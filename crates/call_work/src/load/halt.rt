@@ -13,6 +13,7 @@ use base_memory::{Memory, Stopped};
 use base_text::store::PutFailed;
 use call_answer::Done;
 use call_files::{Refusal, Stop};
+use file_borders::StudyBordersFault;
 use file_document::DocumentFault;
 use file_study::sweeps::StudySweepFault;
 use file_tables::timing::TimingFault;
@@ -168,6 +169,20 @@ impl From<Stopped<StudySweepFault>> for Halt {
     fn from(why: Stopped<StudySweepFault>) -> Self {
         match why {
             Stopped::Fault(fault) => Halt::Denied(Denial::Scripts(fault)),
+            Stopped::Memory => Halt::Stopped(Stop::Memory),
+        }
+    }
+}
+
+impl From<Stopped<StudyBordersFault>> for Halt {
+    ghost use Rattle.call_work.specs.load.Loaded.{halt_by};
+    ghost use Rattle.call_work.specs.load.Studied.{times_halt};
+
+    ghost from_gives = { λ why halt. halt ≡ halt_by times_halt why };
+
+    fn from(why: Stopped<StudyBordersFault>) -> Self {
+        match why {
+            Stopped::Fault(fault) => Halt::Denied(Denial::Times(fault)),
             Stopped::Memory => Halt::Stopped(Stop::Memory),
         }
     }

@@ -31,8 +31,8 @@ use call_ask::{Ask, Source, Table, Work};
 use call_files::{File, Refusal};
 use call_refused::told::push_within;
 use call_refused::{
-    refused_line, refused_record, refused_scripts, refused_study, refused_sweep, refused_timings,
-    too_long,
+    refused_line, refused_record, refused_scripts, refused_study, refused_sweep, refused_times,
+    refused_timings, too_long,
 };
 use itoa::Buffer;
 use model_line::Name;
@@ -101,6 +101,10 @@ pub fn denial_line(
         Denial::Scripts(fault) => {
             let name = name_at(ask, File::Study).unwrap_or("");
             refused_sweep(alloc, name, fetched.bytes_at(File::Study), fault)
+        }
+        Denial::Times(fault) => {
+            let name = name_at(ask, File::Study).unwrap_or("");
+            refused_times(alloc, name, fetched.bytes_at(File::Study), fault)
         }
         Denial::TooManyScripts { there, most } => {
             many_line(alloc, scripts_name(ask.source), *there, *most)

@@ -1,0 +1,4 @@
+pub mod Boxes
+pub mod Told
+pub mod Telling
+pub mod Posing

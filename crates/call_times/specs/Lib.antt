@@ -1,0 +1,4 @@
+pub mod Posed
+pub mod Question
+pub mod Rows
+pub mod Times
