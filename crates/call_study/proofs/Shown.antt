@@ -23,8 +23,13 @@ first_wider line terminal [] unsettled N M O P none one is = none unsettled is
 first_wider line terminal (script ∷ more) unsettled N M O P none one is =
     ⊎_elim
     (λ told. inl (told.0, (told.1.0, (told.1.1.0, one script told.0 told.1.0 told.1.1.1))))
-    (λ quiet. inr (quiet.0, (quiet.1.0,
-    first_wider line terminal more (unsettled || quiet.0) N M O P none one quiet.1.1)))
+    (λ quiet. inr (
+      quiet.0,
+      (
+        quiet.1.0,
+        first_wider line terminal more (unsettled || quiet.0) N M O P none one quiet.1.1,
+      ),
+    ))
     is
 
 -- a status and a text that are those of what is found

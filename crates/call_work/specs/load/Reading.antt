@@ -240,6 +240,7 @@ abbrev pub why_of : WhyForm → Given → Option (List ℕ) → Option (List ℕ
 why_of form given fault script terminal halted holds =
     given halted (λ studied. unless_denied (at_most 4096000 (length studied.scripts)) halted
     (why_in form studied fault script terminal halted holds))
+
 -- times of faults, which only a study file has
 abbrev pub times_of : Source → Reading
 times_of (request.files line_bytes scripts_bytes) halted holds = halted (times_halt borders_fault.NoTimes)
