@@ -6,3 +6,4 @@ pub mod Fetching
 pub mod Mapping
 pub mod Explaining
 pub mod Telling
+pub mod Timing
