@@ -8,3 +8,4 @@ pub mod Explaining
 pub mod FewLaws
 pub mod Shown
 pub mod Telling
+pub mod Timing
