@@ -26,11 +26,7 @@ pub fn scripts_of_fault<'a>(
 }
 
 // Those of the first fault of this name, which stand one after another, fault by fault.
-fn scripts_named<'a>(
-    groups: &[Group],
-    scripts: &'a [Script],
-    name: &[u8],
-) -> Option<&'a [Script]>
+fn scripts_named<'a>(groups: &[Group], scripts: &'a [Script], name: &[u8]) -> Option<&'a [Script]>
     ensures { option_copied result ≡ named groups.now scripts.now name.now }
 {
     match groups {

@@ -17,9 +17,7 @@ use crate::read::at_most;
 use call_answer::{Done, Said, text_of};
 use call_ask::{WhyAsk, WhyForm};
 use call_why::{Found, Reason, first_reason, quiet_words};
-use call_work::load::{
-    Bytes, Halt, Loaded, load, unknown_fault, unknown_script, unknown_terminal,
-};
+use call_work::load::{Bytes, Halt, Loaded, load, unknown_fault, unknown_script, unknown_terminal};
 use draw_shapes::Rows;
 use model_line::{Memory, Script};
 use net_gates::Compiled;

@@ -609,14 +609,15 @@ fn option_of<'a>(alloc: Global, opt: Opt) -> Result<Arg<'a>, AllocError> {
 fn output_of<'a>(alloc: Global, output: Output) -> Arg<'a> {
     let arg = Arg::new(alloc, "output").short('o').long("output");
     match output {
-        Output::Text => arg.value_name("FILE").help(
-            "The file to write (default: -, standard output)",
-        ),
+        Output::Text => arg
+            .value_name("FILE")
+            .help("The file to write (default: -, standard output)"),
         Output::Diagram => arg.value_name("FILE").help(
             "The file to write its timing diagram to (SVG), in place of the words; not written where nothing fails",
         ),
-        Output::ThreeFiles => arg.required(true).value_name("NAME").help(
-            "What the names of the three files begin with",
-        ),
+        Output::ThreeFiles => arg
+            .required(true)
+            .value_name("NAME")
+            .help("What the names of the three files begin with"),
     }
 }

@@ -58,11 +58,7 @@ pub fn unknown_timing(
 }
 
 /// That no fault has the name, and the nearest that one has.
-pub fn unknown_fault(
-    alloc: Global,
-    groups: &[Group],
-    name: Option<&str>,
-) -> Result<Denial, Memory>
+pub fn unknown_fault(alloc: Global, groups: &[Group], name: Option<&str>) -> Result<Denial, Memory>
     ensures { IfOk result (IsUnknownFault groups.now (option_copied name.entry)) }
 {
     match name {

@@ -52,7 +52,7 @@ returns-in-Fails-clause-found c =
     let at : slice_get scripts i ≡ Some script =
     slice_get_read scripts (length scripts) i script refl c.loop-i-test.true c.index-scripts-i.is in
     let told : IsTold scripts found script (values_of reason.named) reason.text.items =
-    record { place = i; reason = reason; is = refl; at = at; named_is = refl; text_is = refl; } in
+    record { place = i; reason = reason; is = refl; at = at; named_is = refl; text_is = refl } in
     c.loop-i.invariant found
     (subst (λ (l : List Script). of_first line c.args.terminal l c.loop-i.unsettled (IsNone found)
     (IsTold scripts found))
