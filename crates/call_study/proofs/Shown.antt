@@ -1,5 +1,5 @@
 -- What is found is what is said.
-use Rattle.std.proofs.Common.{◌≡◌, ℕ, List, [], ◌∷◌, Option, Some, None, Result, Ok, Err, IfSome, subst, sym, inl, inr, ⊎_elim}
+use Rattle.std.proofs.Common.{◌≡◌, ℕ, List, [], ◌∷◌, Option, Some, None, IfSome, subst, sym, inl, inr, ⊎_elim}
 use Rattle.std.specs.Prelude.{◌||◌, Bool, false, slice_get}
 use Rattle.model_line.specs.{declared.line.Line.Line, declared.script.Script.Script}
 use Rattle.model_timing.specs.NamedValues.{NamedValues, values_of}
@@ -7,7 +7,7 @@ use Rattle.call_answer.specs.declared.done.Done.{Done}
 use Rattle.call_ask.specs.declared.why.WhyForm.{WhyForm}
 use Rattle.call_why.specs.declared.why.Found.{Found}
 use Rattle.call_why.specs.declared.why.Found.TheVariants.{Told, Quiet}
-use Rattle.call_why.specs.Why.{IsFirst, IsFound, IsNone, IsTold, of_first}
+use Rattle.call_why.specs.Why.{IsFound, IsNone, IsTold, of_first}
 use Rattle.call_study.specs.Reasons.{says_none, shows, why_answer}
 use Rattle.call_work.specs.declared.load.denial.Denial.{Denial}
 use Rattle.call_work.specs.declared.load.halt.Halt.{Halt}

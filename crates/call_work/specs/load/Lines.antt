@@ -1,7 +1,7 @@
 -- The line on standard error that says why a call is not done: of a file that is refused its name, the
 -- line and the column; of a file that is not read its name and the reason; of a name that is not there
 -- the name, and the nearest that is.
-use Rattle.std.specs.Prelude.{◌≡◌, ◌⊎◌, ◌∷◌, ◌++◌, ℕ, List, [], Option, None, Some, IfSome, codes}
+use Rattle.std.specs.Prelude.{◌≡◌, ◌⊎◌, ◌∷◌, ◌++◌, ℕ, List, [], Option, None, IfSome, codes}
 use Rattle.std.specs.Prelude.{decimal, map, unwrap_or}
 use Rattle.std.specs.List.{concat}
 use Rattle.base_files.specs.declared.reason.Reason.{Reason}

@@ -1,4 +1,4 @@
-use Rattle.std.proofs.Common.{None, Some, refl}
+use Rattle.std.proofs.Common.{refl}
 use Rattle.std.specs.List.{All}
 use Rattle.std.specs.Option.{option_copied}
 use Rattle.model_line.specs.Fits.{Fits}
@@ -13,7 +13,7 @@ use Rattle.call_study.proofs.why.among.Goals as goal
 pub returns-in_default : goal.returns-in_default
 returns-in_default c =
     none_named _ _ _ (script_alone c.args.scripts.now (option_copied c.args.script))
-    c.in_default.ensures (_, (c.in_ok-why.ensures, (refl, refl)))
+    c.in_default.ensures (_, c.in_ok-why.ensures, (refl, refl))
 
 pub at_terminal-requires : goal.at_terminal-requires
 at_terminal-requires c =

@@ -26,8 +26,8 @@ returns-in-Some c =
     given_read c.args.bytes.now loaded _ _ c.in_ok-loaded.ensures.0 c.in_ok-loaded.ensures.1
     (rw is (refl, refl))
 
-pub returns-in-None : goal.returns-in-None
-returns-in-None c =
+pub returns : goal.returns
+returns c =
     let loaded = c.in_ok-loaded.loaded in
     let bytes = c.args.bytes.now in
     let ask = c.args.ask.now in

@@ -1,4 +1,4 @@
-use Rattle.std.proofs.Common.{None, Some, refl}
+use Rattle.std.proofs.Common.{refl}
 use Rattle.std.specs.List.{All}
 use Rattle.std.specs.Option.{option_copied}
 use Rattle.model_line.specs.Fits.{Fits}
@@ -16,15 +16,16 @@ returns-in_default c =
     let loaded = c.args.loaded.now in
     none_named _ _ _ (scripts_of_fault loaded.groups.items loaded.study.scripts.items
     (option_copied c.args.ask.now.fault))
-    ?
-    (_, (?, (refl, refl)))
+    (rw (c.as_slice-groups.ensures.value, c.as_slice.ensures.value) at c.in_default.ensures)
+    (_, rw c.as_slice-groups.ensures.value at c.in_ok-why.ensures, (refl, refl))
 
 pub among-requires : goal.among-requires
 among-requires c =
     let loaded = c.args.loaded.now in
     let fault = option_copied c.args.ask.now.fault in
     of_some (All (Fits loaded.study.line))
-    (scripts_of_fault loaded.groups.items loaded.study.scripts.items fault) c.in-Some.own.now ?
+    (scripts_of_fault loaded.groups.items loaded.study.scripts.items fault) c.in-Some.own.now
+    (rw (c.as_slice-groups.ensures.value, c.as_slice.ensures.value) at c.in-Some.ensures)
     (fault_fit (Fits loaded.study.line) loaded.groups.items loaded.study.scripts.items fault
     c.requires.fit)
 
@@ -41,6 +42,7 @@ returns c =
     (answer_by (why_in form (studied loaded) fault script terminal))
     c.among.result
     (λ end text said. one_named _ _ _
-    (scripts_of_fault loaded.groups.items loaded.study.scripts.items fault) c.in-Some.own.now ?
+    (scripts_of_fault loaded.groups.items loaded.study.scripts.items fault) c.in-Some.own.now
+    (rw (c.as_slice-groups.ensures.value, c.as_slice.ensures.value) at c.in-Some.ensures)
     said)
     c.among.ensures
