@@ -10,6 +10,6 @@ pub mod told;
 pub mod words;
 
 pub use told::{
-    refused_line, refused_map, refused_record, refused_scripts, refused_study, refused_sweep, refused_times,
-    refused_text, refused_timings, too_long,
+    refused_line, refused_map, refused_record, refused_scripts, refused_study, refused_sweep,
+    refused_text, refused_times, refused_timings, too_long,
 };

@@ -12,8 +12,8 @@ mod record;
 mod records;
 mod study;
 mod sweep;
-mod times;
 mod text;
+mod times;
 
 pub use line::refused_line;
 pub use one_line::{push_place, push_within, told};
@@ -21,5 +21,5 @@ pub use record::refused_record;
 pub use records::{refused_scripts, refused_timings};
 pub use study::{place_of_item, refused_map, refused_study};
 pub use sweep::refused_sweep;
-pub use times::refused_times;
 pub use text::{refused_text, too_long};
+pub use times::refused_times;

@@ -24,7 +24,14 @@ pub fn refused_times(
     match fault {
         StudyBordersFault::NoTimes => {
             let at = place_of_key(alloc, bytes, b"fault")?;
-            told(alloc, name, bytes, at, "no stage lasts for an interval", &[WRITE_TIMES])
+            told(
+                alloc,
+                name,
+                bytes,
+                at,
+                "no stage lasts for an interval",
+                &[WRITE_TIMES],
+            )
         }
         StudyBordersFault::Refused(i, own, why) => {
             let at = place_of_item(alloc, bytes, b"fault", *i, b"name")?;
