@@ -55,6 +55,7 @@ module _ (r : Request) (Has More : HasBytes) (more : (f : File) (b : List ℕ) �
         → IsDenialLine r More why line
     denial_wider (denial.Study why) line is = told_wider file.Study line is
     denial_wider (denial.Scripts why) line is = told_wider file.Study line is
+    denial_wider (denial.Times why) line is = told_wider file.Study line is
     denial_wider (denial.TooManyScripts there most) line is = is
     denial_wider (denial.SeveralScripts there) line is = is
     denial_wider (denial.UnknownScript near) line is = is
@@ -135,6 +136,7 @@ module _ (files : List ℕ → Option (List ℕ)) where
   beside_told (request.map form x y made) b f are = tt
   beside_told (request.choose settings room) b f are = tt
   beside_told (request.why form fault terminal) b f are = tt
+  beside_told request.times b f are = tt
   beside_told request.page b f are = tt
 
   -- they are those that the store tells
