@@ -23,7 +23,7 @@ pub fn refused_times(
 {
     match fault {
         StudyBordersFault::NoTimes => {
-            let at = place_of_key(alloc, bytes, b"fault")?;
+            let at = place_of_key(alloc, bytes, b"fault[0]")?;
             told(
                 alloc,
                 name,
