@@ -13,7 +13,7 @@ use Rattle.draw_page.specs.Elements.{number_cell_html, plain_html, section_html,
 use Rattle.draw_page.specs.Elements.{words_in_html}
 use Rattle.draw_page.specs.{Badges.badge_html, Figures.figure_html}
 use Rattle.model_line.specs.NamesByNumber.{kind_text}
-use Rattle.draw_page.specs.Words.{by_said, deadline_said, margin_said, trip_said}
+use Rattle.draw_page.specs.Words.{by_said, deadline_said, left_said, trip_said}
 use Rattle.draw_page.specs.Sweeps.{scripts_html, strips_html}
 
 -- ---- the kind, how many scripts, which one is drawn, and what is swept
@@ -44,7 +44,7 @@ answer_cells_html tick_us v =
 unfoldable pub limit_cells_html : ℕ → Verdict → List ℕ
 limit_cells_html tick_us v =
     number_cell_html (codes "deadline") (deadline_said tick_us v.deadline)
-    ++ number_cell_html (codes "margin") (margin_said tick_us v.deadline v.must)
+    ++ number_cell_html (codes "margin") (left_said tick_us v)
     ++ cell_html (codes "by") (codes "settled by") (words_text (by_said v.by))
 
 unfoldable pub end_row_html : ℕ → Verdict → List ℕ

@@ -7,7 +7,7 @@ use Rattle.draw_page.specs.declared.anchor.Anchor.TheVariants as anchor
 use Rattle.draw_page.specs.declared.page.{Page.Page, Digest.Digest, FileText.FileText}
 use Rattle.draw_page.specs.Bare.{bare_cell_html}
 use Rattle.draw_page.specs.Elements.{columns_html, head_cell_html, plain_html}
-use Rattle.draw_page.specs.Elements.{section_html, table_html, words_in_html}
+use Rattle.draw_page.specs.Elements.{said_in_html, section_html, table_html, words_in_html}
 
 unfoldable pub hash_row_html : List ℕ → List ℕ → List ℕ
 hash_row_html name sha256 =
@@ -27,9 +27,19 @@ file_html file =
     plain_html tag.Section
     (words_in_html tag.Heading3 file.name.items ++ words_in_html tag.Preformatted file.text.items)
 
+unfoldable pub filed_meaning : List ℕ
+filed_meaning =
+    said_in_html tag.Paragraph (codes "small") (codes "First what was read, then the line and the scripts that it comes to, as they were judged. A digest is the SHA-256 of a file's bytes.")
+
+-- the digests of what was read, of what was judged, and of what does not stand here
+unfoldable pub file_table_html : Page → List ℕ
+file_table_html page =
+    table_html (codes "files") (columns_html (codes "File" ∷ (codes "SHA-256" ∷ [])))
+    (flat_map file_row_html page.sources.items ++ flat_map file_row_html page.files.items
+    ++ flat_map digest_row_html page.digests.items)
+
 unfoldable pub files_html : Page → List ℕ
 files_html page =
     section_html anchor.Files (codes "Files")
-    (table_html (codes "files") (columns_html (codes "File" ∷ (codes "SHA-256" ∷ [])))
-    (flat_map file_row_html page.files.items ++ flat_map digest_row_html page.digests.items)
-    ++ flat_map file_html page.files.items)
+    (filed_meaning ++ file_table_html page
+    ++ (flat_map file_html page.sources.items ++ flat_map file_html page.files.items))

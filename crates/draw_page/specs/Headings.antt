@@ -10,6 +10,7 @@ use Rattle.draw_page.specs.declared.anchor.Anchor.{Anchor}
 use Rattle.draw_page.specs.declared.anchor.Anchor.TheVariants as anchor
 use Rattle.draw_page.specs.declared.page.{Page.Page, Counts.Counts, LeastMargin.LeastMargin}
 use Rattle.draw_page.specs.Elements.{plain_html, classed_html, words_in_html, said_in_html, link_html}
+use Rattle.draw_page.specs.Blocks.{block_html}
 use Rattle.draw_page.specs.Words.{ticks_text, time_said}
 
 -- ---- what it is of
@@ -39,11 +40,11 @@ tile_class class number = if number == 0 then codes "tile none" else class
 abbrev pub count_html : List ℕ → ℕ → List ℕ → List ℕ
 count_html class number words = tile_html (tile_class class number) (decimal number) words
 
-abbrev pub least_html : ℕ → Option LeastMargin → List ℕ
-least_html tick_us None = []
-least_html tick_us (Some least) =
-    tile_html (codes "tile") (time_said tick_us least.ticks)
-    (codes "least dependability margin by rule: " ++ least.at.items)
+-- a margin, what it is and where
+abbrev pub margin_html : ℕ → Option LeastMargin → List ℕ → List ℕ
+margin_html tick_us None words = []
+margin_html tick_us (Some least) words =
+    tile_html (codes "tile") (time_said tick_us least.ticks) (words ++ least.at.items)
 
 unfoldable pub held_html : ℕ → List ℕ
 held_html count = count_html (codes "tile yes") count (codes "held for every choice")
@@ -57,11 +58,18 @@ every_html count = count_html (codes "tile no") count (codes "of these for every
 unfoldable pub undecided_html : ℕ → List ℕ
 undecided_html count = count_html (codes "tile unknown") count (codes "open")
 
-unfoldable pub counts_html : Counts → ℕ → Option LeastMargin → List ℕ
-counts_html counts tick_us least =
+unfoldable pub counts_html : Counts → List ℕ
+counts_html counts =
+    held_html counts.held ++ failing_html counts.fails ++ every_html counts.every
+    ++ undecided_html counts.undecided
+
+-- the counts, and the least margins
+unfoldable pub tiles_html : Page → List ℕ
+tiles_html page =
     classed_html tag.Division (codes "tiles")
-    (held_html counts.held ++ failing_html counts.fails ++ every_html counts.every
-    ++ undecided_html counts.undecided ++ least_html tick_us least)
+    (counts_html page.counts
+    ++ margin_html page.tick_us page.least (codes "least dependability margin by rule: ")
+    ++ margin_html page.tick_us page.spare (codes "least security margin by rule: "))
 
 unfoldable pub meaning_html : List ℕ
 meaning_html = said_in_html tag.Paragraph (codes "small") (codes "Held: every choice of times inside the declared intervals meets the obligation, fractions of a tick included. Fails: a choice inside them, shown below, does not. Open: neither is known.")
@@ -98,7 +106,8 @@ header_html page =
     plain_html tag.Header
     (words_in_html tag.Heading1 page.title.items
     ++ said_in_html tag.Paragraph (codes "subject") (subject_said page)
-    ++ counts_html page.counts page.tick_us page.least
+    ++ block_html page
+    ++ tiles_html page
     ++ meaning_html
     ++ notes_html page.notes.items
     ++ contents_html)

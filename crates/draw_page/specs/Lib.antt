@@ -8,10 +8,12 @@ pub mod Choices
 pub mod Opens
 pub mod Sweeps
 pub mod Faults
-pub mod Sheets
+pub mod Blocks
 pub mod Headings
 pub mod Bars
 pub mod Times
 pub mod Filed
 pub mod Signing
+pub mod Running
+pub mod Sheets
 pub mod Pages

@@ -10,7 +10,7 @@ use Rattle.draw_page.specs.declared.page.{Page.Page, Fault.Fault, Verdict.Verdic
 use Rattle.draw_page.specs.Elements.{numbered, plain_html, cell_html, number_cell_html, column_html}
 use Rattle.draw_page.specs.Elements.{head_cell_html, link_html, said_in_html, section_html, table_html}
 use Rattle.model_line.specs.NamesByNumber.{kind_text}
-use Rattle.draw_page.specs.Words.{margin_said, trip_said}
+use Rattle.draw_page.specs.Words.{left_said, trip_said}
 use Rattle.draw_page.specs.Badges.{badge_html}
 
 -- ---- the head: the terminals, and below each its three columns
@@ -46,7 +46,7 @@ unfoldable pub verdict_cells_html : ℕ → Verdict → List ℕ
 verdict_cells_html tick_us v =
     cell_html (codes "state") v.terminal.items (badge_html v.standings.items)
     ++ number_cell_html (codes "first trip") (trip_said tick_us v.may v.must)
-    ++ number_cell_html (codes "margin") (margin_said tick_us v.deadline v.must)
+    ++ number_cell_html (codes "margin") (left_said tick_us v)
 
 -- the fault of this number, with a link to its section
 unfoldable pub fault_row_html : ℕ → ℕ → Fault → List ℕ
@@ -59,7 +59,7 @@ fault_row_html tick_us n fault =
 -- what the numbers mean, and from when they count
 unfoldable pub matrix_meaning : List ℕ
 matrix_meaning =
-    said_in_html tag.Paragraph (codes "small") (codes "First trip: no choice of times trips before the first number, and every choice has tripped by the second, in milliseconds after the inception of the fault; of a swept fault that is so of the script that does worst there. Margin: from the second to the deadline. Drawings and reasons count from the beginning of the play; a drawing marks the inception.")
+    said_in_html tag.Paragraph (codes "small") (codes "First trip: no choice of times trips before the first number, and every choice has tripped by the second, in milliseconds after the inception of the fault; of a swept fault that is so of the script that does worst there. Margin: from the second to the deadline; where no trip may come, what the fault has to spare: the least, over every choice of times, from what holds the trip back to what would let it through, known where the interval rules say that no script trips. Drawings and reasons count from the beginning of the play; a drawing marks the inception.")
 
 unfoldable pub matrix_html : Page → List ℕ
 matrix_html page =

@@ -24,7 +24,7 @@ viewport_html =
 
 unfoldable pub head_html : Page → List ℕ
 head_html page =
-    charset_html ++ viewport_html ++ words_in_html tag.Title page.title.items ++ sheet_html
+    charset_html ++ viewport_html ++ words_in_html tag.Title page.title.items ++ sheet_html page
 
 -- what was asked and what was found, with lines to sign beside the verdicts
 unfoldable pub answers_html : Page → List ℕ

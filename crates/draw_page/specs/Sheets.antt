@@ -7,7 +7,9 @@ use Rattle.draw_shapes.specs.declared.class.TheConstants.{CLASSES}
 use Rattle.draw_page.specs.declared.style.TheConstants.{DRAWINGS, MARKS, NARROW, PRINT, TABLES, TEXT}
 use Rattle.draw_page.specs.declared.style.Part.{Part}
 use Rattle.draw_page.specs.declared.style.Part.TheVariants as part
+use Rattle.draw_page.specs.declared.page.Page.{Page}
 use Rattle.draw_page.specs.Figures.{look_rule}
+use Rattle.draw_page.specs.Running.{running_words}
 
 unfoldable pub part_words : Part → List ℕ
 part_words part.Text = TEXT.now
@@ -28,5 +30,6 @@ last_words = part_words part.Narrow ++ part_words part.Print
 unfoldable pub sheet_words : List ℕ
 sheet_words = first_words ++ flat_map look_rule CLASSES ++ last_words
 
-unfoldable pub sheet_html : List ℕ
-sheet_html = sheet_text sheet_words
+-- the rules for all pages, and those of this one's margins
+unfoldable pub sheet_html : Page → List ℕ
+sheet_html page = sheet_text (sheet_words ++ running_words page)

@@ -2,7 +2,7 @@
 use Rattle.std.specs.Prelude.{◌-◌, ◌==◌, ◌++◌, ℕ, List, [], ◌∷◌, Option, None, Some}
 use Rattle.std.specs.Prelude.{codes, decimal, nat_le, if◌then◌else◌}
 use Rattle.base_text.specs.lines.Milliseconds as milliseconds
-use Rattle.draw_page.specs.declared.page.Means.{Means}
+use Rattle.draw_page.specs.declared.page.{Means.Means, Verdict.Verdict}
 use Rattle.draw_page.specs.declared.page.Means.TheVariants as means
 
 -- a text with these pieces behind it
@@ -40,10 +40,18 @@ margin_of tick_us deadline must =
     if nat_le must deadline then time_said tick_us (deadline - must)
     else codes "-" ++ time_said tick_us (must - deadline)
 
-abbrev pub margin_said : ℕ → Option ℕ → Option ℕ → List ℕ
-margin_said tick_us None must = []
-margin_said tick_us (Some deadline) None = []
-margin_said tick_us (Some deadline) (Some must) = margin_of tick_us deadline must
+abbrev pub spare_said : ℕ → Option ℕ → List ℕ
+spare_said tick_us None = []
+spare_said tick_us (Some spare) = time_said tick_us spare
+
+-- of a fault with a deadline its margin, of another what it has to spare; nothing where that is not known
+abbrev pub left_of : ℕ → Option ℕ → Option ℕ → Option ℕ → List ℕ
+left_of tick_us None must spare = spare_said tick_us spare
+left_of tick_us (Some deadline) None spare = []
+left_of tick_us (Some deadline) (Some must) spare = margin_of tick_us deadline must
+
+abbrev pub left_said : ℕ → Verdict → List ℕ
+left_said tick_us v = left_of tick_us v.deadline v.must v.spare
 
 abbrev pub deadline_said : ℕ → Option ℕ → List ℕ
 deadline_said tick_us None = codes "never"

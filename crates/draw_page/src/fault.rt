@@ -17,7 +17,7 @@ use crate::page::{Case, Fault, Page, Verdict};
 use crate::parts::{around, joined, text_of};
 use crate::scripts::scripts;
 use crate::strip::strips;
-use crate::words::{by_words, deadline_words, margin_words, trip_words, words_of};
+use crate::words::{by_words, deadline_words, left_words, trip_words, words_of};
 use base_markup::html::{Html, Tag};
 use itoa::Buffer;
 use model_line::kind_word;
@@ -164,7 +164,7 @@ fn limit_cells(alloc: Global, tick_us: u32, verdict: &Verdict) -> Result<Html, A
 {
     let words = deadline_words(alloc, tick_us, verdict.deadline);
     let deadline = number_in(alloc, b"deadline", words);
-    let words = margin_words(alloc, tick_us, verdict.deadline, verdict.must);
+    let words = left_words(alloc, tick_us, verdict);
     let margin = joined(deadline, number_in(alloc, b"margin", words));
     let by = Html::words(alloc, by_words(verdict.by));
     joined(margin, cell(alloc, b"by", b"settled by", by))

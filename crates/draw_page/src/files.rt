@@ -3,11 +3,11 @@
 ghost use Rattle.std.specs.Prelude.{◌≡◌, IfOk};
 ghost use Rattle.std.specs.List.{flat_map};
 ghost use Rattle.draw_page.specs.Filed.{digest_row_html, file_html, file_row_html, files_html};
-ghost use Rattle.draw_page.specs.Filed.{hash_row_html};
+ghost use Rattle.draw_page.specs.Filed.{file_table_html, filed_meaning, hash_row_html};
 
 use crate::anchor::Anchor;
 use crate::bare::bare_cell;
-use crate::elements::{columns, row_head, section, table, words_in};
+use crate::elements::{columns, row_head, said_in, section, table, words_in};
 use crate::page::{Digest, FileText, Page};
 use crate::parts::{around, joined};
 use base_markup::html::{Html, Tag};
@@ -17,11 +17,33 @@ use std::alloc::{AllocError, Global};
 pub fn files(alloc: Global, page: &Page) -> Result<Html, AllocError>
     ensures { IfOk result (λ html. html.text.items ≡ files_html page.now) }
 {
+    let (sources, files) = (page.sources.as_slice(), page.files.as_slice());
+    let table = joined(meaning(alloc), file_table(alloc, page));
+    let printed = joined(printed(alloc, sources), printed(alloc, files));
+    section(alloc, Anchor::Files, b"Files", joined(table, printed))
+}
+
+#[tactic(auto, unfolding(crate::specs::Filed::filed_meaning))]
+fn meaning(alloc: Global) -> Result<Html, AllocError>
+    ensures { IfOk result (λ html. html.text.items ≡ filed_meaning) }
+{
+    said_in(
+        alloc,
+        Tag::Paragraph,
+        b"small",
+        b"First what was read, then the line and the scripts that it comes to, as they were judged. A digest is the SHA-256 of a file's bytes.",
+    )
+}
+
+// The digests of what was read, of what was judged, and of what does not stand here.
+fn file_table(alloc: Global, page: &Page) -> Result<Html, AllocError>
+    ensures { IfOk result (λ html. html.text.items ≡ file_table_html page.now) }
+{
     let head = columns(alloc, &[b"File", b"SHA-256"]);
-    let (files, digests) = (page.files.as_slice(), page.digests.as_slice());
-    let rows = joined(file_rows(alloc, files), digest_rows(alloc, digests));
-    let inside = joined(table(alloc, b"files", head, rows), printed(alloc, files));
-    section(alloc, Anchor::Files, b"Files", inside)
+    let sources = file_rows(alloc, page.sources.as_slice());
+    let files = joined(sources, file_rows(alloc, page.files.as_slice()));
+    let rows = joined(files, digest_rows(alloc, page.digests.as_slice()));
+    table(alloc, b"files", head, rows)
 }
 
 fn file_rows(alloc: Global, files: &[FileText]) -> Result<Html, AllocError>

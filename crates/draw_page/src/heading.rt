@@ -7,11 +7,12 @@ ghost use Rattle.draw_page.specs.Elements.{said_in_html};
 ghost use Rattle.draw_page.specs.Headings.{answer_links_html, contents_html, count_html};
 ghost use Rattle.draw_page.specs.Headings.{counts_html, every_html, failing_html, header_html};
 ghost use Rattle.draw_page.specs.Headings.{held_html};
-ghost use Rattle.draw_page.specs.Headings.{least_html, link_item_html, meaning_html, notes_html};
+ghost use Rattle.draw_page.specs.Headings.{link_item_html, margin_html, meaning_html, notes_html};
 ghost use Rattle.draw_page.specs.Headings.{other_links_html, subject_said, undecided_html};
-ghost use Rattle.draw_page.specs.Headings.{tile_class as class_of_tile, tile_html, zone_said};
+ghost use Rattle.draw_page.specs.Headings.{tile_class as class_of_tile, tile_html, tiles_html, zone_said};
 
 use crate::anchor::Anchor;
+use crate::block::block;
 use crate::elements::{link, said_in, words_in};
 use crate::page::{Counts, LeastMargin, Page};
 use crate::parts::{around, classed_around, element, joined, text_of};
@@ -26,11 +27,8 @@ pub fn header(alloc: Global, page: &Page) -> Result<Html, AllocError>
 {
     let title = words_in(alloc, Tag::Heading1, page.title.as_slice());
     let subject = joined(title, subject(alloc, page));
-    let counts = joined(
-        subject,
-        counts(alloc, page.counts, page.tick_us, &page.least),
-    );
-    let meaning = joined(counts, meaning(alloc));
+    let block = joined(subject, block(alloc, page));
+    let meaning = joined(joined(block, tiles(alloc, page)), meaning(alloc));
     let notes = joined(meaning, notes(alloc, page.notes.as_slice()));
     around(alloc, Tag::Header, joined(notes, contents(alloc)))
 }
@@ -78,20 +76,23 @@ fn zone_words<'a>(trips: bool) -> &'a [u8]
     }
 }
 
-// The counts, and the least margin.
-fn counts(
-    alloc: Global,
-    counts: Counts,
-    tick_us: u32,
-    least: &Option<LeastMargin>,
-) -> Result<Html, AllocError>
-    ensures { IfOk result (λ html. html.text.items ≡ counts_html counts tick_us least.now) }
+// The counts, and the least margins.
+fn tiles(alloc: Global, page: &Page) -> Result<Html, AllocError>
+    ensures { IfOk result (λ html. html.text.items ≡ tiles_html page.now) }
+{
+    let counts = counts(alloc, page.counts);
+    let margin = margin_tile(alloc, page.tick_us, &page.least, MARGIN);
+    let spare = margin_tile(alloc, page.tick_us, &page.spare, SPARE);
+    let all = joined(joined(counts, margin), spare);
+    classed_around(alloc, Tag::Division, b"tiles", all)
+}
+
+fn counts(alloc: Global, counts: Counts) -> Result<Html, AllocError>
+    ensures { IfOk result (λ html. html.text.items ≡ counts_html counts) }
 {
     let failing = joined(held(alloc, counts.held), failing(alloc, counts.fails));
     let every = joined(failing, every(alloc, counts.every));
-    let undecided = joined(every, undecided(alloc, counts.undecided));
-    let all = joined(undecided, least_tile(alloc, tick_us, least));
-    classed_around(alloc, Tag::Division, b"tiles", all)
+    joined(every, undecided(alloc, counts.undecided))
 }
 
 #[tactic(auto, unfolding(crate::specs::Headings::held_html))]
@@ -154,23 +155,36 @@ fn tile_of(
     classed_around(alloc, Tag::Division, class, inside)
 }
 
-fn least_tile(alloc: Global, tick_us: u32, least: &Option<LeastMargin>) -> Result<Html, AllocError>
-    ensures { IfOk result (λ html. html.text.items ≡ least_html tick_us least.now) }
+const MARGIN: &[u8] = b"least dependability margin by rule: ";
+
+const SPARE: &[u8] = b"least security margin by rule: ";
+
+// A margin, what it is and where; nothing where there is none.
+fn margin_tile(
+    alloc: Global,
+    tick_us: u32,
+    least: &Option<LeastMargin>,
+    words: &[u8],
+) -> Result<Html, AllocError>
+    ensures { IfOk result (λ html. html.text.items ≡ margin_html tick_us least.now words.now) }
 {
     match least {
-        Some(least) => some_least(alloc, tick_us, least),
+        Some(least) => some_margin(alloc, tick_us, least, words),
         None => Ok(Html::new(alloc)),
     }
 }
 
-fn some_least(alloc: Global, tick_us: u32, least: &LeastMargin) -> Result<Html, AllocError>
-    ensures { IfOk result (λ html. html.text.items ≡ least_html tick_us (Some least.now)) }
+fn some_margin(
+    alloc: Global,
+    tick_us: u32,
+    least: &LeastMargin,
+    words: &[u8],
+) -> Result<Html, AllocError>
+    ensures { IfOk result (λ html. html.text.items
+        ≡ margin_html tick_us (Some least.now) words.now) }
 {
     let number = text_of(alloc, time_words(alloc, tick_us, least.ticks));
-    let words = words_of(
-        alloc,
-        &[b"least dependability margin by rule: ", least.at.as_slice()],
-    );
+    let words = words_of(alloc, &[words, least.at.as_slice()]);
     tile_of(alloc, b"tile", number, text_of(alloc, words))
 }
 

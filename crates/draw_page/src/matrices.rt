@@ -12,7 +12,7 @@ use crate::badges::badge;
 use crate::elements::{cell, column, link, number_in, row_head, said_in, section, table};
 use crate::page::{Fault, Page, Verdict};
 use crate::parts::{around, element, joined};
-use crate::words::{margin_words, trip_words};
+use crate::words::{left_words, trip_words};
 use base_markup::html::{Attribute, Html, Key, Tag};
 use model_line::kind_word;
 use std::alloc::{AllocError, Global};
@@ -41,7 +41,7 @@ fn meaning(alloc: Global) -> Result<Html, AllocError>
         alloc,
         Tag::Paragraph,
         b"small",
-        b"First trip: no choice of times trips before the first number, and every choice has tripped by the second, in milliseconds after the inception of the fault; of a swept fault that is so of the script that does worst there. Margin: from the second to the deadline. Drawings and reasons count from the beginning of the play; a drawing marks the inception.",
+        b"First trip: no choice of times trips before the first number, and every choice has tripped by the second, in milliseconds after the inception of the fault; of a swept fault that is so of the script that does worst there. Margin: from the second to the deadline; where no trip may come, what the fault has to spare: the least, over every choice of times, from what holds the trip back to what would let it through, known where the interval rules say that no script trips. Drawings and reasons count from the beginning of the play; a drawing marks the inception.",
     )
 }
 
@@ -157,6 +157,6 @@ fn three_cells(alloc: Global, tick_us: u32, verdict: &Verdict) -> Result<Html, A
     let state = cell(alloc, b"state", verdict.terminal.as_slice(), badge);
     let words = trip_words(alloc, tick_us, verdict.may, verdict.must);
     let trip = joined(state, number_in(alloc, b"first trip", words));
-    let words = margin_words(alloc, tick_us, verdict.deadline, verdict.must);
+    let words = left_words(alloc, tick_us, verdict);
     joined(trip, number_in(alloc, b"margin", words))
 }

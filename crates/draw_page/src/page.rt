@@ -19,6 +19,8 @@ pub struct Page {
     pub counts: Counts,
     /// The least margin of all internal faults, where there is one.
     pub least: Option<LeastMargin>,
+    /// The least that an external fault has to spare, where one has.
+    pub spare: Option<LeastMargin>,
     /// Lines that say what the page leaves out, and why.
     pub notes: Vec<Vec<u8>>,
     pub faults: Vec<Fault>,
@@ -26,11 +28,16 @@ pub struct Page {
     pub undecided: Vec<Undecided>,
     /// In line order; none where the margins were not worked out.
     pub times: Vec<Time>,
+    /// The files that the call names, as they were read.
+    pub sources: Vec<FileText>,
+    /// The files that they come to, as they were judged.
     pub files: Vec<FileText>,
     /// Of what does not stand on the page, as the settled trees.
     pub digests: Vec<Digest>,
     /// The program, its version and the build that it is of, as `study --version` says them.
     pub made: Vec<u8>,
+    /// The date that the call gives, if it gives one.
+    pub date: Option<Vec<u8>>,
 }
 
 /// How many obligations are held, fail, fail for every choice, and are open: one for each script and
@@ -97,7 +104,7 @@ pub struct Case {
 
 /// How a fault's scripts stand at a terminal, which is named, one for each; and of the one that does worst there: by
 /// what it was settled, and counted from the inception of its fault its deadline, the first tick at
-/// which a choice may trip, and the first at which every choice has.
+/// which a choice may trip, and the first at which every choice has; and what an external fault has to spare there.
 #[derive(Drop)]
 pub struct Verdict {
     pub terminal: Vec<u8>,
@@ -106,6 +113,7 @@ pub struct Verdict {
     pub deadline: Option<u32>,
     pub may: Option<u32>,
     pub must: Option<u32>,
+    pub spare: Option<u32>,
 }
 
 /// A choice of delays that fails an obligation, whether every choice does, why it fails in lines of
@@ -170,7 +178,7 @@ pub struct Slack {
     pub lost: Option<Vec<u8>>,
 }
 
-/// A file as it was judged, and its SHA-256 in 64 hex digits.
+/// A file, and its SHA-256 in 64 hex digits.
 #[derive(Drop)]
 pub struct FileText {
     pub name: Vec<u8>,

@@ -5,18 +5,22 @@ ghost use Rattle.std.specs.List.{flat_map};
 ghost use Rattle.draw_page.specs.Figures.{look_rule};
 ghost use Rattle.draw_page.specs.Sheets.{sheet_html, sheet_words};
 
+use crate::page::Page;
+use crate::running::running;
 use crate::style::{Part, rules_of};
 use crate::words::words_of;
 use base_markup::html::Html;
 use draw_shapes::{CLASSES, Class, put_rule};
 use std::alloc::{AllocError, Global};
 
-/// The style sheet, with a rule for each look of a drawing.
+/// The style sheet, with a rule for each look of a drawing, and the margins of this page's sheets.
 #[tactic(auto, unfolding(crate::specs::Sheets::sheet_html))]
-pub fn sheet(alloc: Global) -> Result<Html, AllocError>
-    ensures { IfOk result (λ html. html.text.items ≡ sheet_html) }
+pub fn sheet(alloc: Global, page: &Page) -> Result<Html, AllocError>
+    ensures { IfOk result (λ html. html.text.items ≡ sheet_html page.now) }
 {
-    let words = words(alloc)?;
+    let mut words = words(alloc)?;
+    let running = running(alloc, page)?;
+    words.extend_from_slice(running.as_slice())?;
     Html::sheet(alloc, words.as_slice())
 }
 

@@ -86,6 +86,9 @@ td.bar, .times thead th:last-child { padding-left: 20px }
 td.bar { width: 32%; padding-right: 0 }
 td.bar svg { display: block; width: 100%; height: auto; margin-top: 4px }
 .hash code { font-size: 12px }
+.block th { color: var(--soft); font-weight: 400; font-size: 13px; white-space: nowrap }
+.block th, .block td { border: 0; padding: 2px 14px 2px 0 }
+.block .label { display: inline; color: var(--soft); font-size: 13px }
 .scripts td span + span { margin-left: 10px }
 ";
 

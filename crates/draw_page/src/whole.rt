@@ -43,7 +43,7 @@ fn head(alloc: Global, page: &Page) -> Result<Html, AllocError>
 {
     let metas = joined(charset(alloc), viewport(alloc));
     let title = words_in(alloc, Tag::Title, page.title.as_slice());
-    joined(joined(metas, title), sheet(alloc))
+    joined(joined(metas, title), sheet(alloc, page))
 }
 
 fn charset(alloc: Global) -> Result<Html, AllocError>

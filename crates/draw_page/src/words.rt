@@ -2,10 +2,10 @@
 
 ghost use Rattle.std.specs.Prelude.{◌≡◌, ◌++◌, [], IfOk, OnOk, map};
 ghost use Rattle.draw_page.specs.Words.{by_said, deadline_said, interval_said};
-ghost use Rattle.draw_page.specs.Words.{margin_of, margin_said, number_said, ticks_text, time_said};
+ghost use Rattle.draw_page.specs.Words.{left_said, margin_of, number_said, spare_said, ticks_text, time_said};
 ghost use Rattle.draw_page.specs.Words.{trip_said, with_pieces};
 
-use crate::page::Means;
+use crate::page::{Means, Verdict};
 use itoa::Buffer;
 use std::alloc::{AllocError, Global};
 
@@ -103,19 +103,24 @@ pub fn trip_words(
     }
 }
 
-/// The deadline less the tick at which the trip must have come; nothing where there are not both.
-pub fn margin_words(
-    alloc: Global,
-    tick_us: u32,
-    deadline: Option<u32>,
-    must: Option<u32>,
-) -> Result<Vec<u8>, AllocError>
-    ensures { IfOk result (λ text. text.items ≡ margin_said tick_us deadline must) }
+/// What is left: of a fault with a deadline that less the tick at which the trip must have come, of another what
+/// it has to spare; nothing where that is not known.
+pub fn left_words(alloc: Global, tick_us: u32, verdict: &Verdict) -> Result<Vec<u8>, AllocError>
+    ensures { IfOk result (λ text. text.items ≡ left_said tick_us verdict.now) }
 {
-    match (deadline, must) {
+    match (verdict.deadline, verdict.must) {
         (Some(deadline), Some(must)) => margin(alloc, tick_us, deadline, must),
-        (None, _) => Ok(Vec::new(alloc)),
+        (None, _) => spare_words(alloc, tick_us, verdict.spare),
         (Some(_), None) => Ok(Vec::new(alloc)),
+    }
+}
+
+fn spare_words(alloc: Global, tick_us: u32, spare: Option<u32>) -> Result<Vec<u8>, AllocError>
+    ensures { IfOk result (λ text. text.items ≡ spare_said tick_us spare) }
+{
+    match spare {
+        Some(spare) => time_words(alloc, tick_us, spare),
+        None => Ok(Vec::new(alloc)),
     }
 }
 

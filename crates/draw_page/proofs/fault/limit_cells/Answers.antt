@@ -6,5 +6,5 @@ unfolding limit_cells_html
 returns c =
     c.joined.ensures _ _ (c.joined-margin.ensures _ _
     (c.number_in-deadline.ensures _ c.deadline_words-words.ensures)
-    (c.number_in.ensures _ c.margin_words-words.ensures))
+    (c.number_in.ensures _ c.left_words-words.ensures))
     (c.cell.ensures _ (rw c.by_words.ensures at c.words-by.ensures))

@@ -4,7 +4,8 @@ use Rattle.draw_page.proofs.files.files.Goals as goal
 pub returns : goal.returns
 unfolding files_html
 returns c =
-    let rows = c.joined-rows.ensures _ _ c.file_rows.ensures c.digest_rows.ensures in
-    let table = c.table.ensures _ _ c.columns-head.ensures rows in
-    rw (c.as_slice-files.ensures.value, c.as_slice-digests.ensures.value)
-    at (c.section.ensures _ (c.joined-inside.ensures _ _ table c.printed.ensures))
+    let table = c.joined-table.ensures _ _ c.meaning.ensures c.file_table.ensures in
+    let sources = rw c.as_slice-sources.ensures.value at c.printed.ensures in
+    let files = rw c.as_slice-files.ensures.value at c.printed-2.ensures in
+    let printed = c.joined-printed.ensures _ _ sources files in
+    c.section.ensures _ (c.joined.ensures _ _ table printed)

@@ -9,4 +9,4 @@ returns c =
     let named = rw c.as_slice-2.ensures.value at state in
     c.joined.ensures _ _ (c.joined-trip.ensures _ _ named
     (c.number_in.ensures _ c.trip_words-words.ensures))
-    (c.number_in-2.ensures _ c.margin_words-words.ensures)
+    (c.number_in-2.ensures _ c.left_words-words.ensures)

@@ -1,4 +1,4 @@
-use Rattle.draw_page.proofs.heading.some_least.Goals as goal
+use Rattle.draw_page.proofs.heading.some_margin.Goals as goal
 
 pub returns : goal.returns
 returns c =
