@@ -1,6 +1,7 @@
 pub mod Lists
 pub mod Drawings
 pub mod Least
+pub mod Spares
 pub mod Times
 pub mod Told
 pub mod FirstTicks

@@ -10,7 +10,7 @@ use Rattle.draw_page.specs.declared.anchor.Anchor.{Anchor}
 use Rattle.draw_page.specs.declared.anchor.Anchor.TheVariants as anchor
 use Rattle.draw_page.specs.declared.page.{Page.Page, Counts.Counts, LeastMargin.LeastMargin}
 use Rattle.draw_page.specs.Elements.{plain_html, classed_html, words_in_html, said_in_html, link_html}
-use Rattle.draw_page.specs.Blocks.{block_html}
+use Rattle.draw_page.specs.{Blocks.block_html, Nearest.NearEnd, Nearest.nearest_of}
 use Rattle.draw_page.specs.Words.{ticks_text, time_said}
 
 -- ---- what it is of
@@ -40,11 +40,18 @@ tile_class class number = if number == 0 then codes "tile none" else class
 abbrev pub count_html : List ℕ → ℕ → List ℕ → List ℕ
 count_html class number words = tile_html (tile_class class number) (decimal number) words
 
--- a margin, what it is and where
-abbrev pub margin_html : ℕ → Option LeastMargin → List ℕ → List ℕ
-margin_html tick_us None words = []
-margin_html tick_us (Some least) words =
-    tile_html (codes "tile") (time_said tick_us least.ticks) (words ++ least.at.items)
+-- a margin, and where
+abbrev pub least_html : ℕ → Option LeastMargin → List ℕ
+least_html tick_us None = []
+least_html tick_us (Some least) =
+    tile_html (codes "tile") (time_said tick_us least.ticks)
+    (codes "least dependability margin by rule: " ++ least.at.items)
+
+abbrev pub spare_html : ℕ → Option NearEnd → List ℕ
+spare_html tick_us None = []
+spare_html tick_us (Some near) =
+    tile_html (codes "tile") (time_said tick_us near.ticks)
+    (codes "least security margin by rule: " ++ near.fault ++ codes " at " ++ near.terminal)
 
 unfoldable pub held_html : ℕ → List ℕ
 held_html count = count_html (codes "tile yes") count (codes "held for every choice")
@@ -67,9 +74,8 @@ counts_html counts =
 unfoldable pub tiles_html : Page → List ℕ
 tiles_html page =
     classed_html tag.Division (codes "tiles")
-    (counts_html page.counts
-    ++ margin_html page.tick_us page.least (codes "least dependability margin by rule: ")
-    ++ margin_html page.tick_us page.spare (codes "least security margin by rule: "))
+    (counts_html page.counts ++ least_html page.tick_us page.least
+    ++ spare_html page.tick_us (nearest_of page.faults.items))
 
 unfoldable pub meaning_html : List ℕ
 meaning_html = said_in_html tag.Paragraph (codes "small") (codes "Held: every choice of times inside the declared intervals meets the obligation, fractions of a tick included. Fails: a choice inside them, shown below, does not. Open: neither is known.")

@@ -9,6 +9,7 @@ pub mod Opens
 pub mod Sweeps
 pub mod Faults
 pub mod Blocks
+pub mod Nearest
 pub mod Headings
 pub mod Bars
 pub mod Times

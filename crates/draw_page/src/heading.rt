@@ -1,19 +1,23 @@
 //! The head of the page: what it is of, and the counts in large.
 
-ghost use Rattle.std.specs.Prelude.{◌≡◌, ℕ, List, IfOk, Some, codes};
+ghost use Rattle.std.specs.Prelude.{◌≡◌, ℕ, List, IfOk, codes};
 ghost use Rattle.base_markup.specs.declared.html.tag.Tag.TheVariants as tag;
 ghost use Rattle.base_markup.specs.{html.Words.words_text};
 ghost use Rattle.draw_page.specs.Elements.{said_in_html};
 ghost use Rattle.draw_page.specs.Headings.{answer_links_html, contents_html, count_html};
 ghost use Rattle.draw_page.specs.Headings.{counts_html, every_html, failing_html, header_html};
 ghost use Rattle.draw_page.specs.Headings.{held_html};
-ghost use Rattle.draw_page.specs.Headings.{link_item_html, margin_html, meaning_html, notes_html};
+ghost use Rattle.draw_page.specs.Headings.{least_html, link_item_html, meaning_html, notes_html};
+ghost use Rattle.draw_page.specs.Headings.{spare_html};
+ghost use Rattle.draw_page.specs.Nearest.{near_view};
+ghost use Rattle.draw_page.specs.Words.{time_said};
 ghost use Rattle.draw_page.specs.Headings.{other_links_html, subject_said, undecided_html};
 ghost use Rattle.draw_page.specs.Headings.{tile_class as class_of_tile, tile_html, tiles_html, zone_said};
 
 use crate::anchor::Anchor;
 use crate::block::block;
 use crate::elements::{link, said_in, words_in};
+use crate::nearest::{Near, nearest};
 use crate::page::{Counts, LeastMargin, Page};
 use crate::parts::{around, classed_around, element, joined, text_of};
 use crate::words::{number_words, ticks_words, time_words, words_of};
@@ -80,11 +84,12 @@ fn zone_words<'a>(trips: bool) -> &'a [u8]
 fn tiles(alloc: Global, page: &Page) -> Result<Html, AllocError>
     ensures { IfOk result (λ html. html.text.items ≡ tiles_html page.now) }
 {
-    let counts = counts(alloc, page.counts);
-    let margin = margin_tile(alloc, page.tick_us, &page.least, MARGIN);
-    let spare = margin_tile(alloc, page.tick_us, &page.spare, SPARE);
-    let all = joined(joined(counts, margin), spare);
-    classed_around(alloc, Tag::Division, b"tiles", all)
+    let counts = joined(
+        counts(alloc, page.counts),
+        least_tile(alloc, page.tick_us, &page.least),
+    );
+    let spare = spare_tile(alloc, page.tick_us, nearest(page.faults.as_slice()));
+    classed_around(alloc, Tag::Division, b"tiles", joined(counts, spare))
 }
 
 fn counts(alloc: Global, counts: Counts) -> Result<Html, AllocError>
@@ -155,36 +160,52 @@ fn tile_of(
     classed_around(alloc, Tag::Division, class, inside)
 }
 
-const MARGIN: &[u8] = b"least dependability margin by rule: ";
-
-const SPARE: &[u8] = b"least security margin by rule: ";
-
-// A margin, what it is and where; nothing where there is none.
-fn margin_tile(
-    alloc: Global,
-    tick_us: u32,
-    least: &Option<LeastMargin>,
-    words: &[u8],
-) -> Result<Html, AllocError>
-    ensures { IfOk result (λ html. html.text.items ≡ margin_html tick_us least.now words.now) }
+fn least_tile(alloc: Global, tick_us: u32, least: &Option<LeastMargin>) -> Result<Html, AllocError>
+    ensures { IfOk result (λ html. html.text.items ≡ least_html tick_us least.now) }
 {
     match least {
-        Some(least) => some_margin(alloc, tick_us, least, words),
+        Some(least) => {
+            let words = words_of(
+                alloc,
+                &[b"least dependability margin by rule: ", least.at.as_slice()],
+            );
+            margin_tile(alloc, tick_us, least.ticks, words)
+        }
         None => Ok(Html::new(alloc)),
     }
 }
 
-fn some_margin(
+fn spare_tile(alloc: Global, tick_us: u32, near: Option<Near<'_>>) -> Result<Html, AllocError>
+    ensures { IfOk result (λ html. html.text.items ≡ spare_html tick_us (near_view near.entry)) }
+{
+    match near {
+        Some(near) => {
+            let words = words_of(
+                alloc,
+                &[
+                    b"least security margin by rule: ",
+                    near.fault,
+                    b" at ",
+                    near.terminal,
+                ],
+            );
+            margin_tile(alloc, tick_us, near.ticks, words)
+        }
+        None => Ok(Html::new(alloc)),
+    }
+}
+
+// A time in large, and what it is.
+fn margin_tile(
     alloc: Global,
     tick_us: u32,
-    least: &LeastMargin,
-    words: &[u8],
+    ticks: u32,
+    words: Result<Vec<u8>, AllocError>,
 ) -> Result<Html, AllocError>
-    ensures { IfOk result (λ html. html.text.items
-        ≡ margin_html tick_us (Some least.now) words.now) }
+    ensures { (w : List ℕ) → IfOk words (λ text. text.items ≡ w)
+        → IfOk result (λ html. html.text.items ≡ tile_html (codes "tile") (time_said tick_us ticks) w) }
 {
-    let number = text_of(alloc, time_words(alloc, tick_us, least.ticks));
-    let words = words_of(alloc, &[words, least.at.as_slice()]);
+    let number = text_of(alloc, time_words(alloc, tick_us, ticks));
     tile_of(alloc, b"tile", number, text_of(alloc, words))
 }
 

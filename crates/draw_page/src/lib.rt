@@ -22,6 +22,7 @@ mod files;
 mod hatching;
 mod heading;
 mod matrices;
+mod nearest;
 mod opens;
 mod page;
 mod parts;

@@ -19,8 +19,6 @@ pub struct Page {
     pub counts: Counts,
     /// The least margin of all internal faults, where there is one.
     pub least: Option<LeastMargin>,
-    /// The least that an external fault has to spare, where one has.
-    pub spare: Option<LeastMargin>,
     /// Lines that say what the page leaves out, and why.
     pub notes: Vec<Vec<u8>>,
     pub faults: Vec<Fault>,

@@ -4,5 +4,7 @@ use Rattle.draw_page.proofs.heading.tiles.Goals as goal
 pub returns : goal.returns
 unfolding tiles_html
 returns c =
-    c.classed_around.ensures _ (c.joined-all.ensures _ _ (c.joined.ensures _ _ c.counts-counts.ensures
-    c.margin_tile-margin.ensures) c.margin_tile-spare.ensures)
+    let counts = c.joined-counts.ensures _ _ c.counts.ensures c.least_tile.ensures in
+    let near = rw c.as_slice.ensures.value at c.nearest.ensures in
+    let spare = rw near at c.spare_tile-spare.ensures in
+    c.classed_around.ensures _ (c.joined.ensures _ _ counts spare)
