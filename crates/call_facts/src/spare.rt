@@ -1,7 +1,7 @@
 //! What the scripts of an external fault have to spare at a terminal.
 
-ghost use Rattle.std.specs.Prelude.{◌≡◌, ◌<◌, ◌^◌, List, length, IfOk};
-ghost use Rattle.std.specs.List.{All};
+ghost use Rattle.std.specs.Prelude.{◌≡◌, ◌<◌, ◌^◌, List, length, IfOk, is_some};
+ghost use Rattle.std.specs.List.{All, list_any};
 ghost use Rattle.model_line.specs.Parameters.{terminal_count};
 ghost use Rattle.model_line.specs.declared.script.Script.{Script as ScriptOf};
 ghost use Rattle.run_waves.specs.waves.Waves.{AreWaves};
@@ -9,7 +9,7 @@ ghost use Rattle.judge_races.specs.Lasting.{AreAllWaves};
 ghost use Rattle.call_facts.specs.Spares.{IsSpareOf, least_of as least_in, least_of_each as least_in_each};
 ghost use Rattle.call_facts.specs.Spares.{lesser as lesser_of, spare_in as spare_of};
 
-use judge_races::{Race, Terminal, races_at};
+use judge_races::{Race, Stretch, Terminal, races_at};
 use model_line::Memory;
 use net_gates::Compiled;
 use run_waves::waves::Runs;
@@ -38,11 +38,24 @@ pub fn spare_at(
 fn spare_in(found: &Terminal) -> Option<u32>
     ensures { result ≡ spare_of found.now }
 {
-    if found.trips.iter().any(|trip| trip.is_some()) {
+    if some_set(found.trips.as_slice()) {
         None
     } else {
         least_of_each(found.races.as_slice())
     }
+}
+
+// Whether the trip may be set in one of the scripts.
+fn some_set(trips: &[Option<Stretch>]) -> bool
+    ensures { result ≡ list_any is_some trips.now }
+{
+    trips.iter().any(|trip| is_set(trip))
+}
+
+fn is_set(trip: &Option<Stretch>) -> bool
+    ensures { result ≡ is_some trip.now }
+{
+    trip.is_some()
 }
 
 fn least_of_each(all: &[Vec<Race>]) -> Option<u32>
