@@ -71,10 +71,12 @@ pub enum Work<'a> {
     Times {
         analyses: u32,
     },
-    /// The page of the whole study, with at most so many analyses for each obligation.
+    /// The page of the whole study, with at most so many analyses for each obligation, and with a date if
+    /// one is given.
     Page {
         analyses: u32,
         made: &'a [u8],
+        date: Option<&'a str>,
     },
 }
 

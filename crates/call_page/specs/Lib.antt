@@ -4,4 +4,5 @@ pub mod Verdicts
 pub mod Faults
 pub mod Choices
 pub mod Files
+pub mod Sources
 pub mod Pages

@@ -1,5 +1,5 @@
 -- The page of a study.
-use Rattle.std.specs.Prelude.{◌≡◌, ◌≤◌, ◌+◌, ◌*◌, ℕ, List, count_by, length, map}
+use Rattle.std.specs.Prelude.{◌≡◌, ◌≤◌, ◌+◌, ◌*◌, ℕ, List, count_by, length, map, option_map}
 use Rattle.std.specs.List.{flat_map, list_any}
 use Rattle.model_line.specs.{declared.line.Line.Line, declared.script.Script.Script}
 use Rattle.model_line.specs.Parameters.{terminal_count}
@@ -19,10 +19,14 @@ use Rattle.call_page.specs.Faults.{IsFaultOf}
 use Rattle.call_facts.specs.{FirstTicks.AreFirsts, Least.IsLeastOf, Lists.EachOf}
 use Rattle.call_page.specs.{Parts.AreParts, Files.AreFiles, Files.AreDigests}
 use Rattle.call_facts.specs.Times.{AreTimes}
+use Rattle.call_page.specs.Sources.{IsSourceFile, PageWords, notes_of}
 
--- the head: the line's own words and numbers
-pub record IsHeadOf (line : Line) (title : List ℕ) (page : Page) : Type 0 where
-  pub title_is : page.title.items ≡ title
+-- the head: what is asked for, and the line's own words and numbers
+pub record IsHeadOf (line : Line) (words : PageWords) (page : Page) : Type 0 where
+  pub title_is : page.title.items ≡ words.title
+  pub made : page.made.items ≡ words.made
+  pub date : option_map (λ date. date.items) page.date ≡ words.date
+  pub sources : EachOf IsSourceFile words.sources page.sources.items
   pub scheme : page.scheme.items ≡ scheme_initials line.scheme
   pub zone1 : page.zone1_trip ≡ line.zone1_trip
   pub tick : page.tick_us ≡ line.tick_us
@@ -38,17 +42,18 @@ pub record AreCounts (line : Line) (scripts : List Script) (rows : List Row) (co
   pub undecided : counts.undecided ≡ length (flat_map open_row rows)
   pub all : counts.held + counts.fails + counts.undecided ≡ length scripts * terminal_count line
 
--- where there are at most 64 scripts, as in one file: the margins and the digest of the trees. With
--- more of them the page leaves these out.
+-- where there are at most 64 scripts, as in one file, the margins, and where there are at most 4,096
+-- the digest of the trees. With more of them the page leaves these out, and says so in its notes.
 pub record AreOfFew (line : Line) (scripts : List Script) (rows : List Row) (times : List Time)
     (digests : List Digest) : Type 0 where
   pub times_are : length scripts ≤ 64 → AreTimes line scripts times
-  pub digests_are : length scripts ≤ 64 → AreDigests line scripts rows digests
+  pub digests_are : length scripts ≤ 4096 → AreDigests line scripts rows digests
 
 -- a page made of these answers and first ticks
-pub record IsPageOf (line : Line) (scripts : List Script) (groups : List Group) (title : List ℕ)
+pub record IsPageOf (line : Line) (scripts : List Script) (groups : List Group) (words : PageWords)
     (rows : List Row) (firsts : List Firsts) (page : Page) : Type 0 where
-  pub head : IsHeadOf line title page
+  pub head : IsHeadOf line words page
+  pub notes : map (λ note. note.items) page.notes.items ≡ notes_of (length scripts)
   pub counts : AreCounts line scripts rows page.counts
   pub least : IsLeastOf line scripts firsts page.least
   pub parts : List Part
@@ -64,15 +69,15 @@ pub record IsPageOf (line : Line) (scripts : List Script) (groups : List Group) 
 -- the text of a page made of answers that are so, and of first ticks of the one history; which
 -- answer it is, where more than one can be found, is left free
 pub record IsPageText (line : Line) (scripts : List Script) (groups : List Group)
-    (title : List ℕ) (status : Done) (text : List ℕ) : Type 0 where
+    (words : PageWords) (status : Done) (text : List ℕ) : Type 0 where
   pub rows : List Row
   pub are_rows : AreRows line scripts rows
   pub firsts : List Firsts
   pub are_firsts : AreFirsts line scripts firsts
   pub page : Page
-  pub of : IsPageOf line scripts groups title rows firsts page
+  pub of : IsPageOf line scripts groups words rows firsts page
   pub status_is : status ≡ status_by (list_any is_failing rows) (list_any is_open rows)
   pub text_is : text ≡ page_of page
 
-abbrev pub page_answer : Line → List Script → List Group → List ℕ → Answers
-page_answer line scripts groups title = IsPageText line scripts groups title
+abbrev pub page_answer : Line → List Script → List Group → PageWords → Answers
+page_answer line scripts groups words = IsPageText line scripts groups words

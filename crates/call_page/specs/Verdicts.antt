@@ -1,5 +1,6 @@
 -- How a fault's scripts stand at a terminal, and which of them does worst.
 use Rattle.std.specs.Prelude.{◌≡◌, ◌≤◌, ◌<◌, ◌+◌, ◌-◌, ℕ, List, Option, None, Some, slice_get}
+use Rattle.std.specs.List.{slice_range}
 use Rattle.model_line.specs.{declared.line.Line.Line, declared.script.Script.Script}
 use Rattle.model_line.specs.declared.script.Kind.{Kind}
 use Rattle.model_line.specs.declared.script.Kind.TheVariants.{Internal, External}
@@ -18,7 +19,7 @@ use Rattle.draw_page.specs.declared.page.{Standing.Standing, Verdict.Verdict}
 use Rattle.draw_page.specs.declared.page.Standing.TheVariants as standing
 use Rattle.call_tables.specs.declared.row.Row.{Row}
 use Rattle.call_facts.specs.declared.firsts.Firsts.{Firsts}
-use Rattle.call_facts.specs.{FirstTicks.place, Lists.At}
+use Rattle.call_facts.specs.{FirstTicks.place, Lists.At, Spares.IsSpareBy}
 
 -- how an obligation with this answer stands
 abbrev pub standing_of : Answer → Standing
@@ -77,8 +78,16 @@ after_inception (Some inception) (Some tick) = Some (tick - inception)
 abbrev pub inception_of : Line → Script → Option ℕ
 inception_of line script = first_on (is_begun script.spans.items) line.horizon
 
+-- so many scripts from `start` on
+abbrev pub own_scripts : List Script → ℕ → ℕ → List Script
+own_scripts scripts start count = slice_range scripts start (start + count)
+
+-- what the scripts of a fault have to spare at terminal k, where it is external
+abbrev pub IsSpareOfFault : Line → List Script → ℕ → Option ℕ → Type 0
+IsSpareOfFault line own k spare = At own 0 (λ s. IsSpareBy s.kind line own k spare)
+
 -- the standing of each of these scripts at terminal k; and of the one that does worst there by what it
--- was settled, and counted from its inception its deadline and first ticks
+-- was settled, and counted from its inception its deadline and first ticks; and what they have to spare
 pub record IsVerdictOf (line : Line) (scripts : List Script) (rows : List Row)
     (firsts : List Firsts) (start count k : ℕ) (v : Verdict) : Type 0 where
   pub terminal : v.terminal.items ≡ terminal_name line k
@@ -93,3 +102,4 @@ pub record IsVerdictOf (line : Line) (scripts : List Script) (rows : List Row)
   pub ticks : At scripts (start + worst) (λ s. At firsts (place line (start + worst) k) (λ f.
       (v.may ≡ after_inception (inception_of line s) f.may)
       × (v.must ≡ after_inception (inception_of line s) f.must)))
+  pub spare : IsSpareOfFault line (own_scripts scripts start count) k v.spare

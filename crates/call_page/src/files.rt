@@ -3,7 +3,7 @@
 ghost use Rattle.std.specs.Prelude.{◌≡◌, ◌≤◌, ◌<◌, ◌+◌, ◌∷◌, [], IfOk, length};
 ghost use Rattle.file_tables.specs.script.SoFar.{AreOnce};
 ghost use Rattle.file_study.specs.{sweeps.Studies.script_names, sweeps.Parts.parts_of};
-ghost use Rattle.call_answer.specs.Study.{IsStudy};
+ghost use Rattle.call_tables.specs.Whole.{IsWhole};
 ghost use Rattle.call_tables.specs.{Rows.AreRows, Written.trees_text};
 ghost use Rattle.call_answer.specs.Study.{IsAnyStudy};
 ghost use Rattle.call_facts.specs.Hashes.{IsHashOf};
@@ -74,7 +74,7 @@ fn scripts_name(alloc: Global, count: usize, n: usize) -> Result<Vec<u8>, Memory
 
 /// The hash of the trees and timings by which the obligations are settled.
 pub fn digests(alloc: Global, study: &Study, rows: &[Row]) -> Result<Vec<Digest>, Memory>
-    requires study { IsStudy study.now }
+    requires study { IsWhole study.now }
     requires rows { AreRows study.now.line study.now.scripts.items rows.now }
     ensures { IfOk result (λ digests.
         AreDigests study.now.line study.now.scripts.items rows.now digests.items) }
@@ -87,7 +87,7 @@ pub fn digests(alloc: Global, study: &Study, rows: &[Row]) -> Result<Vec<Digest>
 }
 
 fn hash_of_trees(alloc: Global, study: &Study, rows: &[Row]) -> Result<Vec<u8>, Memory>
-    requires study { IsStudy study.now }
+    requires study { IsWhole study.now }
     requires rows { AreRows study.now.line study.now.scripts.items rows.now }
     ensures { IfOk result (λ hash.
         IsHashOf (trees_text study.now.line study.now.scripts.items rows.now) hash.items) }

@@ -14,8 +14,10 @@ mod known;
 mod page;
 mod parts;
 mod said;
+mod sources;
+mod spares;
 mod undecided;
 mod verdict;
 mod worst;
 
-pub use said::{Asked, page_said};
+pub use said::{Asked, Source, page_said};

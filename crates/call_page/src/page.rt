@@ -1,6 +1,6 @@
 //! The whole page as a value.
 
-ghost use Rattle.std.specs.Prelude.{◌≡◌, ◌<◌, ◌≤◌, ◌+◌, ◌-◌, ◌^◌, IfOk, count_by, length, map};
+ghost use Rattle.std.specs.Prelude.{◌≡◌, ◌<◌, ◌≤◌, ◌+◌, ◌-◌, ◌^◌, IfOk, count_by, length, map, option_map};
 ghost use Rattle.std.specs.List.{flat_map};
 ghost use Rattle.file_tables.specs.script.SoFar.{AreOnce};
 ghost use Rattle.file_study.specs.sweeps.Studies.{script_names};
@@ -8,10 +8,11 @@ ghost use Rattle.model_line.specs.NamesByNumber.{scheme_initials};
 ghost use Rattle.call_tables.specs.{Rows.AreRows, Table.fails_for_every as fails_for_every_of};
 ghost use Rattle.call_answer.specs.Study.{IsAnyStudy};
 ghost use Rattle.call_page.specs.Choices.{IsChoiceOf, IsUndecidedOf, failing_row, open_row};
-ghost use Rattle.call_page.specs.{Facts.AreKnown, Faults.IsFaultOf, Files.AreFiles};
+ghost use Rattle.call_page.specs.{Facts.AreKnown, Faults.IsFaultOf, Files.AreDigests, Files.AreFiles};
 ghost use Rattle.call_page.specs.Parts.{AreParts};
-ghost use Rattle.call_facts.specs.{Least.IsLeastOf, Lists.EachOf};
+ghost use Rattle.call_facts.specs.{Least.IsLeastOf, Lists.EachOf, Times.AreTimes};
 ghost use Rattle.call_page.specs.Pages.{AreCounts, AreOfFew, IsPageOf};
+ghost use Rattle.call_page.specs.Sources.{IsSourceFile, notes_of, source_file, words_of};
 
 use crate::choices::choices;
 use crate::fault::faults;
@@ -20,6 +21,7 @@ use crate::head::{HeadWords, head, notes};
 use crate::known::Known;
 use crate::parts::{Part, parts};
 use crate::said::Asked;
+use crate::sources::sources;
 use crate::undecided::undecided;
 use call_answer::Study;
 use call_facts::{least_margin, times};
@@ -35,7 +37,7 @@ pub fn page(alloc: Global, known: &Known<'_>, asked: &Asked<'_>) -> Result<Page,
     requires known { AreKnown known.now }
     requires once { AreOnce (script_names known.now.study.now.scripts.items) }
     ensures { IfOk result (IsPageOf known.now.study.now.line known.now.study.now.scripts.items
-        known.now.groups.now asked.now.title.now known.now.rows.now known.now.firsts.now) }
+        known.now.groups.now (words_of asked.now) known.now.rows.now known.now.firsts.now) }
 {
     let parts = parts(alloc, known.groups, known.study.scripts.len())?;
     page_of(alloc, known, parts.as_slice(), asked)
@@ -54,7 +56,7 @@ fn page_of(
         (length known.now.study.now.scripts.items) parts.now }
     requires few { length parts.now < 2 ^ 32 }
     ensures { IfOk result (IsPageOf known.now.study.now.line known.now.study.now.scripts.items
-        known.now.groups.now asked.now.title.now known.now.rows.now known.now.firsts.now) }
+        known.now.groups.now (words_of asked.now) known.now.rows.now known.now.firsts.now) }
 {
     let study = known.study;
     let line = &study.line;
@@ -77,9 +79,11 @@ fn page_of(
         failing: choices.failing,
         undecided: choices.undecided,
         times: few.times,
+        sources: told.sources,
         files: told.files,
         digests: few.digests,
         made: head.made,
+        date: head.date,
     })
 }
 
@@ -185,6 +189,7 @@ fn counts(all: usize, fails: usize, every: usize, left: usize) -> Result<Counts,
 struct Words {
     head: HeadWords,
     notes: Vec<Vec<u8>>,
+    sources: Vec<FileText>,
     files: Vec<FileText>,
 }
 
@@ -192,6 +197,13 @@ fn told(alloc: Global, study: &Study, asked: &Asked<'_>) -> Result<Words, Memory
     requires study { IsAnyStudy study.now }
     requires once { AreOnce (script_names study.now.scripts.items) }
     ensures title { IfOk result (λ told. told.head.title.items ≡ asked.now.title.now) }
+    ensures made { IfOk result (λ told. told.head.made.items ≡ asked.now.made.now) }
+    ensures date { IfOk result (λ told. option_map (λ date. date.items) told.head.date
+        ≡ option_map (λ date. date.now) asked.now.date) }
+    ensures notes { IfOk result (λ told.
+        map (λ note. note.items) told.notes.items ≡ notes_of (length study.now.scripts.items)) }
+    ensures sources { IfOk result (λ told.
+        EachOf IsSourceFile (map source_file asked.now.sources.now) told.sources.items) }
     ensures scheme { IfOk result (λ told.
         told.head.scheme.items ≡ scheme_initials study.now.line.scheme) }
     ensures terminals { IfOk result (λ told.
@@ -200,13 +212,19 @@ fn told(alloc: Global, study: &Study, asked: &Asked<'_>) -> Result<Words, Memory
     ensures files { IfOk result (λ told.
         AreFiles study.now.line study.now.scripts.items told.files.items) }
 {
+    let sources = sources(alloc, asked.sources)?;
     let files = files(alloc, study)?;
     let notes = notes(alloc, study.scripts.len())?;
     let head = head(alloc, &study.line, asked)?;
-    Ok(Words { head, notes, files })
+    Ok(Words {
+        head,
+        notes,
+        sources,
+        files,
+    })
 }
 
-// What is worked out for at most 64 scripts.
+// What is worked out for at most 64 scripts, and for at most 4,096.
 #[derive(Drop)]
 struct Few {
     times: Vec<Time>,
@@ -219,14 +237,30 @@ fn found_of_few(alloc: Global, study: &Study, rows: &[Row]) -> Result<Few, Memor
     ensures { IfOk result (λ few. AreOfFew study.now.line study.now.scripts.items rows.now
         few.times.items few.digests.items) }
 {
+    let times = times_of_few(alloc, study)?;
+    let digests = digests_of_few(alloc, study, rows)?;
+    Ok(Few { times, digests })
+}
+
+fn times_of_few(alloc: Global, study: &Study) -> Result<Vec<Time>, Memory>
+    requires { IsAnyStudy study.now }
+    ensures { IfOk result (λ all. length study.now.scripts.items ≤ 64 →
+        AreTimes study.now.line study.now.scripts.items all.items) }
+{
     if study.scripts.len() > 64 {
-        return Ok(Few {
-            times: Vec::new(alloc),
-            digests: Vec::new(alloc),
-        });
+        return Ok(Vec::new(alloc));
     }
-    Ok(Few {
-        times: times(alloc, study)?,
-        digests: digests(alloc, study, rows)?,
-    })
+    times(alloc, study)
+}
+
+fn digests_of_few(alloc: Global, study: &Study, rows: &[Row]) -> Result<Vec<Digest>, Memory>
+    requires study { IsAnyStudy study.now }
+    requires rows { AreRows study.now.line study.now.scripts.items rows.now }
+    ensures { IfOk result (λ all. length study.now.scripts.items ≤ 4096 →
+        AreDigests study.now.line study.now.scripts.items rows.now all.items) }
+{
+    if study.scripts.len() > 4096 {
+        return Ok(Vec::new(alloc));
+    }
+    digests(alloc, study, rows)
 }

@@ -8,7 +8,7 @@ ghost use Rattle.call_answer.specs.{Answers.Says, Answers.status_by};
 ghost use Rattle.call_tables.specs.Rows.{AreRows};
 ghost use Rattle.call_answer.specs.Study.{IsAnyStudy};
 ghost use Rattle.call_tables.specs.Table.{is_failing as row_fails, is_open as row_is_open};
-ghost use Rattle.call_page.specs.{Pages.IsPageText, Pages.page_answer};
+ghost use Rattle.call_page.specs.{Pages.IsPageText, Pages.page_answer, Sources.words_of};
 
 use crate::known::Known;
 use crate::page::page;
@@ -20,12 +20,21 @@ use file_study::sweeps::Group;
 use model_line::Memory;
 use std::alloc::Global;
 
-/// What a page is asked to say: its title, and what made it, in words; and at most how many analyses
-/// each obligation is settled with.
+/// A file that was read: its name, as the call has it, and its bytes.
+#[derive(Clone, Copy)]
+pub struct Source<'a> {
+    pub name: &'a [u8],
+    pub bytes: &'a [u8],
+}
+
+/// What a page is asked to say: its title, what made it and perhaps the date, in words, and the files
+/// that were read; and at most how many analyses each obligation is settled with.
 #[derive(Clone, Copy)]
 pub struct Asked<'a> {
     pub title: &'a [u8],
     pub made: &'a [u8],
+    pub date: Option<&'a [u8]>,
+    pub sources: &'a [Source<'a>],
     pub analyses: u32,
 }
 
@@ -40,7 +49,7 @@ pub fn page_said(
     requires study { IsAnyStudy study.now }
     requires once { AreOnce (script_names study.now.scripts.items) }
     ensures { IfOk result (Says (page_answer study.now.line study.now.scripts.items groups.now
-        asked.now.title.now)) }
+        (words_of asked.now))) }
 {
     let rows = settle_all(alloc, study, asked.analyses)?;
     let all = rows.as_slice();
@@ -61,7 +70,7 @@ fn text_of_rows(
     requires once { AreOnce (script_names study.now.scripts.items) }
     requires rows { AreRows study.now.line study.now.scripts.items rows.now }
     ensures { IfOk result (λ text. IsPageText study.now.line study.now.scripts.items groups.now
-        asked.now.title.now (status_by (list_any row_fails rows.now) (list_any row_is_open rows.now))
+        (words_of asked.now) (status_by (list_any row_fails rows.now) (list_any row_is_open rows.now))
         text.items) }
 {
     let firsts = find_firsts(alloc, study)?;

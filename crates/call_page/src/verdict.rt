@@ -6,10 +6,11 @@ ghost use Rattle.judge_verdict.specs.verdict.OneEach.{OneEach};
 ghost use Rattle.call_page.specs.Facts.{AreKnown};
 ghost use Rattle.call_facts.specs.{FirstTicks.place, Lists.At};
 ghost use Rattle.call_page.specs.Verdicts.{IsVerdictOf, after_inception, means_of};
-ghost use Rattle.call_page.specs.Verdicts.{standing_of as standing_of_answer};
+ghost use Rattle.call_page.specs.Verdicts.{IsSpareOfFault, own_scripts, standing_of as standing_of_answer};
 
 use crate::known::{Known, firsts_at, row_at};
 use crate::parts::Part;
+use crate::spares::spares;
 use crate::worst::worst;
 use draw_page::{Means, Standing, Verdict};
 use draw_run::diagram::inception;
@@ -28,16 +29,26 @@ pub fn verdicts(alloc: Global, known: &Known<'_>, part: Part) -> Result<Vec<Verd
         known.now.rows.now known.now.firsts.now part.start part.count)
         (terminal_count known.now.study.now.line) verdicts.items) }
 {
+    let spares = spares(alloc, known, part)?;
     let mut verdicts = Vec::new(alloc);
     for k in 0..known.study.line.terminals.len() {
-        let verdict = verdict(alloc, known, part, k as u32)?;
+        let verdict = verdict(alloc, known, part, k as u32, spares[k])?;
         verdicts.push(verdict)?;
     }
     Ok(verdicts)
 }
 
-fn verdict(alloc: Global, known: &Known<'_>, part: Part, terminal: u32) -> Result<Verdict, Memory>
+// That of a terminal, at which the part has so much to spare.
+fn verdict(
+    alloc: Global,
+    known: &Known<'_>,
+    part: Part,
+    terminal: u32,
+    spare: Option<u32>,
+) -> Result<Verdict, Memory>
     requires known { AreKnown known.now }
+    requires spare { IsSpareOfFault known.now.study.now.line
+        (own_scripts known.now.study.now.scripts.items part.start part.count) terminal spare }
     requires some { 1 ≤ part.count }
     requires within { part.start + part.count ≤ length known.now.study.now.scripts.items }
     requires terminal { terminal < terminal_count known.now.study.now.line }
@@ -59,6 +70,7 @@ fn verdict(alloc: Global, known: &Known<'_>, part: Part, terminal: u32) -> Resul
         deadline: after(began, deadline(of.kind, of.deadline)),
         may: after(began, firsts.may),
         must: after(began, firsts.must),
+        spare,
     })
 }
 

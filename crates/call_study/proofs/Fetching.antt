@@ -77,7 +77,7 @@ module _ (files : List ℕ → Option (List ℕ)) where
   over_kinds : (script : Option (List ℕ)) (asked : Asked) (source : Source) (b : Bytes)
       (further : List (List ℕ)) (end : End) (text : List ℕ)
       → AreToldAs files (files_at source) (source_list b)
-      → answer_by (over_source (source_in b) script asked further) end text
+      → answer_by (over_source source (source_in b) script asked further) end text
       → answer_over (record { source = source; script = script; asked = asked })
       (Ok (source_list b ++ further)) end text
   over_kinds script asked (request.files l s) (bytes.Files line scripts) further end text are h = h

@@ -137,7 +137,7 @@ module _ (files : List ℕ → Option (List ℕ)) where
   beside_told (request.choose settings room) b f are = tt
   beside_told (request.why form fault terminal) b f are = tt
   beside_told request.times b f are = tt
-  beside_told request.page b f are = tt
+  beside_told (request.page made date) b f are = tt
 
   -- they are those that the store tells
   bytes_told : (r : Request) (f : Fetched) → AreFetched files r f → (of : File)

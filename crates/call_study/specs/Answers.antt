@@ -1,6 +1,6 @@
 -- What a call may answer: how it ends, which fixes its status and its line to err, and its text on
 -- out.
-use Rattle.std.specs.Prelude.{◌≡◌, ℕ, List, [], Option, Result, Ok, Err, map}
+use Rattle.std.specs.Prelude.{◌≡◌, ℕ, List, [], ◌∷◌, Option, Result, Ok, Err, map}
 use Rattle.file_records.specs.{recorded.Config.config_text, recorded.Map.map_text}
 use Rattle.file_line.specs.{LineFiles.line_of, Lines.line_values}
 use Rattle.file_tables.specs.script.Values.{values_of}
@@ -11,7 +11,7 @@ use Rattle.call_answer.specs.Answers.{prints}
 use Rattle.call_work.specs.explain.Explain.{explain_answer}
 use Rattle.call_choose.specs.Answers.{choose_answer}
 use Rattle.call_work.specs.map.Answers.{map_answer}
-use Rattle.call_page.specs.Pages.{page_answer}
+use Rattle.call_page.specs.{Pages.page_answer, Sources.SourceFile}
 use Rattle.call_times.specs.Times.{times_answer}
 use Rattle.call_tables.specs.{Margins.margins_answer, Recheck.recheck_answer}
 use Rattle.call_tables.specs.Settled.{settle_answer}
@@ -27,7 +27,8 @@ use Rattle.call_ask.specs.declared.ask.Form.TheVariants as form
 use Rattle.call_study.specs.Pictures.{IsBandsText, IsDataText, IsDumpText, IsRunText}
 use Rattle.call_work.specs.load.Reading as reading
 use Rattle.call_work.specs.load.Reading.{Reading, Wanted, over_files, over_source}
-use Rattle.call_work.specs.load.Request.{Request, files_beside, files_of}
+use Rattle.call_work.specs.load.Request as request
+use Rattle.call_work.specs.load.Request.{Request, Source, files_beside, files_of}
 use Rattle.call_work.specs.{load.Fetched.further_list, load.Loaded.source_in}
 use Rattle.call_work.specs.declared.load.fetched.Fetched.{Fetched}
 
@@ -37,6 +38,14 @@ Answers = End → List ℕ → Type 0
 -- it is not done: nothing on out
 abbrev pub halts : Halt → Answers
 halts why end text = (end ≡ Err why) × (text ≡ [])
+
+-- the files with these names and these bytes
+abbrev pub sources_of : Source → Source → List SourceFile
+sources_of (request.files line scripts) (request.files line_bytes scripts_bytes) =
+    record { name = line; bytes = line_bytes } ∷ (record { name = scripts; bytes = scripts_bytes } ∷ [])
+sources_of (request.study name) (request.study study_bytes) =
+    record { name = name; bytes = study_bytes } ∷ []
+sources_of named from = []
 
 -- the status and the text of what is wanted
 abbrev pub answer_of : Wanted → commands.Answers
@@ -72,7 +81,13 @@ answer_of (reading.map form x y made both of) =
 answer_of (reading.choose rows room of) = choose_answer of.line of.scripts rows room
 answer_of (reading.reason form line scripts terminal) = why_answer form line scripts terminal
 answer_of (reading.times line faults) = times_answer line faults
-answer_of (reading.page of) = page_answer of.line of.scripts of.groups of.title
+answer_of (reading.page made date named from of) =
+    page_answer of.line of.scripts of.groups (record {
+      title = of.title;
+      made = made;
+      date = date;
+      sources = sources_of named from;
+    })
 
 -- it is done
 abbrev pub does : Wanted → Answers
@@ -90,7 +105,7 @@ answer_over request bytes = answer_by (over_files request bytes)
 -- the answer over the files that were fetched
 abbrev pub answer_in : Request → Fetched → Answers
 answer_in request fetched =
-    answer_by (over_source (source_in fetched.source) request.script request.asked
+    answer_by (over_source request.source (source_in fetched.source) request.script request.asked
     (further_list (files_beside request.asked) fetched.further.items))
 
 -- the answer to a request over files that are all told

@@ -11,7 +11,7 @@ use crate::choose::choose;
 use crate::explain::{Explaining, explain};
 use crate::linted::lint_said;
 use crate::map::map;
-use crate::page::page;
+use crate::page::{Imprint, page};
 use crate::read::{bands, play, recheck, table, timings};
 use crate::times::times;
 use crate::why::why;
@@ -139,6 +139,10 @@ fn said_over(alloc: Global, ask: &Ask<'_>, fetched: &Fetched) -> Result<Said, Ha
         Work::Choose(settings) => choose(alloc, bytes, &settings),
         Work::Why(which) => why(alloc, bytes, &which, script),
         Work::Times { analyses } => times(alloc, bytes, analyses),
-        Work::Page { analyses, made } => page(alloc, bytes, analyses, made),
+        Work::Page {
+            analyses,
+            made,
+            date,
+        } => page(alloc, bytes, ask.source, analyses, Imprint { made, date }),
     }
 }

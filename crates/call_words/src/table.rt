@@ -215,6 +215,14 @@ const ANALYSES: Opt = Opt {
     help: "How many analyses an obligation may take before it is left open (default: 4000)",
 };
 
+const DATE: Opt = Opt {
+    name: "date",
+    value: Some("TEXT"),
+    required: false,
+    beside: Beside::Any,
+    help: "A date to print in the title block and on each sheet (a page has no clock of its own)",
+};
+
 const ALL_ROWS: Opt = Opt {
     name: "all",
     value: None,
@@ -452,7 +460,7 @@ const PICTURES: &[Word] = &[
         name: "page",
         about: "The whole study as one page (HTML), to print and to sign",
         files: STUDY,
-        options: &[ANALYSES],
+        options: &[DATE, ANALYSES],
         output: Output::Text,
     },
     Word {

@@ -242,6 +242,7 @@ fn work_of<'a>(
         "page" => Work::Page {
             analyses,
             made: MADE,
+            date: own.get_str("date"),
         },
         "recheck" => Work::Recheck { trees: *last },
         "margins" => Work::Table(Table::Margins),

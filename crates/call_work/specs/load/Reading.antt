@@ -52,7 +52,7 @@ pub data Wanted : Type 0 where
   choose : List Row → Option ℕ → Studied → Wanted
   reason : WhyForm → Line → List Script → Option ℕ → Wanted
   times : Line → List LooseFault → Wanted
-  page : Studied → Wanted
+  page : List ℕ → Option (List ℕ) → Source → Source → Studied → Wanted
 
 -- what holds of what is wanted, or of why it can't be done
 abbrev pub Reading : Type 1
@@ -247,49 +247,53 @@ times_of (request.files line_bytes scripts_bytes) halted holds = halted (times_h
 times_of (request.study study_bytes) halted holds =
     of_times (loose_study_of study_bytes) halted (λ line faults. holds (times line faults))
 
--- the page
-abbrev pub page_of : Given → Reading
-page_of given halted holds =
+-- the page, made by what these words say, with a date if one is given, of files with these names and
+-- these bytes
+abbrev pub page_of : List ℕ → Option (List ℕ) → Source → Source → Given → Reading
+page_of made date named from given halted holds =
     given halted (λ studied. unless_denied (at_most 4096000 (length studied.scripts)) halted
-    (holds (page studied)))
+    (holds (page made date named from studied)))
 
 -- what a source of these bytes says
 abbrev pub given : Source → Given
 given (request.files line_bytes scripts_bytes) = of_files line_bytes scripts_bytes
 given (request.study study_bytes) = of_study_file study_bytes
 
--- over the bytes of a source and of the further files
-abbrev pub over_source : Source → Option (List ℕ) → Asked → List (List ℕ) → Reading
-over_source from script (request.bands which made) [] = bands_of which made (given from) script
-over_source from script (request.play form _ timing) (timings_bytes ∷ []) =
+-- over the bytes of a source, which has these names, and of the further files
+abbrev pub over_source : Source → Source → Option (List ℕ) → Asked → List (List ℕ) → Reading
+over_source named from script (request.bands which made) [] = bands_of which made (given from) script
+over_source named from script (request.play form _ timing) (timings_bytes ∷ []) =
     play_of form (given from) timings_bytes script timing
-over_source from script (request.table which) [] = table_of which (given from)
-over_source from script (request.timings analyses) [] = timings_over (given from) script
-over_source from script (request.recheck _) (trees_bytes ∷ []) =
+over_source named from script (request.table which) [] = table_of which (given from)
+over_source named from script (request.timings analyses) [] = timings_over (given from) script
+over_source named from script (request.recheck _) (trees_bytes ∷ []) =
     recheck_of (given from) trees_bytes
-over_source from script request.lint [] = λ halted holds. holds (lint from)
-over_source from script (request.explain _ within form) (record_bytes ∷ []) =
+over_source named from script request.lint [] = λ halted holds. holds (lint from)
+over_source named from script (request.explain _ within form) (record_bytes ∷ []) =
     explain_of within form (given from) record_bytes script
-over_source from script (request.map form x y made) [] = map_of form x y made (given from)
-over_source from script (request.choose settings room) [] = choose_of settings room (given from)
-over_source from script (request.why form fault terminal) [] =
+over_source named from script (request.map form x y made) [] = map_of form x y made (given from)
+over_source named from script (request.choose settings room) [] = choose_of settings room (given from)
+over_source named from script (request.why form fault terminal) [] =
     why_of form (given from) fault script terminal
-over_source from script request.times [] = times_of from
-over_source from script request.page [] = page_of (given from)
-over_source from script asked bytes = λ halted holds. ⊥
+over_source named from script request.times [] = times_of from
+over_source named from script (request.page made date) [] =
+    page_of made date named from (given from)
+over_source named from script asked bytes = λ halted holds. ⊥
 
 -- once the further files are there, or one is too long
-abbrev pub over_further : Source → Option (List ℕ) → Asked → Result (List (List ℕ)) File → Reading
-over_further from script asked (Ok bytes) = over_source from script asked bytes
-over_further from script asked (Err file) =
+abbrev pub over_further : Source → Source → Option (List ℕ) → Asked → Result (List (List ℕ)) File
+    → Reading
+over_further named from script asked (Ok bytes) = over_source named from script asked bytes
+over_further named from script asked (Err file) =
     λ halted holds. halted (refused_by (refusal.TooLong file))
 
 -- over the bytes of the files in word order
 abbrev pub over_bytes : Source → Option (List ℕ) → Asked → List (List ℕ) → Reading
-over_bytes (request.files _ _) script asked (line_bytes ∷ scripts_bytes ∷ further) =
-    over_source (request.files line_bytes scripts_bytes) script asked further
-over_bytes (request.study _) script asked (study_bytes ∷ further) =
-    over_source (request.study study_bytes) script asked further
+over_bytes (request.files line scripts) script asked (line_bytes ∷ scripts_bytes ∷ further) =
+    over_source (request.files line scripts) (request.files line_bytes scripts_bytes) script asked
+    further
+over_bytes (request.study name) script asked (study_bytes ∷ further) =
+    over_source (request.study name) (request.study study_bytes) script asked further
 over_bytes source script asked bytes = λ halted holds. ⊥
 
 -- once the files are there, or one is too long

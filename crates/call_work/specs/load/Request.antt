@@ -21,8 +21,8 @@ pub data Source : Type 0 where
 -- a picture of every choice of delays, or of a play of a timing of a further file; a table; timings
 -- that fail; whether the trees of a further file are accepted; what is suspicious in the files; what
 -- explains a record of a further file; a map, by the words of one axis or two; choices of settings, by their words; why
--- one of the obligations of a fault and a terminal fails; times of faults; or the page. What a picture and a map say
--- made them stands behind the rest
+-- one of the obligations of a fault and a terminal fails; times of faults; or the page, with a date if one is given. What
+-- a picture, a map and a page say made them stands among the rest
 pub data Asked : Type 0 where
   bands : Rows → List ℕ → Asked
   play : Form → List ℕ → Option (List ℕ) → Asked
@@ -35,7 +35,7 @@ pub data Asked : Type 0 where
   choose : List (List ℕ) → Option ℕ → Asked
   why : WhyForm → Option (List ℕ) → Option (List ℕ) → Asked
   times : Asked
-  page : Asked
+  page : List ℕ → Option (List ℕ) → Asked
 
 -- a picture, timings that fail and a record are of one script, and so may be why one fails
 pub record Request : Type 0 where
@@ -59,7 +59,7 @@ files_beside (map form x y made) = []
 files_beside (choose settings room) = []
 files_beside (why form fault terminal) = []
 files_beside times = []
-files_beside page = []
+files_beside (page made date) = []
 
 -- the files of a request in the order of its words
 abbrev pub files_of : Request → List NamedFile
@@ -82,7 +82,7 @@ asked_of (work.Map ask) = map ask.form ask.x.now (option_copied ask.y) ask.made.
 asked_of (work.Choose ask) = choose (list.map (λ word. word.now) ask.settings.now) ask.room
 asked_of (work.Why ask) = why ask.form (option_copied ask.fault) (option_copied ask.terminal)
 asked_of (work.Times analyses) = times
-asked_of (work.Page analyses made) = page
+asked_of (work.Page analyses made date) = page made.now (option_copied date)
 
 abbrev pub request_of : Ask → Request
 request_of ask = record {

@@ -5,12 +5,16 @@ pub returns : goal.returns
 returns c = record {
   head = record {
     title_is = c.in_ok-told.ensures.title;
+    made = c.in_ok-told.ensures.made;
+    date = c.in_ok-told.ensures.date;
+    sources = c.in_ok-told.ensures.sources;
     scheme = c.in_ok-told.ensures.scheme;
     zone1 = refl;
     tick = refl;
     horizon = refl;
     terminals = c.in_ok-told.ensures.terminals;
   };
+  notes = c.in_ok-told.ensures.notes;
   counts = c.in_ok-found.ensures.counts;
   least = c.in_ok-found.ensures.least;
   parts = c.args.parts.now;

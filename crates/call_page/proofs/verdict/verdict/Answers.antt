@@ -42,4 +42,5 @@ returns c =
             rw c.inception-began.ensures.first at c.after-2.ensures,
             rw c.inception-began.ensures.first at c.after-3.ensures,
           ));
+      spare = c.requires.spare;
     }

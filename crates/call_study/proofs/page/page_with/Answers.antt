@@ -1,6 +1,6 @@
 use Rattle.std.proofs.Common.{◌≡◌, ◌∙◌, None, Some, length, refl, sym}
 use Rattle.call_work.specs.load.Reading.{at_most}
-use Rattle.call_study.proofs.page.page_over.Goals as goal
+use Rattle.call_study.proofs.page.page_with.Goals as goal
 
 pub returns-in-Some : goal.returns-in-Some
 returns-in-Some c =
