@@ -1,6 +1,6 @@
 //! The page of a study.
 
-ghost use Rattle.std.specs.Prelude.{◌≡◌, map};
+ghost use Rattle.std.specs.Prelude.{◌≡◌, map, option_map};
 ghost use Rattle.std.specs.Option.{option_copied};
 ghost use Rattle.call_page.specs.Sources.{source_file};
 ghost use Rattle.call_study.specs.{Answers.answer_by, Answers.sources_of, Ends.Gives};
@@ -35,6 +35,15 @@ pub fn page(
 {
     let loaded = load(alloc, bytes)?;
     page_over(alloc, &loaded, bytes, named, analyses, imprint)
+}
+
+fn date_bytes<'a>(date: Option<&'a str>) -> Option<&'a [u8]>
+    ensures { option_map (λ date. date.now) result ≡ option_copied date.entry }
+{
+    match date {
+        Some(date) => Some(date.as_bytes()),
+        None => None,
+    }
 }
 
 // The page of what is loaded from these bytes.
@@ -92,7 +101,7 @@ fn page_with(
             let asked = Asked {
                 title: loaded.title.as_bytes(),
                 made: imprint.made,
-                date: imprint.date.map(|date| date.as_bytes()),
+                date: date_bytes(imprint.date),
                 sources,
                 analyses,
             };

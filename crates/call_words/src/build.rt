@@ -7,4 +7,4 @@
 pub const BUILD: &str = "proved with Rattle, logic dac8208d650f15bf";
 
 /// What a page and a drawing say made them: the program and its version, and the same of its build.
-pub const MADE: &[u8] = b"study 0.33.0, proved with Rattle, logic dac8208d650f15bf";
+pub const MADE: &[u8] = b"study 0.34.0, proved with Rattle, logic dac8208d650f15bf";

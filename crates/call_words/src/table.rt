@@ -5,7 +5,7 @@ use clap::{Arg, ArgAction, Command};
 use std::alloc::{AllocError, Global};
 
 // The version of the program.
-const VERSION: &str = "0.33.0";
+const VERSION: &str = "0.34.0";
 
 // What the help says behind the commands.
 const AFTER: &str = "Answer:    verdicts, why, compare, lint, settle, recheck, explain

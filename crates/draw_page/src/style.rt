@@ -157,6 +157,12 @@ pub const PRINT: &[u8] = b"
   @bottom-right { content: 'sheet ' counter(page) ' of ' counter(pages); font: 8pt sans-serif } }
 @media print {
   body { font-size: 9.5pt }
+  h1 { font-size: 16pt }
+  h2 { margin: 16px 0 6px; padding-top: 10px; font-size: 12pt }
+  .tiles { gap: 6px; margin: 10px 0 8px }
+  .tile { padding: 4px 9px; min-width: 0; max-width: 190px; font-size: 8pt }
+  .tile strong { font-size: 14pt }
+  .lines { margin-top: 30px }
   main { max-width: none; padding: 0 }
   nav { display: none }
   a { color: inherit; text-decoration: none }
