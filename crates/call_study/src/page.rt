@@ -64,7 +64,13 @@ fn page_over(
             let study = file(name, study.as_slice());
             page_with(alloc, loaded, analyses, imprint, &[study])
         }
-        (Source::Files { line, scripts }, Bytes::Files { line: l, scripts: s }) => {
+        (
+            Source::Files { line, scripts },
+            Bytes::Files {
+                line: l,
+                scripts: s,
+            },
+        ) => {
             let line = file(line, l.as_slice());
             let scripts = file(scripts, s.as_slice());
             page_with(alloc, loaded, analyses, imprint, &[line, scripts])

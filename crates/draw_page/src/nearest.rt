@@ -57,12 +57,6 @@ fn nearer<'a>(first: Option<Near<'a>>, second: Option<Near<'a>>) -> Option<Near<
     match (first, second) {
         (None, second) => second,
         (Some(a), None) => Some(a),
-        (Some(a), Some(b)) => {
-            if b.ticks < a.ticks {
-                Some(b)
-            } else {
-                Some(a)
-            }
-        }
+        (Some(a), Some(b)) => { if b.ticks < a.ticks { Some(b) } else { Some(a) } }
     }
 }
