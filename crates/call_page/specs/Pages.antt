@@ -37,9 +37,9 @@ pub record IsHeadOf (line : Line) (words : PageWords) (page : Page) : Type 0 whe
 -- each obligation is counted once
 pub record AreCounts (line : Line) (scripts : List Script) (rows : List Row) (counts : Counts)
     : Type 0 where
-  pub fails : counts.fails ≡ length (flat_map failing_row rows)
+  pub fails : counts.fails ≡ count_by is_failing rows
   pub every : counts.every ≡ count_by (λ row. fails_for_every row.settled.answer) rows
-  pub undecided : counts.undecided ≡ length (flat_map open_row rows)
+  pub undecided : counts.undecided ≡ count_by is_open rows
   pub all : counts.held + counts.fails + counts.undecided ≡ length scripts * terminal_count line
 
 -- where there are at most 64 scripts, as in one file, the margins, and where there are at most 4,096
@@ -59,8 +59,8 @@ pub record IsPageOf (line : Line) (scripts : List Script) (groups : List Group) 
   pub parts : List Part
   pub are_parts : AreParts groups (length scripts) parts
   pub faults : EachOf (IsFaultOf line scripts groups rows firsts) parts page.faults.items
-  pub failing : EachOf (IsChoiceOf line scripts parts) (flat_map failing_row rows)
-      page.failing.items
+  pub failing : EachOf (IsChoiceOf line scripts parts rows)
+      (flat_map (failing_row line parts rows) rows) page.failing.items
   pub undecided : EachOf (IsUndecidedOf line scripts parts) (flat_map open_row rows)
       page.undecided.items
   pub few : AreOfFew line scripts rows page.times.items page.digests.items

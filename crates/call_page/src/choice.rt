@@ -1,26 +1,27 @@
 //! A choice of delays that fails an obligation.
 
-ghost use Rattle.std.specs.Prelude.{◌≡◌, ◌<◌, ◌^◌, List, Some, IfOk, length, slice_get};
+ghost use Rattle.std.specs.Prelude.{◌≡◌, ◌≤◌, ◌<◌, ◌+◌, ◌-◌, ◌^◌, List, Some, IfOk, length, slice_get};
 ghost use Rattle.model_line.specs.{Fits.Fits, Parameters.terminal_count};
-ghost use Rattle.model_line.specs.NamesByNumber.{terminal_name};
+ghost use Rattle.model_line.specs.NamesByNumber.{script_name, terminal_name};
 ghost use Rattle.model_line.specs.declared.script.Script.{Script as ScriptOf};
 ghost use Rattle.model_timing.specs.{Inside.IsTimingInside, Timing.TimingValues};
 ghost use Rattle.judge_settle.specs.{corner.Cuts.IsCut, settle.Trees.IsFailing};
-ghost use Rattle.call_answer.specs.Study.{IsAnyStudy};
 ghost use Rattle.call_tables.specs.Table.{fails_for_every as fails_for_every_of};
 ghost use Rattle.call_why.specs.Reasons.{IsToldWhy};
-ghost use Rattle.call_page.specs.Choices.{IsChoiceOf};
+ghost use Rattle.call_page.specs.{Choices.IsChoiceOf, Choices.IsStretch, Facts.AreKnown};
+ghost use Rattle.call_tables.specs.declared.row.Row.{Row as RowOf};
 ghost use Rattle.call_facts.specs.Lists.{At};
 
-use crate::known::{name_of, script_at};
+use crate::known::{Known, name_of, script_at};
 use crate::parts::{Part, part_of_script};
+use crate::stretch::stretch;
 use call_answer::Study;
 use call_facts::{least_times, play, told_steps, told_times};
 use call_tables::{Row, fails_for_every};
 use call_why::told_why;
 use draw_page::FailingChoice;
 use judge_settle::corner::{Obligation, cut};
-use model_line::{Memory, Script, name_of_terminal};
+use model_line::{Memory, Script, name_of_script, name_of_terminal};
 use model_timing::{NamedTiming, Timing};
 use net_gates::Compiled;
 use std::alloc::Global;
@@ -28,20 +29,21 @@ use std::alloc::Global;
 /// The choice of a timing that fails the obligation of a row, cut to what matters.
 pub fn choice(
     alloc: Global,
-    study: &Study,
+    known: &Known<'_>,
     parts: &[Part],
     row: &Row,
     timing: &Timing,
 ) -> Result<FailingChoice, Memory>
-    requires study { IsAnyStudy study.now }
+    requires known { AreKnown known.now }
     requires few { length parts.now < 2 ^ 32 }
-    requires script { row.now.script < length study.now.scripts.items }
-    requires terminal { row.now.terminal < terminal_count study.now.line }
-    requires fails { At study.now.scripts.items row.now.script
-        (λ s. IsFailing study.now.line s row.now.terminal timing.now) }
-    ensures { IfOk result
-        (IsChoiceOf study.now.line study.now.scripts.items parts.now row.now) }
+    requires script { row.now.script < length known.now.study.now.scripts.items }
+    requires terminal { row.now.terminal < terminal_count known.now.study.now.line }
+    requires fails { At known.now.study.now.scripts.items row.now.script
+        (λ s. IsFailing known.now.study.now.line s row.now.terminal timing.now) }
+    ensures { IfOk result (IsChoiceOf known.now.study.now.line
+        known.now.study.now.scripts.items parts.now known.now.rows.now row.now) }
 {
+    let study = known.study;
     let compiled = Compiled {
         line: &study.line,
         net: &study.net,
@@ -57,7 +59,30 @@ pub fn choice(
     let named = NamedTiming { name, timing: cut };
     let each = fails_for_every(row);
     let why = told_why(alloc, &compiled, of_script, row.terminal, timing, each)?;
-    choice_of(alloc, &compiled, parts, row, of_script, &named, why)
+    let count = stretch(known, parts, row.script, row.terminal);
+    let last = last_name(alloc, study, row.script, count)?;
+    let told = Told { why, count, last };
+    choice_of(alloc, &compiled, parts, row, of_script, &named, told)
+}
+
+// The name of the last of so many scripts from this one on.
+fn last_name(alloc: Global, study: &Study, script: u32, count: u32) -> Result<Vec<u8>, Memory>
+    requires some { 1 ≤ count }
+    requires within { script + count ≤ length study.now.scripts.items }
+    requires counted { length study.now.scripts.items < 2 ^ 32 }
+    ensures { IfOk result (λ name. name.items
+        ≡ script_name study.now.scripts.items (script + count - 1)) }
+{
+    let last = script + (count - 1);
+    Ok(Vec::from_slice(alloc, name_of_script(study.scripts.as_slice(), last))?)
+}
+
+// Why an obligation fails, and how many scripts fail from its own on, to the last by its name.
+#[derive(Drop)]
+struct Told {
+    why: Vec<u8>,
+    count: u32,
+    last: Vec<u8>,
 }
 
 // The choice that is this timing, named after the terminal, with the reason why it fails.
@@ -68,7 +93,7 @@ fn choice_of(
     row: &Row,
     of: &Script,
     named: &NamedTiming,
-    why: Vec<u8>,
+    told: Told,
 ) -> Result<FailingChoice, Memory>
     requires few { length parts.now < 2 ^ 32 }
     requires fits { Fits compiled.now.line.now of.now }
@@ -77,15 +102,19 @@ fn choice_of(
     ensures { (whole : TimingValues)
         → IsCut compiled.now.line.now of.now row.now.terminal whole named.now.timing
         → IsToldWhy compiled.now.line.now of.now row.now.terminal whole
-        (fails_for_every_of row.now.settled.answer) why.items
-        → (scripts : List ScriptOf) → slice_get scripts row.now.script ≡ Some of.now
-        → IfOk result (IsChoiceOf compiled.now.line.now scripts parts.now row.now) }
+        (fails_for_every_of row.now.settled.answer) told.why.items
+        → (scripts : List ScriptOf) → (rows : List RowOf)
+        → slice_get scripts row.now.script ≡ Some of.now
+        → IsStretch compiled.now.line.now (length scripts) parts.now rows row.now.script
+        row.now.terminal told.count
+        → told.last.items ≡ script_name scripts (row.now.script + told.count - 1)
+        → IfOk result (IsChoiceOf compiled.now.line.now scripts parts.now rows row.now) }
 {
     let line = compiled.line;
     let timing = &named.timing;
     let script = Vec::from_slice(alloc, of.name.bytes())?;
     let terminal = Vec::from_slice(alloc, name_of_terminal(line, row.terminal))?;
-    let told = told_times(alloc, line, timing)?;
+    let times = told_times(alloc, line, timing)?;
     let moves = timing.steps();
     let steps = told_steps(alloc, line, moves)?;
     let least = least_times(alloc, line, timing)?;
@@ -96,9 +125,11 @@ fn choice_of(
         fault,
         script,
         terminal,
+        scripts: told.count,
+        last: told.last,
         every,
-        why,
-        told,
+        why: told.why,
+        told: times,
         least,
         steps,
         play,

@@ -3,61 +3,65 @@
 ghost use Rattle.std.specs.Prelude.{◌<◌, ◌++◌, ◌^◌, List, IfOk, OnOk, length};
 ghost use Rattle.std.specs.List.{flat_map};
 ghost use Rattle.call_tables.specs.declared.row.Row.{Row as RowOf};
-ghost use Rattle.call_tables.specs.Rows.{AreRows};
-ghost use Rattle.call_answer.specs.Study.{IsAnyStudy};
 ghost use Rattle.call_page.specs.{Choices.IsChoiceOf, Choices.failing_row};
 ghost use Rattle.call_facts.specs.Lists.{EachOf};
-ghost use Rattle.call_page.specs.Facts.{IsRowOf};
+ghost use Rattle.call_page.specs.Facts.{AreKnown, IsRowOf};
 
 use crate::choice::choice;
+use crate::known::Known;
 use crate::parts::Part;
-use call_answer::Study;
+use crate::stretch::begins;
 use call_tables::Row;
 use draw_page::FailingChoice;
 use judge_settle::settle::Answer;
 use model_line::Memory;
 use std::alloc::Global;
 
-/// One for each obligation that fails, in order.
+/// One for each stretch of scripts that fail at a terminal one after another, of the first of them, in order.
 pub fn choices(
     alloc: Global,
-    study: &Study,
+    known: &Known<'_>,
     parts: &[Part],
-    rows: &[Row],
 ) -> Result<Vec<FailingChoice>, Memory>
-    requires study { IsAnyStudy study.now }
+    requires known { AreKnown known.now }
     requires few { length parts.now < 2 ^ 32 }
-    requires rows { AreRows study.now.line study.now.scripts.items rows.now }
     ensures { IfOk result (λ choices. EachOf
-        (IsChoiceOf study.now.line study.now.scripts.items parts.now)
-        (flat_map failing_row rows.now) choices.items) }
+        (IsChoiceOf known.now.study.now.line known.now.study.now.scripts.items parts.now
+        known.now.rows.now)
+        (flat_map (failing_row known.now.study.now.line parts.now known.now.rows.now)
+        known.now.rows.now) choices.items) }
 {
     let mut choices = Vec::new(alloc);
-    for row in rows {
-        push_choice(alloc, study, parts, row, &mut choices)?;
+    for row in known.rows {
+        push_choice(alloc, known, parts, row, &mut choices)?;
     }
     Ok(choices)
 }
 
-// Adds that of a row, if it fails.
+// Adds that of a row, if it fails and begins a stretch.
 fn push_choice(
     alloc: Global,
-    study: &Study,
+    known: &Known<'_>,
     parts: &[Part],
     row: &Row,
     choices: &mut Vec<FailingChoice>,
 ) -> Result<(), Memory>
-    requires study { IsAnyStudy study.now }
+    requires known { AreKnown known.now }
     requires few { length parts.now < 2 ^ 32 }
-    requires row { IsRowOf study.now.line study.now.scripts.items row.now }
+    requires row { IsRowOf known.now.study.now.line known.now.study.now.scripts.items row.now }
     ensures { OnOk result ((before : List RowOf) → EachOf
-        (IsChoiceOf study.now.line study.now.scripts.items parts.now) before choices.old.items →
-        EachOf (IsChoiceOf study.now.line study.now.scripts.items parts.now)
-        (before ++ failing_row row.now) choices.new.items) }
+        (IsChoiceOf known.now.study.now.line known.now.study.now.scripts.items parts.now
+        known.now.rows.now) before choices.old.items →
+        EachOf (IsChoiceOf known.now.study.now.line known.now.study.now.scripts.items parts.now
+        known.now.rows.now)
+        (before ++ failing_row known.now.study.now.line parts.now known.now.rows.now row.now)
+        choices.new.items) }
 {
     if let Answer::Fails { timing, .. } = &row.settled.answer {
-        let choice = choice(alloc, study, parts, row, timing)?;
-        choices.push(choice)?;
+        if begins(known, parts, row.script as usize, row.terminal) {
+            let choice = choice(alloc, known, parts, row, timing)?;
+            choices.push(choice)?;
+        }
     }
     Ok(())
 }

@@ -16,6 +16,7 @@ mod parts;
 mod said;
 mod sources;
 mod spares;
+mod stretch;
 mod undecided;
 mod verdict;
 mod worst;

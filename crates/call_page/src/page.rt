@@ -6,6 +6,7 @@ ghost use Rattle.file_tables.specs.script.SoFar.{AreOnce};
 ghost use Rattle.file_study.specs.sweeps.Studies.{script_names};
 ghost use Rattle.model_line.specs.NamesByNumber.{scheme_initials};
 ghost use Rattle.call_tables.specs.{Rows.AreRows, Table.fails_for_every as fails_for_every_of};
+ghost use Rattle.call_tables.specs.Table.{is_failing as row_fails, is_open as row_is_open};
 ghost use Rattle.call_answer.specs.Study.{IsAnyStudy};
 ghost use Rattle.call_page.specs.Choices.{IsChoiceOf, IsUndecidedOf, failing_row, open_row};
 ghost use Rattle.call_page.specs.{Facts.AreKnown, Faults.IsFaultOf, Files.AreDigests, Files.AreFiles};
@@ -22,10 +23,11 @@ use crate::known::Known;
 use crate::parts::{Part, parts};
 use crate::said::Asked;
 use crate::sources::sources;
+use crate::stretch::fails;
 use crate::undecided::undecided;
 use call_answer::Study;
 use call_facts::{least_margin, times};
-use call_tables::{Row, fails_for_every};
+use call_tables::{Row, fails_for_every, is_open};
 use draw_page::{
     Counts, Digest, FailingChoice, Fault, FileText, LeastMargin, Page, Time, Undecided,
 };
@@ -107,8 +109,10 @@ fn found(alloc: Global, known: &Known<'_>, parts: &[Part]) -> Result<Findings, M
         known.now.groups.now known.now.rows.now known.now.firsts.now) parts.now
         found.faults.items) }
     ensures failing { IfOk result (λ found. EachOf
-        (IsChoiceOf known.now.study.now.line known.now.study.now.scripts.items parts.now)
-        (flat_map failing_row known.now.rows.now) found.choices.failing.items) }
+        (IsChoiceOf known.now.study.now.line known.now.study.now.scripts.items parts.now
+        known.now.rows.now)
+        (flat_map (failing_row known.now.study.now.line parts.now known.now.rows.now)
+        known.now.rows.now) found.choices.failing.items) }
     ensures undecided { IfOk result (λ found. EachOf
         (IsUndecidedOf known.now.study.now.line known.now.study.now.scripts.items parts.now)
         (flat_map open_row known.now.rows.now) found.choices.undecided.items) }
@@ -117,7 +121,7 @@ fn found(alloc: Global, known: &Known<'_>, parts: &[Part]) -> Result<Findings, M
 {
     let least = least_margin(alloc, known.study, known.firsts)?;
     let faults = faults(alloc, known, parts)?;
-    let choices = choices_of(alloc, known.study, parts, known.rows)?;
+    let choices = choices_of(alloc, known, parts)?;
     Ok(Findings {
         least,
         faults,
@@ -133,27 +137,48 @@ struct Choices {
     undecided: Vec<Undecided>,
 }
 
-fn choices_of(alloc: Global, study: &Study, parts: &[Part], rows: &[Row]) -> Result<Choices, Memory>
-    requires study { IsAnyStudy study.now }
+fn choices_of(alloc: Global, known: &Known<'_>, parts: &[Part]) -> Result<Choices, Memory>
+    requires known { AreKnown known.now }
     requires few { length parts.now < 2 ^ 32 }
-    requires rows { AreRows study.now.line study.now.scripts.items rows.now }
     ensures failing { IfOk result (λ found. EachOf
-        (IsChoiceOf study.now.line study.now.scripts.items parts.now)
-        (flat_map failing_row rows.now) found.failing.items) }
+        (IsChoiceOf known.now.study.now.line known.now.study.now.scripts.items parts.now
+        known.now.rows.now)
+        (flat_map (failing_row known.now.study.now.line parts.now known.now.rows.now)
+        known.now.rows.now) found.failing.items) }
     ensures undecided { IfOk result (λ found. EachOf
-        (IsUndecidedOf study.now.line study.now.scripts.items parts.now)
-        (flat_map open_row rows.now) found.undecided.items) }
-    ensures counts { IfOk result (λ found. AreCounts study.now.line study.now.scripts.items
-        rows.now found.counts) }
+        (IsUndecidedOf known.now.study.now.line known.now.study.now.scripts.items parts.now)
+        (flat_map open_row known.now.rows.now) found.undecided.items) }
+    ensures counts { IfOk result (λ found. AreCounts known.now.study.now.line
+        known.now.study.now.scripts.items known.now.rows.now found.counts) }
 {
-    let failing = choices(alloc, study, parts, rows)?;
-    let undecided = undecided(alloc, study, parts, rows)?;
-    let counts = counts(rows.len(), failing.len(), every(rows), undecided.len())?;
+    let rows = known.rows;
+    let failing = choices(alloc, known, parts)?;
+    let undecided = undecided(alloc, known.study, parts, rows)?;
+    let counts = counts(
+        rows.len(),
+        failing_count(rows),
+        every(rows),
+        open_count(rows),
+    )?;
     Ok(Choices {
         counts,
         failing,
         undecided,
     })
+}
+
+// How many fail.
+fn failing_count(rows: &[Row]) -> usize
+    ensures { result ≡ count_by row_fails rows.now }
+{
+    rows.iter().filter(|row| fails(row)).count()
+}
+
+// How many are open.
+fn open_count(rows: &[Row]) -> usize
+    ensures { result ≡ count_by row_is_open rows.now }
+{
+    rows.iter().filter(|row| is_open(row)).count()
 }
 
 // How many fail for every choice.

@@ -1,5 +1,6 @@
 -- The choices of delays that fail an obligation.
-use Rattle.std.specs.Prelude.{◌++◌, ℕ, Bool, true, false, List, [], ◌∷◌, codes, Vec}
+use Rattle.std.specs.Prelude.{◌++◌, ℕ, Bool, true, false, List, [], ◌∷◌, codes, decimal, nat_le, Vec}
+use Rattle.std.specs.Prelude.{if◌then◌else◌}
 use Rattle.std.specs.declared.alloc.Global.{Global}
 use Rattle.std.specs.List.{flat_map}
 use Rattle.base_markup.specs.declared.html.tag.Tag.TheVariants as tag
@@ -14,12 +15,26 @@ use Rattle.draw_page.specs.Elements.{words_in_html}
 use Rattle.draw_page.specs.Figures.{figure_html}
 use Rattle.draw_page.specs.Words.{interval_said, time_said}
 
--- the script, with a link to its fault, and the terminal
+-- up to which script, where there are several
+abbrev pub until_said : FailingChoice → List ℕ
+until_said choice =
+    if nat_le choice.scripts 1 then [] else codes " to " ++ choice.last.items
+
+-- the script, with a link to its fault, up to which script, and the terminal
 unfoldable pub choice_heading_html : FailingChoice → List ℕ
 choice_heading_html choice =
     plain_html tag.Heading3
-    (link_html (anchor.Fault choice.fault) choice.script.items ++ words_text (codes " at ")
-    ++ words_text choice.terminal.items)
+    (link_html (anchor.Fault choice.fault) choice.script.items ++ words_text (until_said choice)
+    ++ words_text (codes " at ") ++ words_text choice.terminal.items)
+
+-- how many scripts there are, where there are several
+unfoldable pub several_html : ℕ → List ℕ
+several_html scripts =
+    words_in_html tag.Paragraph
+    (decimal scripts ++ codes " scripts of the fault, one after another, fail there; shown is a choice that fails the first.")
+
+abbrev pub some_several_html : ℕ → List ℕ
+some_several_html scripts = if nat_le scripts 1 then [] else several_html scripts
 
 -- that every choice fails, where it does
 unfoldable pub every_html : List ℕ
@@ -102,7 +117,7 @@ least_html (name ∷ names) = some_least_html (name ∷ names)
 unfoldable pub choice_html : ℕ → FailingChoice → List ℕ
 choice_html tick_us choice =
     plain_html tag.Section
-    (choice_heading_html choice ++ said_in_html tag.Preformatted (codes "why") choice.why.items
+    (choice_heading_html choice ++ some_several_html choice.scripts ++ said_in_html tag.Preformatted (codes "why") choice.why.items
     ++ some_every_html choice.every
     ++ some_told_html tick_us choice.told.items ++ some_steps_html tick_us choice.steps.items ++ least_html choice.least.items
     ++ figure_html (drawing_seen choice.play))

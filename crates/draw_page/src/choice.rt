@@ -8,14 +8,16 @@ ghost use Rattle.draw_page.specs.Choices.{least_html, least_name_html, middle_ht
 ghost use Rattle.draw_page.specs.Choices.{none_failing_html, some_failing_html, some_least_html};
 ghost use Rattle.draw_page.specs.Choices.{some_steps_html, step_row_html, steps_html, told_html};
 ghost use Rattle.draw_page.specs.Choices.{none_told_html, some_told_html, told_row_html};
+ghost use Rattle.draw_page.specs.Choices.{several_html, some_several_html, until_said};
 
 use crate::anchor::Anchor;
 use crate::drawings::figure;
 use crate::elements::{columns, link, number_in, row_head, said_in, section, table, words_in};
 use crate::page::{FailingChoice, Page, ToldStep, ToldTime};
-use crate::parts::{around, classed_around, joined};
-use crate::words::{interval_words, time_words};
+use crate::parts::{around, classed_around, joined, text_of};
+use crate::words::{interval_words, time_words, words_of};
 use base_markup::html::{Html, Tag};
+use itoa::Buffer;
 use std::alloc::{AllocError, Global};
 
 /// The section of the choices that fail.
@@ -57,8 +59,9 @@ fn choices(alloc: Global, tick_us: u32, failing: &[FailingChoice]) -> Result<Htm
 fn one_choice(alloc: Global, tick_us: u32, choice: &FailingChoice) -> Result<Html, AllocError>
     ensures { IfOk result (λ html. html.text.items ≡ choice_html tick_us choice.now) }
 {
+    let named = joined(heading(alloc, choice), some_several(alloc, choice.scripts));
     let why = said_in(alloc, Tag::Preformatted, b"why", choice.why.as_slice());
-    let reason = joined(heading(alloc, choice), why);
+    let reason = joined(named, why);
     let head = joined(reason, some_every(alloc, choice.every));
     let told = joined(head, some_told(alloc, tick_us, choice.told.as_slice()));
     let steps = joined(told, some_steps(alloc, tick_us, choice.steps.as_slice()));
@@ -76,9 +79,45 @@ fn heading(alloc: Global, choice: &FailingChoice) -> Result<Html, AllocError>
 {
     let to = Anchor::Fault(choice.fault as usize);
     let script = link(alloc, to, choice.script.as_slice());
-    let at = joined(script, Html::words(alloc, b" at "));
+    let until = joined(script, text_of(alloc, until_words(alloc, choice)));
+    let at = joined(until, Html::words(alloc, b" at "));
     let terminal = Html::words(alloc, choice.terminal.as_slice());
     around(alloc, Tag::Heading3, joined(at, terminal))
+}
+
+// Up to which script, if there are several.
+fn until_words(alloc: Global, choice: &FailingChoice) -> Result<Vec<u8>, AllocError>
+    ensures { IfOk result (λ text. text.items ≡ until_said choice.now) }
+{
+    if choice.scripts <= 1 {
+        return Ok(Vec::new(alloc));
+    }
+    words_of(alloc, &[b" to ", choice.last.as_slice()])
+}
+
+// How many scripts there are, if there are several.
+fn some_several(alloc: Global, scripts: u32) -> Result<Html, AllocError>
+    ensures { IfOk result (λ html. html.text.items ≡ some_several_html scripts) }
+{
+    if scripts <= 1 {
+        Ok(Html::new(alloc))
+    } else {
+        several(alloc, scripts)
+    }
+}
+
+fn several(alloc: Global, scripts: u32) -> Result<Html, AllocError>
+    ensures { IfOk result (λ html. html.text.items ≡ several_html scripts) }
+{
+    let mut digits = Buffer::new();
+    let words = words_of(
+        alloc,
+        &[
+            digits.format(scripts).as_bytes(),
+            b" scripts of the fault, one after another, fail there; shown is a choice that fails the first.",
+        ],
+    );
+    around(alloc, Tag::Paragraph, text_of(alloc, words))
 }
 
 // That every choice fails, if it does.

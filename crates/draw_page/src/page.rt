@@ -122,8 +122,11 @@ pub struct Verdict {
 pub struct FailingChoice {
     /// The fault by its number.
     pub fault: u32,
-    /// The script's name.
+    /// The script's name; how many scripts of the fault fail there from it on, one after another, and the
+    /// name of the last.
     pub script: Vec<u8>,
+    pub scripts: u32,
+    pub last: Vec<u8>,
     pub terminal: Vec<u8>,
     pub every: bool,
     pub why: Vec<u8>,

@@ -10,7 +10,7 @@ use Rattle.call_facts.specs.SideLaws.{one_at}
 use Rattle.call_page.proofs.choice.choice_of.Goals as goal
 
 pub returns : goal.returns
-returns c = λ whole is_cut why scripts at.
+returns c = λ whole is_cut why scripts rows at stretch last.
     let line : Line = c.args.compiled.now.line.now in
     let row = c.args.row.now in
     let script : Script = c.args.of.now in
@@ -19,9 +19,11 @@ returns c = λ whole is_cut why scripts at.
       fault = c.part_of_script-fault.result;
       script = c.in_ok-script.script;
       terminal = c.in_ok-terminal.terminal;
+      scripts = c.args.told.count;
+      last = c.args.told.last;
       every = c.fails_for_every-every.result;
-      why = c.args.why;
-      told = c.in_ok-told.told;
+      why = c.args.told.why;
+      told = c.in_ok-times.times;
       least = c.in_ok-least.least;
       steps = c.in_ok-steps.steps;
       play = c.in_ok-play.play;
@@ -30,9 +32,9 @@ returns c = λ whole is_cut why scripts at.
       whole = whole;
       cut = cut;
       is_cut = is_cut;
-      why = subst (λ (every : Bool). IsToldWhy line script row.terminal whole every c.args.why.items)
+      why = subst (λ (every : Bool). IsToldWhy line script row.terminal whole every c.args.told.why.items)
           (sym c.fails_for_every-every.ensures) why;
-      told = c.in_ok-told.ensures;
+      told = c.in_ok-times.ensures;
       least = c.in_ok-least.ensures;
       steps = subst (λ (l : List (Step ℕ)). EachOf (IsToldStep line) l c.in_ok-steps.steps.items)
           c.steps-moves.ensures.same c.in_ok-steps.ensures;
@@ -47,6 +49,8 @@ returns c = λ whole is_cut why scripts at.
           (sym (one_at scripts row.script script s at there))
           (c.in_ok-script.ensures.items ∙ c.bytes.ensures.same);
       terminal = c.in_ok-terminal.ensures.items ∙ c.name_of_terminal.ensures;
+      stretch = stretch;
+      last = last;
       every = c.fails_for_every-every.ensures;
       choice = λ (s : Script) there.
           subst (λ (t : Script). IsChoiceFor line t row.terminal made)

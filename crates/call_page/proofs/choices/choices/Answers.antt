@@ -9,22 +9,23 @@ use Rattle.call_page.specs.Choices.{IsChoiceOf, failing_row}
 use Rattle.call_facts.specs.Lists.{EachOf}
 use Rattle.call_page.proofs.choices.choices.Goals as goal
 
--- the failing ones of one row more
-failing_more : (rows : List Row) (i : ℕ) (row : Row) → i < length rows → row ≡ get_or rows i row
-    → flat_map failing_row (take (i + 1) rows)
-    ≡ flat_map failing_row (take i rows) ++ failing_row row
-failing_more rows i row lt is =
-    ap (flat_map failing_row)
+-- those of one row more
+more_of : (those : Row → List Row) (rows : List Row) (i : ℕ) (row : Row) → i < length rows
+    → row ≡ get_or rows i row
+    → flat_map those (take (i + 1) rows) ≡ flat_map those (take i rows) ++ those row
+more_of those rows i row lt is =
+    ap (flat_map those)
     (take_more rows i row lt ∙ ap (λ (r : Row). take i rows ++ r ∷ []) (sym is))
-    ∙ flat_map-append failing_row (take i rows) (row ∷ [])
-    ∙ ap (λ l. flat_map failing_row (take i rows) ++ l) (append-nil (failing_row row))
+    ∙ flat_map-append those (take i rows) (row ∷ [])
+    ∙ ap (λ l. flat_map those (take i rows) ++ l) (append-nil (those row))
 
 pub push_choice-requires-clause-row : goal.push_choice-requires-clause-row
 push_choice-requires-clause-row c =
-    let at : slice_get c.args.rows.now c.loop-row.row-index ≡ Some c.row-item.result =
-    slice_get_read c.args.rows.now _ c.loop-row.row-index c.row-item.result refl
+    let rows = c.args.known.now.rows.now in
+    let at : slice_get rows c.loop-row.row-index ≡ Some c.row-item.result =
+    slice_get_read rows _ c.loop-row.row-index c.row-item.result refl
     c.loop-row-test.true c.row-item.is in
-    let row = c.requires.rows.each c.loop-row.row-index c.row-item.result at in
+    let row = c.requires.known.rows.each c.loop-row.row-index c.row-item.result at in
     record {
       script = row.script;
       at = row.at;
@@ -34,11 +35,14 @@ push_choice-requires-clause-row c =
 
 pub loop-row-preserved : goal.loop-row-preserved
 loop-row-preserved c =
-    let study = c.args.study.now in
-    let rows = c.args.rows.now in
+    let known = c.args.known.now in
+    let line = known.study.now.line in
+    let rows = known.rows.now in
+    let parts = c.args.parts.now in
+    let those = failing_row line parts rows in
     let i = c.loop-row.row-index in
     subst
-    (λ (l : List Row). EachOf (IsChoiceOf study.line study.scripts.items c.args.parts.now) l
+    (λ (l : List Row). EachOf (IsChoiceOf line known.study.now.scripts.items parts rows) l
     c.push_choice.new.choices.items)
-    (sym (failing_more rows i c.row-item.result c.loop-row-test.true c.row-item.is))
-    (c.in_ok-push_choice.ensures (flat_map failing_row (take i rows)) c.loop-row.invariant)
+    (sym (more_of those rows i c.row-item.result c.loop-row-test.true c.row-item.is))
+    (c.in_ok-push_choice.ensures (flat_map those (take i rows)) c.loop-row.invariant)

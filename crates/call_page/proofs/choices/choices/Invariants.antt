@@ -6,5 +6,6 @@ use Rattle.call_page.proofs.choices.choices.Given as goal
 
 abbrev pub invariant-loop-row : goal.invariant-loop-row
 invariant-loop-row l =
-    EachOf (IsChoiceOf l.study.line l.study.scripts.items l.parts)
-    (flat_map failing_row (take l.row-index l.rows)) l.choices.items
+    EachOf (IsChoiceOf l.known.study.now.line l.known.study.now.scripts.items l.parts l.known.rows.now)
+    (flat_map (failing_row l.known.study.now.line l.parts l.known.rows.now)
+    (take l.row-index l.known.rows.now)) l.choices.items

@@ -4,19 +4,23 @@ use Rattle.call_page.proofs.page.choices_of.Goals as goal
 
 pub counts-requires-clause-shares : goal.counts-requires-clause-shares
 counts-requires-clause-shares c =
-    let within = shares_within c.args.rows.now in
-    omega (arith, within, c.in_ok-failing.ensures.count, c.in_ok-undecided.ensures.count)
+    let within = shares_within c.args.known.now.rows.now in
+    omega (arith, within, c.failing_count.ensures, c.open_count.ensures)
 
 pub returns-clause-counts : goal.returns-clause-counts
 returns-clause-counts c =
     let counted = c.in_ok-counts.ensures in
-    let within = shares_within c.args.rows.now in
-    let fails = c.in_ok-failing.ensures.count in
-    let left = c.in_ok-undecided.ensures.count in
+    let within = shares_within c.args.known.now.rows.now in
     rw counted
     (record {
-      fails = omega (arith, fails);
+      fails = c.failing_count.ensures;
       every = c.every.ensures.count;
-      undecided = omega (arith, left);
-      all = omega (arith, fails, left, within, c.requires.rows.count);
+      undecided = c.open_count.ensures;
+      all = omega (
+        arith,
+        within,
+        c.failing_count.ensures,
+        c.open_count.ensures,
+        c.requires.known.rows.count,
+      );
     })
