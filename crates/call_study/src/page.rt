@@ -11,7 +11,7 @@ use call_work::load::{Bytes, Halt, Loaded, load};
 use std::alloc::Global;
 
 /// The page of a study, made by what these words say.
-pub fn page(alloc: Global, bytes: &Bytes, analyses: u32, made: &[u8]) -> Result<Said, Halt>
+pub fn page(alloc: Global, bytes: &Bytes<'_>, analyses: u32, made: &[u8]) -> Result<Said, Halt>
     ensures { Gives (answer_by (page_of (given_of bytes.now))) result }
 {
     let loaded = load(alloc, bytes)?;

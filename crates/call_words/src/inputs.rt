@@ -30,7 +30,7 @@ pub fn inputs_of<'a>(call: &Call<'a>) -> [Option<Input<'a>>; 3] {
 fn of_ask<'a>(ask: &Ask<'a>) -> [Option<Input<'a>>; 3] {
     let further = further_of(ask.work);
     match ask.source {
-        Source::Study(study) => [file("the study", study), further, None],
+        Source::Study { name, .. } => [file("the study", name), further, None],
         Source::Files { line, scripts } => {
             [
                 file("the line", line),

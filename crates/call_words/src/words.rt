@@ -69,6 +69,8 @@ const TICKS: &str = "a whole number of ticks, from 0 to 4294967295";
 // What is wrong with files, axes and the name of a record.
 const NO_STUDY: &str = "a study, or a line and scripts, have to stand before it";
 
+const NO_SCHEMES: &str = "it has to be left out: a line file has one scheme";
+
 const SURPLUS_FILE: &str = "one file too many before the axes: a study, or a line and scripts";
 
 const NO_AXIS: &str = "an axis has to stand behind it, as P=FROM..TO:STEP";
@@ -205,7 +207,10 @@ fn versions_of<'a>(name: &'a str, own: &ArgMatches<'a>) -> Result<Call<'a>, Word
 
 fn verdicts_over(study: &str, analyses: u32) -> Ask<'_> {
     Ask {
-        source: Source::Study(study),
+        source: Source::Study {
+            name: study,
+            scheme: None,
+        },
         script: None,
         work: Work::Table(Table::Faults { analyses }),
     }
@@ -265,7 +270,7 @@ fn ask_of<'a>(
     files: &[&'a str],
 ) -> Result<Ask<'a>, WordFault<'a>> {
     Ok(Ask {
-        source: source_of(work, files)?,
+        source: source_of(work, own.get_str("scheme"), files)?,
         script: if let Work::Table(_) = work {
             None
         } else {
@@ -275,8 +280,13 @@ fn ask_of<'a>(
     })
 }
 
-// Where the line and its scripts stand: all files but the further one, or those before the axes.
-fn source_of<'a>(work: Work<'_>, files: &[&'a str]) -> Result<Source<'a>, WordFault<'a>> {
+// Where the line and its scripts stand: all files but the further one, or those before the axes. A study
+// is read in the scheme that is named.
+fn source_of<'a>(
+    work: Work<'_>,
+    scheme: Option<&'a str>,
+    files: &[&'a str],
+) -> Result<Source<'a>, WordFault<'a>> {
     let own = match work {
         Work::Play { .. } | Work::Recheck { .. } | Work::Explain { .. } => {
             files.len().saturating_sub(1)
@@ -292,13 +302,25 @@ fn source_of<'a>(work: Work<'_>, files: &[&'a str]) -> Result<Source<'a>, WordFa
         | Work::Page { .. } => files.len(),
     };
     match &files[..own] {
-        [study] => Ok(Source::Study(*study)),
-        [line, scripts] => Ok(Source::Files {
-            line: *line,
-            scripts: *scripts,
+        [study] => Ok(Source::Study {
+            name: *study,
+            scheme,
         }),
+        [line, scripts] => two_files(*line, *scripts, scheme),
         [] => Err(WordFault::of(word_at(files, 0), NO_STUDY)),
         [_, _, more, ..] => Err(WordFault::of(*more, SURPLUS_FILE)),
+    }
+}
+
+// A line and scripts, which are of one scheme.
+fn two_files<'a>(
+    line: &'a str,
+    scripts: &'a str,
+    scheme: Option<&'a str>,
+) -> Result<Source<'a>, WordFault<'a>> {
+    match scheme {
+        Some(word) => Err(WordFault::behind("--scheme", word, NO_SCHEMES)),
+        None => Ok(Source::Files { line, scripts }),
     }
 }
 
@@ -414,7 +436,7 @@ fn choices_of<'m, 'a>(
     let room = room_of(own)?;
     let work = Work::Choose(ChooseAsk { settings, room });
     Ok(Ask {
-        source: source_of(work, files)?,
+        source: source_of(work, own.get_str("scheme"), files)?,
         script: None,
         work,
     })
