@@ -82,7 +82,7 @@ fn twice_said(path: &[u8]) -> Said<'static> {
     if path.starts_with(b"terminals") {
         return words("a terminal before it has this name", "another name");
     }
-    if path == b"schemes" {
+    if path == b"schemes".as_slice() {
         return words(
             "one scheme stands under scheme, several under schemes, and not both",
             "one of the two",
