@@ -11,7 +11,10 @@ use draw_shapes::Rows;
 #[derive(Clone, Copy)]
 pub enum Source<'a> {
     /// A line file and a scripts file, as `pilot` takes them.
-    Files { line: &'a str, scripts: &'a str },
+    Files {
+        line: &'a str,
+        scripts: &'a str,
+    },
     /// A study file: the line, in the scheme of this name or in the study's first, and the scripts of its
     /// faults.
     Study {

@@ -24,12 +24,7 @@ pub fn times(alloc: Global, bytes: &Bytes<'_>, analyses: u32) -> Result<Said, Ha
     }
 }
 
-fn times_in(
-    alloc: Global,
-    scheme: Option<&str>,
-    study: &[u8],
-    analyses: u32,
-) -> Result<Said, Halt>
+fn times_in(alloc: Global, scheme: Option<&str>, study: &[u8], analyses: u32) -> Result<Said, Halt>
     ensures { Gives (answer_by (times_of (a_study study.now (option_copied scheme.entry)))) result }
 {
     known_scheme(alloc, scheme, study)?;
