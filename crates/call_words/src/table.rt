@@ -89,12 +89,12 @@ const TIMED: Files = Files {
     help: "A study file, some stages of which last for intervals, as lasts = \"8 .. 120 ms\"",
 };
 
-// Two versions of a study.
+// A study of several schemes, or two versions of a study.
 const VERSIONS: Files = Files {
-    least: 2,
+    least: 1,
     most: 2,
-    names: &["WAS", "NOW"],
-    help: "Two study files: the version before, and that of now",
+    names: &["STUDY | WAS", "NOW"],
+    help: "A study of several schemes; or two study files: the version before, and that of now",
 };
 
 // Files of any kind.
@@ -383,7 +383,7 @@ const ANSWERS: &[Word] = &[
     },
     Word {
         name: "compare",
-        about: "What changed between two versions of a study; what no longer holds comes first (CSV)",
+        about: "The schemes of a study side by side; or what changed between two versions of one (CSV)",
         files: VERSIONS,
         options: &[ANALYSES, TABLE, CSV, COLOR],
         output: Output::Text,

@@ -31,6 +31,8 @@ pub enum Call<'a> {
     Lint(&'a [&'a str]),
     /// Two versions of a study side by side.
     Compare(Versions<'a>),
+    /// The schemes of a study side by side, by its verdicts by fault.
+    Schemes(Ask<'a>),
     /// What relays recorded: as a script, a record or a table.
     Records(RecordsAsk<'a>),
     /// A play as a record.
@@ -193,16 +195,18 @@ fn call_of<'m, 'a>(name: &'a str, own: &'m ArgMatches<'a>) -> Result<Call<'m>, W
     }
 }
 
-// The verdicts by fault of two versions.
+// The verdicts by fault of the schemes of one study, or of two versions.
 fn versions_of<'a>(name: &'a str, own: &ArgMatches<'a>) -> Result<Call<'a>, WordFault<'a>> {
-    let [old, new] = files_of(own, name)? else {
-        return Err(nothing(name));
-    };
+    let files = files_of(own, name)?;
     let analyses = count_of(own, "analyses", "--analyses", ANALYSES)?;
-    Ok(Call::Compare(Versions {
-        old: verdicts_over(*old, analyses),
-        new: verdicts_over(*new, analyses),
-    }))
+    match files {
+        [study] => Ok(Call::Schemes(verdicts_over(*study, analyses))),
+        [old, new] => Ok(Call::Compare(Versions {
+            old: verdicts_over(*old, analyses),
+            new: verdicts_over(*new, analyses),
+        })),
+        _ => Err(nothing(name)),
+    }
 }
 
 fn verdicts_over(study: &str, analyses: u32) -> Ask<'_> {
