@@ -53,7 +53,7 @@ fn sides_of<'a>(alloc: Global, all: &[Verdicts<'a>]) -> Result<Vec<Side<'a>>, Me
 }
 
 fn side<'a>(alloc: Global, one: Verdicts<'a>) -> Result<Side<'a>, Memory>
-    ensures { IfOk result (λ side. side_of side ≡ side_in one) }
+    ensures { IfOk result (λ side. side_of side ≡ side_in one.entry) }
 {
     let table = all_rows(alloc, one.text)?;
     Ok(Side {

@@ -70,9 +70,32 @@ pub fn differ(sides: &[Side<'_>], first: &[ByteRecord], row: &ByteRecord) -> boo
     ensures { result
         ≡ differ_at (map side_of sides.now) (map fields_of first.now) (fields_of row.now) }
 {
-    let held = sides.iter().any(|side| is_held_by(side, first, row));
-    let lost = sides.iter().any(|side| !is_held_by(side, first, row));
-    held && lost
+    some_hold(sides, first, row) && some_lack(sides, first, row)
+}
+
+fn some_hold(sides: &[Side<'_>], first: &[ByteRecord], row: &ByteRecord) -> bool
+    ensures { result ≡ list_any (is_held_at (map fields_of first.now) (fields_of row.now))
+        (map side_of sides.now) }
+{
+    for side in sides {
+        if is_held_by(side, first, row) {
+            return true;
+        }
+    }
+    false
+}
+
+fn some_lack(sides: &[Side<'_>], first: &[ByteRecord], row: &ByteRecord) -> bool
+    ensures { result
+        ≡ list_any (λ side. not (is_held_at (map fields_of first.now) (fields_of row.now) side))
+        (map side_of sides.now) }
+{
+    for side in sides {
+        if !is_held_by(side, first, row) {
+            return true;
+        }
+    }
+    false
 }
 
 // Appends what one scheme says.
