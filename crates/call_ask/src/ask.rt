@@ -11,9 +11,16 @@ use draw_shapes::Rows;
 #[derive(Clone, Copy)]
 pub enum Source<'a> {
     /// A line file and a scripts file, as `pilot` takes them.
-    Files { line: &'a str, scripts: &'a str },
-    /// A study file: the line, and the scripts of its faults.
-    Study(&'a str),
+    Files {
+        line: &'a str,
+        scripts: &'a str,
+    },
+    /// A study file: the line, in the scheme of this name or in the study's first, and the scripts of its
+    /// faults.
+    Study {
+        name: &'a str,
+        scheme: Option<&'a str>,
+    },
 }
 
 /// Work over a line and its scripts; a picture, and timings that fail, are of one script, of the

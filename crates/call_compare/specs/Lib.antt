@@ -1,3 +1,4 @@
 pub mod Versions
 pub mod Changes
 pub mod Compared
+pub mod Schemes

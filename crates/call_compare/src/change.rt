@@ -64,9 +64,9 @@ fn change_by(was_held: bool, is_held: bool, same: bool) -> Change
     }
 }
 
-// Whether no script of a fault fails at a terminal, and none is open.
+/// Whether no script of a fault fails at a terminal, and none is open.
 #[tactic(auto, unfolding(crate::specs::Changes::is_held))]
-fn is_held(table: &[ByteRecord], row: &ByteRecord) -> bool
+pub fn is_held(table: &[ByteRecord], row: &ByteRecord) -> bool
     ensures { result ≡ is_all_held (map fields_of table.now) (fields_of row.now) }
 {
     is(named(b"fails", table, row), b"0") && is(named(b"open", table, row), b"0")

@@ -12,7 +12,7 @@ use Rattle.call_files.specs.declared.stop.File.{File}
 use Rattle.call_files.specs.declared.stop.Stop.TheVariants as stop
 use Rattle.call_study.specs.{Answers.answer_by, Answers.answer_in, Answers.answer_over}
 use Rattle.call_study.specs.{Ends.Answered, Ends.EndsOf, Ends.over_told}
-use Rattle.call_work.specs.load.Fetched.{AreFetched, AreToldAs, IsTooLong, Stops, further_list}
+use Rattle.call_work.specs.load.Fetched.{AreFetched, AreToldAs, IsTooLong, Stops, chosen_at, chosen_in, further_list}
 use Rattle.call_work.specs.load.Fetched.{IsShort, source_list, unread_halt}
 use Rattle.call_work.specs.{load.Loaded.source_in, load.Reading.over_source, load.Studied.refused_by}
 use Rattle.call_work.specs.load.Halts.{End}
@@ -76,16 +76,17 @@ module _ (files : List ℕ → Option (List ℕ)) where
 
   over_kinds : (script : Option (List ℕ)) (asked : Asked) (source : Source) (b : Bytes)
       (further : List (List ℕ)) (end : End) (text : List ℕ)
-      → AreToldAs files (files_at source) (source_list b)
+      → AreToldAs files (files_at source) (source_list b) → chosen_at source ≡ chosen_in b
       → answer_by (over_source source (source_in b) script asked further) end text
       → answer_over (record { source = source; script = script; asked = asked })
       (Ok (source_list b ++ further)) end text
-  over_kinds script asked (request.files l s) (bytes.Files line scripts) further end text are h = h
-  over_kinds script asked (request.files l s) (bytes.Study study) further end text are h =
+  over_kinds script asked (request.files l s) (bytes.Files line scripts) further end text are same h = h
+  over_kinds script asked (request.files l s) (bytes.Study study scheme) further end text are same h =
       absurd are.1
-  over_kinds script asked (request.study n) (bytes.Files line scripts) further end text are h =
+  over_kinds script asked (request.study n chosen) (bytes.Files line scripts) further end text are same h =
       absurd are.1
-  over_kinds script asked (request.study n) (bytes.Study study) further end text are h = h
+  over_kinds script asked (request.study n chosen) (bytes.Study study scheme) further end text are same h =
+      rw same h
 
   -- what is answered over them is answered over the store's files
   pub told_answer : (r : Request) (f : Fetched) → AreFetched files r f → (end : End) (text : List ℕ)
@@ -95,7 +96,7 @@ module _ (files : List ℕ → Option (List ℕ)) where
       let is = told_all (files_of r) (source_list f.source ++ further)
       (both_told (files_at r.source) (files_beside r.asked) (source_list f.source) further
       are.source are.further) all in
-      rw is (over_kinds r.script r.asked r.source f.source further end text are.source h)
+      rw is (over_kinds r.script r.asked r.source f.source further end text are.source are.chosen h)
 
   module _ {K : Type 0} (view : K → SinkView) (old new : K) (c1 c2 : List ℕ → ℕ) (r : Request) where
     pub ends_answered : (f : Fetched) → SameCounts c1 c2 → AreFetched files r f → (end : End)

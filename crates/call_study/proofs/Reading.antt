@@ -1,7 +1,8 @@
 -- What holds of what was read, and of what is chosen of it.
-use Rattle.std.proofs.Common.{◌≡◌, ◌∷◌, ◌<◌, ℕ, suc, zero, List, [], length, Option, None, Some}
+use Rattle.std.proofs.Common.{◌≡◌, ◌∷◌, ◌<◌, ℕ, suc, zero, List, [], length, Bool, true, false, Option, None, Some}
 use Rattle.std.proofs.Common.{Result, Ok, Err, refl, subst, sym, slice_get, arith, inl, inr, ⊎_elim}
-use Rattle.file_study.specs.study.Studies.{StudyValues, study_of}
+use Rattle.std.specs.Option.{option_copied}
+use Rattle.file_study.specs.study.{Schemes.schemes_of, Studies.StudyValues, Studies.study_as}
 use Rattle.file_document.specs.declared.fault.DocumentFault.{DocumentFault}
 use Rattle.base_memory.specs.Gives.{Fails}
 use Rattle.base_memory.specs.declared.stopped.Stopped.{Stopped}
@@ -18,7 +19,9 @@ use Rattle.call_work.specs.{load.Reading.denied_by, load.Reading.of_place, decla
 use Rattle.call_work.specs.declared.load.denial.Denial.{Denial}
 use Rattle.call_work.specs.load.Loaded.{IsLoaded, IsWhy, Loads, Say, given_of, studied}
 use Rattle.call_work.specs.load.ReadingLaws.{HasGroups, study_wider}
-use Rattle.call_work.specs.load.Studied.{Studied, of_values, refused_by, untitled}
+use Rattle.call_work.specs.load.Studied.{Studied, is_lacking, of_values, refused_by, schemes_there}
+use Rattle.call_work.specs.load.Studied.{unless_lacking, untitled}
+use Rattle.call_work.specs.load.Nearest.{IsUnknownScheme}
 use Rattle.call_work.specs.declared.load.halt.Halt.TheVariants as halt
 use Rattle.call_work.specs.declared.load.sources.Bytes.{Bytes}
 use Rattle.call_work.specs.declared.load.sources.Bytes.TheVariants as bytes
@@ -34,8 +37,8 @@ given_read (bytes.Files line scripts) l halted holds is said h =
       rw said.0.scripts_are
           (l.study.scripts.items, refl, is.fit, (l.groups.items, said.1, rw said.2 at h)),
     )
-given_read (bytes.Study study) l halted holds is said h =
-    rw said.1 (inl (studied l, said.2, h))
+given_read (bytes.Study study scheme) l halted holds is said h =
+    rw (said.0, said.1.1) (inl (studied l, said.1.2, h))
 
 module _ {A : Type 0} (list : List A) (place : Option ℕ) (IsWhy : Denial → Type 0)
     (halted : Halt → Type 0) (holds : A → Type 0) where
@@ -77,6 +80,14 @@ values_refused (Ok values) why halted holds first r =
     (λ none. inr (none.0, none.1, subst halted (sym none.2) r)) first
 values_refused (Err e) why halted holds first r = subst halted (sym first) r
 
+-- the scheme that is chosen is refused, or what follows is
+pub scheme_refused : (lacks : Bool) (IsWhy : Denial → Type 0) (why : Halt) (halted : Halt → Type 0)
+    (first rest : Type 0) → (first → rest) → unless_lacking lacks IsWhy (λ w. w ≡ why) first
+    → halted why → unless_lacking lacks IsWhy halted rest
+scheme_refused true IsWhy why halted first rest step said r =
+    (said.0, said.1, subst halted (sym said.2) r)
+scheme_refused false IsWhy why halted first rest step said r = step said
+
 -- what the first refusal makes of a source
 pub given_refused : (from : Bytes) (why : Halt) (halted : Halt → Type 0) (holds : Studied → Type 0)
     → IsWhy (given_of from) why → halted why → given_of from halted holds
@@ -85,8 +96,13 @@ given_refused (bytes.Files line scripts) why halted holds first r =
     (λ l s. HasGroups s (λ groups. ⊥))
     (λ l s. HasGroups s (λ groups. holds (record { title = untitled; line = l; scripts = s; groups = groups })))
     (λ w is. subst halted (sym is) r) (λ l s bad. absurd bad.2) first
-given_refused (bytes.Study study) why halted holds first r =
-    values_refused (study_of study.items) why halted holds first r
+given_refused (bytes.Study study scheme) why halted holds first r =
+    let chosen = option_copied scheme in
+    let said = study_as chosen study.items in
+    let schemes = schemes_of study.items in
+    scheme_refused (is_lacking chosen schemes) (IsUnknownScheme (schemes_there schemes) chosen) why halted
+    (of_values said (λ w. w ≡ why) (λ of. ⊥)) (of_values said halted holds)
+    (λ f. values_refused said why halted holds f r) first r
 
 -- a source is refused, or memory ran out
 pub load_halts : (from : Bytes) (allowed : Answers) (why : Halt)

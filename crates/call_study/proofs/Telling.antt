@@ -57,6 +57,7 @@ module _ (r : Request) (Has More : HasBytes) (more : (f : File) (b : List ℕ) �
     denial_wider (denial.Scripts why) line is = told_wider file.Study line is
     denial_wider (denial.Times why) line is = told_wider file.Study line is
     denial_wider (denial.TooManyScripts there most) line is = is
+    denial_wider (denial.UnknownScheme near) line is = is
     denial_wider (denial.SeveralScripts there) line is = is
     denial_wider (denial.UnknownScript near) line is = is
     denial_wider (denial.UnknownTiming near) line is = is
@@ -89,21 +90,21 @@ module _ (files : List ℕ → Option (List ℕ)) where
   line_told : (s : Source) (b : Bytes) → AreToldAs files (files_at s) (source_list b)
       → IfSome (name_in_source s file.Line) (λ n. IfSome (files n) (λ told. told ≡ line_bytes b))
   line_told (request.files l s) (bytes.Files line scripts) are = are.0.1
-  line_told (request.files l s) (bytes.Study study) are = absurd are.1
-  line_told (request.study n) b are = tt
+  line_told (request.files l s) (bytes.Study study scheme) are = absurd are.1
+  line_told (request.study n chosen) b are = tt
 
   scripts_told : (s : Source) (b : Bytes) → AreToldAs files (files_at s) (source_list b)
       → IfSome (name_in_source s file.Scripts)
       (λ n. IfSome (files n) (λ told. told ≡ scripts_bytes b))
   scripts_told (request.files l s) (bytes.Files line scripts) are = are.1.0.1
-  scripts_told (request.files l s) (bytes.Study study) are = absurd are.1
-  scripts_told (request.study n) b are = tt
+  scripts_told (request.files l s) (bytes.Study study scheme) are = absurd are.1
+  scripts_told (request.study n chosen) b are = tt
 
   study_told : (s : Source) (b : Bytes) → AreToldAs files (files_at s) (source_list b)
       → IfSome (name_in_source s file.Study) (λ n. IfSome (files n) (λ told. told ≡ study_bytes b))
   study_told (request.files l s) b are = tt
-  study_told (request.study n) (bytes.Files line scripts) are = absurd are.1
-  study_told (request.study n) (bytes.Study study) are = are.0.1
+  study_told (request.study n chosen) (bytes.Files line scripts) are = absurd are.1
+  study_told (request.study n chosen) (bytes.Study study scheme) are = are.0.1
 
   beside_told : (asked : Asked) (b : List ℕ) (f : File)
       → AreToldAs files (files_beside asked) (further_list (files_beside asked) b)

@@ -43,7 +43,7 @@ halts why end text = (end ≡ Err why) × (text ≡ [])
 abbrev pub sources_of : Source → Source → List SourceFile
 sources_of (request.files line scripts) (request.files line_bytes scripts_bytes) =
     record { name = line; bytes = line_bytes } ∷ (record { name = scripts; bytes = scripts_bytes } ∷ [])
-sources_of (request.study name) (request.study study_bytes) =
+sources_of (request.study name _) (request.study study_bytes _) =
     record { name = name; bytes = study_bytes } ∷ []
 sources_of named from = []
 

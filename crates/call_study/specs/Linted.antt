@@ -17,7 +17,7 @@ done_by outcome.Refused = done.Rejected
 -- this was found in the bytes of a source
 abbrev pub IsFound : Source → Outcome → Type 0
 IsFound (files line_bytes scripts_bytes) = IsLinted line_bytes scripts_bytes
-IsFound (study study_bytes) = IsStudyLinted study_bytes
+IsFound (study study_bytes chosen) = IsStudyLinted study_bytes
 
 pub record IsLintAnswer (from : Source) (status : Done) (text : List ℕ) : Type 0 where
   pub outcome : Outcome

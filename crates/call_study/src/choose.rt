@@ -13,7 +13,7 @@ use call_work::load::{Bytes, Halt, Loaded, load};
 use std::alloc::Global;
 
 /// Which values of settings hold.
-pub fn choose(alloc: Global, bytes: &Bytes, ask: &ChooseAsk<'_>) -> Result<Said, Halt>
+pub fn choose(alloc: Global, bytes: &Bytes<'_>, ask: &ChooseAsk<'_>) -> Result<Said, Halt>
     ensures { Gives (answer_by (choose_by (map (λ word. word.now) ask.now.settings.now)
         ask.now.room (given_of bytes.now))) result }
 {

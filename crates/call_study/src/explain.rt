@@ -28,7 +28,7 @@ pub struct Explaining {
 pub fn explain(
     alloc: Global,
     how: Explaining,
-    bytes: &Bytes,
+    bytes: &Bytes<'_>,
     recording: &[u8],
     script: Option<&str>,
 ) -> Result<Said, Halt>

@@ -13,7 +13,7 @@ use model_line::Memory;
 use std::alloc::Global;
 
 /// What is suspicious in files of these bytes and names, or where and why one of them is refused.
-pub fn lint_said(alloc: Global, bytes: &Bytes, names: Source<'_>) -> Result<Said, Memory>
+pub fn lint_said(alloc: Global, bytes: &Bytes<'_>, names: Source<'_>) -> Result<Said, Memory>
     ensures { IfOk result (Says (lint_answer (source_in bytes.now))) }
 {
     match bytes {
@@ -24,7 +24,7 @@ pub fn lint_said(alloc: Global, bytes: &Bytes, names: Source<'_>) -> Result<Said
                 text: linted.text,
             })
         }
-        Bytes::Study(study) => {
+        Bytes::Study { study, .. } => {
             let linted = lint_study(alloc, study.as_slice(), name_of(names))?;
             Ok(Said {
                 status: done_of(linted.outcome),
@@ -48,9 +48,9 @@ fn done_of(outcome: Outcome) -> Done
 fn names_of(names: Source<'_>) -> Names<'_> {
     match names {
         Source::Files { line, scripts } => Names { line, scripts },
-        Source::Study(study) => Names {
-            line: study,
-            scripts: study,
+        Source::Study { name, .. } => Names {
+            line: name,
+            scripts: name,
         },
     }
 }
@@ -59,6 +59,6 @@ fn names_of(names: Source<'_>) -> Names<'_> {
 fn name_of(names: Source<'_>) -> &str {
     match names {
         Source::Files { line, .. } => line,
-        Source::Study(study) => study,
+        Source::Study { name, .. } => name,
     }
 }

@@ -13,7 +13,7 @@ use call_work::map::map_of;
 use std::alloc::Global;
 
 /// Over which numbers of one setting or two each obligation is held.
-pub fn map(alloc: Global, bytes: &Bytes, ask: &MapAsk<'_>) -> Result<Said, Halt>
+pub fn map(alloc: Global, bytes: &Bytes<'_>, ask: &MapAsk<'_>) -> Result<Said, Halt>
     ensures { Gives (answer_by (map_by ask.now.form ask.now.x.now (option_copied ask.now.y) ask.now.made.now
         (given_of bytes.now))) result }
 {

@@ -25,7 +25,7 @@ pub struct Imprint<'a> {
 /// The page of a study, whose files have these names.
 pub fn page(
     alloc: Global,
-    bytes: &Bytes,
+    bytes: &Bytes<'_>,
     named: Source<'_>,
     analyses: u32,
     imprint: Imprint<'_>,
@@ -50,7 +50,7 @@ fn date_bytes<'a>(date: Option<&'a str>) -> Option<&'a [u8]>
 fn page_over(
     alloc: Global,
     loaded: &Loaded,
-    bytes: &Bytes,
+    bytes: &Bytes<'_>,
     named: Source<'_>,
     analyses: u32,
     imprint: Imprint<'_>,
@@ -60,7 +60,7 @@ fn page_over(
         (source_of named.entry) (source_in bytes.now) (as_read (studied loaded.now)))) result }
 {
     match (named, bytes) {
-        (Source::Study(name), Bytes::Study(study)) => {
+        (Source::Study { name, .. }, Bytes::Study { study, .. }) => {
             let study = file(name, study.as_slice());
             page_with(alloc, loaded, analyses, imprint, &[study])
         }

@@ -43,7 +43,7 @@ use std::alloc::Global;
 pub fn bands(
     alloc: Global,
     which: Rows,
-    bytes: &Bytes,
+    bytes: &Bytes<'_>,
     script: Option<&str>,
     made: &[u8],
 ) -> Result<Said, Halt>
@@ -79,7 +79,7 @@ fn bands_over(
 }
 
 /// A table over all scripts, or a file for `pilot`.
-pub fn table(alloc: Global, which: Table, bytes: &Bytes) -> Result<Said, Halt>
+pub fn table(alloc: Global, which: Table, bytes: &Bytes<'_>) -> Result<Said, Halt>
     ensures { Gives (answer_by (table_of which (given_of bytes.now))) result }
 {
     let loaded = load(alloc, bytes)?;
@@ -193,7 +193,7 @@ fn cases_of(loaded: &Loaded) -> Cases<'_>
 /// The timings that fail obligations of a script, which is named where there are several.
 pub fn timings(
     alloc: Global,
-    bytes: &Bytes,
+    bytes: &Bytes<'_>,
     script: Option<&str>,
     analyses: u32,
 ) -> Result<Said, Halt>
@@ -260,7 +260,7 @@ fn alone(alloc: Global, study: Study, i: usize) -> Result<Study, Memory>
 }
 
 /// Whether settled trees are accepted.
-pub fn recheck(alloc: Global, bytes: &Bytes, trees: &[u8]) -> Result<Said, Halt>
+pub fn recheck(alloc: Global, bytes: &Bytes<'_>, trees: &[u8]) -> Result<Said, Halt>
     ensures { Gives (answer_by (recheck_of (given_of bytes.now) trees.now)) result }
 {
     let loaded = load(alloc, bytes)?;
@@ -284,7 +284,7 @@ fn recheck_over(alloc: Global, loaded: &Loaded, trees: &[u8]) -> Result<Said, Ha
 pub fn play(
     alloc: Global,
     form: Form<'_>,
-    bytes: &Bytes,
+    bytes: &Bytes<'_>,
     timings: &[u8],
     script: Option<&str>,
     timing: Option<&str>,

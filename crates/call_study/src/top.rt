@@ -69,7 +69,7 @@ pub fn study<S: Reasoned, O: Sink, E: Sink>(
 fn answer_told<O: Sink, E: Sink>(
     alloc: Global,
     ask: &Ask<'_>,
-    fetched: &Fetched,
+    fetched: &Fetched<'_>,
     reason: Reason,
     out: &mut O,
     err: &mut E,
@@ -92,7 +92,7 @@ fn answer_told<O: Sink, E: Sink>(
 fn answer<O: Sink>(
     alloc: Global,
     ask: &Ask<'_>,
-    fetched: &Fetched,
+    fetched: &Fetched<'_>,
     out: &mut O,
 ) -> Result<Done, Halt>
     requires { IsShort (files_beside (asked_of ask.now.work)) fetched.now.further.items }
@@ -105,7 +105,7 @@ fn answer<O: Sink>(
 }
 
 // The status and the text.
-fn said_over(alloc: Global, ask: &Ask<'_>, fetched: &Fetched) -> Result<Said, Halt>
+fn said_over(alloc: Global, ask: &Ask<'_>, fetched: &Fetched<'_>) -> Result<Said, Halt>
     requires { IsShort (files_beside (asked_of ask.now.work)) fetched.now.further.items }
     ensures { Gives (answer_in (request_of ask.now) fetched.now) result }
 {

@@ -26,7 +26,7 @@ use std::alloc::Global;
 /// Why the first obligation fails that does, of those of a fault, of a script and of a terminal.
 pub fn why(
     alloc: Global,
-    bytes: &Bytes,
+    bytes: &Bytes<'_>,
     ask: &WhyAsk<'_>,
     script: Option<&str>,
 ) -> Result<Said, Halt>

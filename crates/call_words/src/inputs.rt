@@ -22,6 +22,7 @@ pub fn inputs_of<'a>(call: &Call<'a>) -> [Option<Input<'a>>; 3] {
         Call::Study(ask) => of_ask(ask),
         Call::Lint(_) => [None, None, None],
         Call::Compare(both) => of_versions(both),
+        Call::Schemes(ask) => of_ask(ask),
         Call::Records(ask) => of_records(ask),
         Call::Event(event) => of_ask(&event.config),
     }
@@ -30,7 +31,7 @@ pub fn inputs_of<'a>(call: &Call<'a>) -> [Option<Input<'a>>; 3] {
 fn of_ask<'a>(ask: &Ask<'a>) -> [Option<Input<'a>>; 3] {
     let further = further_of(ask.work);
     match ask.source {
-        Source::Study(study) => [file("the study", study), further, None],
+        Source::Study { name, .. } => [file("the study", name), further, None],
         Source::Files { line, scripts } => {
             [
                 file("the line", line),

@@ -100,7 +100,7 @@ pub fn is_table(call: &Call<'_>) -> bool {
             RecordsWork::Show => true,
             RecordsWork::Scripts | RecordsWork::Record => false,
         },
-        Call::Compare(_) => true,
+        Call::Compare(_) | Call::Schemes(_) => true,
         Call::Lint(_) | Call::Event(_) => false,
     }
 }

@@ -89,12 +89,12 @@ const TIMED: Files = Files {
     help: "A study file, some stages of which last for intervals, as lasts = \"8 .. 120 ms\"",
 };
 
-// Two versions of a study.
+// A study of several schemes, or two versions of a study.
 const VERSIONS: Files = Files {
-    least: 2,
+    least: 1,
     most: 2,
-    names: &["WAS", "NOW"],
-    help: "Two study files: the version before, and that of now",
+    names: &["STUDY | WAS", "NOW"],
+    help: "A study of several schemes; or two study files: the version before, and that of now",
 };
 
 // Files of any kind.
@@ -199,6 +199,14 @@ const COLOR: Opt = Opt {
     help: "Colours in columns: always, never, or auto (on a terminal, unless NO_COLOR is set)",
 };
 
+const SCHEME: Opt = Opt {
+    name: "scheme",
+    value: Some("NAME"),
+    required: false,
+    beside: Beside::Any,
+    help: "Which scheme of a study that has several (default: the first)",
+};
+
 const PART: Opt = Opt {
     name: "part",
     value: Some("N"),
@@ -272,6 +280,7 @@ const TIMING: Opt = Opt {
 };
 
 const SETTLE: &[Opt] = &[
+    SCHEME,
     ANALYSES,
     Opt {
         name: "trees",
@@ -301,6 +310,7 @@ const SETTLE: &[Opt] = &[
 
 // What `comtrade export` takes.
 const EXPORT: &[Opt] = &[
+    SCHEME,
     TIMING,
     SCRIPT,
     Opt {
@@ -329,6 +339,7 @@ const ROOM: Opt = Opt {
 };
 
 const EXPLAIN: &[Opt] = &[
+    SCHEME,
     Opt {
         name: "within",
         value: Some("T"),
@@ -368,19 +379,19 @@ const ANSWERS: &[Word] = &[
         name: "verdicts",
         about: "Whether each fault is met at each terminal, script by script, in milliseconds (CSV)",
         files: STUDY,
-        options: &[FAULTS, ANALYSES, TABLE, CSV, COLOR],
+        options: &[SCHEME, FAULTS, ANALYSES, TABLE, CSV, COLOR],
         output: Output::Text,
     },
     Word {
         name: "why",
         about: "Why an obligation fails, the first or one that is named: a choice of times, and what waits for what",
         files: STUDY,
-        options: &[FAULT, ONE_SCRIPT, TERMINAL, ANALYSES],
+        options: &[SCHEME, FAULT, ONE_SCRIPT, TERMINAL, ANALYSES],
         output: Output::Diagram,
     },
     Word {
         name: "compare",
-        about: "What changed between two versions of a study; what no longer holds comes first (CSV)",
+        about: "The schemes of a study side by side; or what changed between two versions of one (CSV)",
         files: VERSIONS,
         options: &[ANALYSES, TABLE, CSV, COLOR],
         output: Output::Text,
@@ -403,7 +414,7 @@ const ANSWERS: &[Word] = &[
         name: "recheck",
         about: "Whether the trees of `settle --trees` are so, without trusting who made them",
         files: TREES,
-        options: &[],
+        options: &[SCHEME],
         output: Output::Text,
     },
     Word {
@@ -421,35 +432,35 @@ const CHOICES: &[Word] = &[
         name: "choose",
         about: "For each setting the values that hold, where it stands, and what to write (CSV)",
         files: SETTINGS,
-        options: &[ROOM, TABLE, CSV, COLOR],
+        options: &[SCHEME, ROOM, TABLE, CSV, COLOR],
         output: Output::Text,
     },
     Word {
         name: "margins",
         about: "How far each end of each interval can move with all held that is held today (CSV)",
         files: STUDY,
-        options: &[TABLE, CSV, COLOR],
+        options: &[SCHEME, TABLE, CSV, COLOR],
         output: Output::Text,
     },
     Word {
         name: "races",
         about: "What each external fault has to spare: what ends, what begins, and the time between (CSV)",
         files: STUDY,
-        options: &[TABLE, CSV, COLOR],
+        options: &[SCHEME, TABLE, CSV, COLOR],
         output: Output::Text,
     },
     Word {
         name: "times",
         about: "For which times of its stages each fault is held, and where it fails (CSV)",
         files: TIMED,
-        options: &[ANALYSES, TABLE, CSV, COLOR],
+        options: &[SCHEME, ANALYSES, TABLE, CSV, COLOR],
         output: Output::Text,
     },
     Word {
         name: "map",
         about: "Where all obligations are held as one setting or two move (SVG)",
         files: AXES,
-        options: &[CELLS, ANALYSES],
+        options: &[SCHEME, CELLS, ANALYSES],
         output: Output::Text,
     },
 ];
@@ -460,35 +471,35 @@ const PICTURES: &[Word] = &[
         name: "page",
         about: "The whole study as one page (HTML), to print and to sign",
         files: STUDY,
-        options: &[DATE, ANALYSES],
+        options: &[SCHEME, DATE, ANALYSES],
         output: Output::Text,
     },
     Word {
         name: "shots",
         about: "Shots for an end-to-end test: of each fault the script that tells most, and what to expect (CSV)",
         files: STUDY,
-        options: &[STATES, DELAYS, ANALYSES, TABLE, CSV, COLOR],
+        options: &[SCHEME, STATES, DELAYS, ANALYSES, TABLE, CSV, COLOR],
         output: Output::Text,
     },
     Word {
         name: "bands",
         about: "Every choice of delays at once as a timing diagram (SVG)",
         files: STUDY,
-        options: &[SCRIPT, ALL_ROWS],
+        options: &[SCHEME, SCRIPT, ALL_ROWS],
         output: Output::Text,
     },
     Word {
         name: "run",
         about: "A play as a timing diagram (SVG): the script under one timing",
         files: TIMINGS,
-        options: &[TIMING, SCRIPT, ALL_ROWS],
+        options: &[SCHEME, TIMING, SCRIPT, ALL_ROWS],
         output: Output::Text,
     },
     Word {
         name: "vcd",
         about: "A play as a value change dump (VCD) of every gate, for a waveform viewer",
         files: TIMINGS,
-        options: &[TIMING, SCRIPT],
+        options: &[SCHEME, TIMING, SCRIPT],
         output: Output::Text,
     },
 ];
@@ -499,14 +510,14 @@ const FILES: &[Word] = &[
         name: "lines",
         about: "The line as a line file for `pilot` (TOML, in ticks)",
         files: STUDY,
-        options: &[],
+        options: &[SCHEME],
         output: Output::Text,
     },
     Word {
         name: "scripts",
         about: "The scripts as a scripts file for `pilot` (CSV), 64 at most",
         files: STUDY,
-        options: &[PART],
+        options: &[SCHEME, PART],
         output: Output::Text,
     },
 ];

@@ -31,6 +31,8 @@ pub enum Call<'a> {
     Lint(&'a [&'a str]),
     /// Two versions of a study side by side.
     Compare(Versions<'a>),
+    /// The schemes of a study side by side, by its verdicts by fault.
+    Schemes(Ask<'a>),
     /// What relays recorded: as a script, a record or a table.
     Records(RecordsAsk<'a>),
     /// A play as a record.
@@ -68,6 +70,8 @@ const TICKS: &str = "a whole number of ticks, from 0 to 4294967295";
 
 // What is wrong with files, axes and the name of a record.
 const NO_STUDY: &str = "a study, or a line and scripts, have to stand before it";
+
+const NO_SCHEMES: &str = "it has to be left out: a line file has one scheme";
 
 const SURPLUS_FILE: &str = "one file too many before the axes: a study, or a line and scripts";
 
@@ -191,21 +195,26 @@ fn call_of<'m, 'a>(name: &'a str, own: &'m ArgMatches<'a>) -> Result<Call<'m>, W
     }
 }
 
-// The verdicts by fault of two versions.
+// The verdicts by fault of the schemes of one study, or of two versions.
 fn versions_of<'a>(name: &'a str, own: &ArgMatches<'a>) -> Result<Call<'a>, WordFault<'a>> {
-    let [old, new] = files_of(own, name)? else {
-        return Err(nothing(name));
-    };
+    let files = files_of(own, name)?;
     let analyses = count_of(own, "analyses", "--analyses", ANALYSES)?;
-    Ok(Call::Compare(Versions {
-        old: verdicts_over(*old, analyses),
-        new: verdicts_over(*new, analyses),
-    }))
+    match files {
+        [study] => Ok(Call::Schemes(verdicts_over(*study, analyses))),
+        [old, new] => Ok(Call::Compare(Versions {
+            old: verdicts_over(*old, analyses),
+            new: verdicts_over(*new, analyses),
+        })),
+        _ => Err(nothing(name)),
+    }
 }
 
 fn verdicts_over(study: &str, analyses: u32) -> Ask<'_> {
     Ask {
-        source: Source::Study(study),
+        source: Source::Study {
+            name: study,
+            scheme: None,
+        },
         script: None,
         work: Work::Table(Table::Faults { analyses }),
     }
@@ -266,7 +275,7 @@ fn ask_of<'a>(
     files: &[&'a str],
 ) -> Result<Ask<'a>, WordFault<'a>> {
     Ok(Ask {
-        source: source_of(work, files)?,
+        source: source_of(work, own.get_str("scheme"), files)?,
         script: if let Work::Table(_) = work {
             None
         } else {
@@ -276,8 +285,13 @@ fn ask_of<'a>(
     })
 }
 
-// Where the line and its scripts stand: all files but the further one, or those before the axes.
-fn source_of<'a>(work: Work<'_>, files: &[&'a str]) -> Result<Source<'a>, WordFault<'a>> {
+// Where the line and its scripts stand: all files but the further one, or those before the axes. A study
+// is read in the scheme that is named.
+fn source_of<'a>(
+    work: Work<'_>,
+    scheme: Option<&'a str>,
+    files: &[&'a str],
+) -> Result<Source<'a>, WordFault<'a>> {
     let own = match work {
         Work::Play { .. } | Work::Recheck { .. } | Work::Explain { .. } => {
             files.len().saturating_sub(1)
@@ -293,13 +307,25 @@ fn source_of<'a>(work: Work<'_>, files: &[&'a str]) -> Result<Source<'a>, WordFa
         | Work::Page { .. } => files.len(),
     };
     match &files[..own] {
-        [study] => Ok(Source::Study(*study)),
-        [line, scripts] => Ok(Source::Files {
-            line: *line,
-            scripts: *scripts,
+        [study] => Ok(Source::Study {
+            name: *study,
+            scheme,
         }),
+        [line, scripts] => two_files(*line, *scripts, scheme),
         [] => Err(WordFault::of(word_at(files, 0), NO_STUDY)),
         [_, _, more, ..] => Err(WordFault::of(*more, SURPLUS_FILE)),
+    }
+}
+
+// A line and scripts, which are of one scheme.
+fn two_files<'a>(
+    line: &'a str,
+    scripts: &'a str,
+    scheme: Option<&'a str>,
+) -> Result<Source<'a>, WordFault<'a>> {
+    match scheme {
+        Some(word) => Err(WordFault::behind("--scheme", word, NO_SCHEMES)),
+        None => Ok(Source::Files { line, scripts }),
     }
 }
 
@@ -415,7 +441,7 @@ fn choices_of<'m, 'a>(
     let room = room_of(own)?;
     let work = Work::Choose(ChooseAsk { settings, room });
     Ok(Ask {
-        source: source_of(work, files)?,
+        source: source_of(work, own.get_str("scheme"), files)?,
         script: None,
         work,
     })

@@ -10,6 +10,7 @@ mod fetched;
 mod halt;
 mod lines;
 mod nearest;
+mod schemes;
 mod sources;
 mod telling;
 
@@ -20,5 +21,6 @@ pub use halt::{Halt, status_of};
 pub(crate) use lines::{near_words, one_line, quoted_name};
 pub(crate) use nearest::nearest_parameter;
 pub use nearest::{unknown_fault, unknown_script, unknown_terminal, unknown_timing};
+pub use schemes::known_scheme;
 pub use sources::{Bytes, Loaded, load};
 pub use telling::tell;

@@ -1,5 +1,6 @@
 pub mod Rounding
 pub mod Moments
+pub mod Schemes
 pub mod Settings
 pub mod LineTables
 pub mod Shows

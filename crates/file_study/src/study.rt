@@ -9,6 +9,7 @@ mod line;
 mod places;
 mod print;
 mod read;
+mod schemes;
 mod settings;
 mod shows;
 mod stage;
@@ -17,7 +18,8 @@ mod ticks;
 mod units;
 
 pub use print::line_text;
-pub use read::{read_loose_study, read_study};
+pub use read::{read_loose_study, read_loose_study_as, read_schemes, read_study, read_study_as};
+pub use schemes::text_of_scheme;
 pub use stage::{Shown, Stage, SweptFault};
 pub use study::Study;
 pub use units::Units;

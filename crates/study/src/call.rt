@@ -1,6 +1,7 @@
 //! What is asked for, over files.
 
 use crate::look::Shown;
+use crate::schemes::schemes_told;
 use crate::status::{DONE, MEMORY, SINK, USAGE};
 use crate::told::tell;
 use base_files::KeptStore;
@@ -16,8 +17,8 @@ use call_work::load::status_of;
 // The greatest length of a line on standard error.
 const LINE: u32 = 65536;
 
-// The greatest length of a table that is told as columns; a longer one is told as it is.
-const ROOM: u32 = 67_108_864;
+/// The greatest length of a table that is told as columns; a longer one is told as it is.
+pub const ROOM: u32 = 67_108_864;
 
 /// The exit status of a call whose text is told as columns, or as it is.
 pub fn told_as<O: Sink>(
@@ -63,6 +64,7 @@ pub fn made<O: Sink>(
             call_inspect::status_of(inspect(rt.alloc(), *names, store, out, &mut err))
         }
         Call::Compare(both) => compared(rt, both, store, out, &mut err),
+        Call::Schemes(ask) => schemes_told(rt, ask, store, out, &mut err),
         Call::Records(ask) => {
             call_records::status_of(&records(rt.alloc(), ask, store, out, &mut err))
         }

@@ -7,6 +7,7 @@ mod event;
 mod inputs;
 mod look;
 mod output;
+mod schemes;
 mod status;
 mod told;
 

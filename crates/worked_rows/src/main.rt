@@ -26,6 +26,7 @@ mod failing;
 mod fault;
 mod programs;
 mod rows;
+mod schemes;
 
 use base_text::store::{FileStore, StdSink};
 use rows::run_rows;

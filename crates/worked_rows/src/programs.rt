@@ -1,6 +1,7 @@
 //! The programs whose calls are made: `pilot`, and `study` with each of its commands.
 
 use crate::fault::Fault;
+use crate::schemes::schemes_told;
 use base_text::store::{MemorySink, MemoryStore, put_all};
 use call_columns::as_columns;
 use call_compare::compare;
@@ -18,12 +19,12 @@ use std::alloc::Global;
 const USAGE: u8 = 4;
 
 // Want of memory, and the greatest status of a call that is done.
-const MEMORY: u8 = 8;
+pub const MEMORY: u8 = 8;
 
-const DONE: u8 = 3;
+pub const DONE: u8 = 3;
 
 // The greatest length of a table that is told as columns here.
-const ROOM: u32 = 65536;
+pub const ROOM: u32 = 65536;
 
 /// Makes a call of these words over the store, the first of which names the program, and gives its
 /// status.
@@ -130,6 +131,7 @@ fn made(
         Call::Study(ask) => status_of(study(alloc, ask, store, out, err)),
         Call::Lint(names) => { call_inspect::status_of(inspect(alloc, *names, store, out, err)) }
         Call::Compare(both) => compared(alloc, both, store, out, err),
+        Call::Schemes(ask) => schemes_told(alloc, ask, store, out, err),
         Call::Records(ask) => call_records::status_of(&records(alloc, ask, store, out, err)),
         Call::Event(event) => event_made(alloc, event, store, out, err),
     }

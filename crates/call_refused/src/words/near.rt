@@ -63,6 +63,7 @@ pub fn study_keys(path: &[u8]) -> &'static [&'static str] {
             "frequency_hz",
             "horizon",
             "scheme",
+            "schemes",
             "zone1_trip",
             "terminals",
             "default",

@@ -87,6 +87,11 @@ const LINE_TIME: Rule = Rule {
 
 const STUDY: &[Rule] = &[
     Rule {
+        key: "schemes",
+        what: "a study has one to five schemes, each \"pott\", \"putt\", \"dcb\", \"dcub\" or \"dtt\"",
+        write: "schemes = [\"pott\", \"dcb\"]",
+    },
+    Rule {
         key: "study",
         what: "a study begins with the number of its form, which is 1; a line file is given with its scripts",
         write: "study = 1",

@@ -82,6 +82,15 @@ fn twice_said(path: &[u8]) -> Said<'static> {
     if path.starts_with(b"terminals") {
         return words("a terminal before it has this name", "another name");
     }
+    if path == b"schemes".as_slice() {
+        return words(
+            "one scheme stands under scheme, several under schemes, and not both",
+            "one of the two",
+        );
+    }
+    if path.starts_with(b"schemes") {
+        return words("it stands there before", "another scheme");
+    }
     words("a fault before it has this name", "another name")
 }
 

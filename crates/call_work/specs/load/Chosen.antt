@@ -3,7 +3,8 @@ use Rattle.std.specs.Prelude.{ℕ, List, [], ◌∷◌, Option, Some, None}
 use Rattle.std.specs.List.{position_from}
 use Rattle.std.specs.Str.{bytes_eq}
 use Rattle.model_line.specs.{declared.line.Param.Param, declared.script.Script.Script}
-use Rattle.model_line.specs.declared.line.Terminal.{Terminal}
+use Rattle.model_line.specs.{declared.line.Terminal.Terminal, declared.line.Scheme.Scheme}
+use Rattle.file_line.specs.Canonical.{scheme_text}
 use Rattle.file_study.specs.declared.sweeps.group.Group.{Group}
 use Rattle.model_timing.specs.declared.named_timing.NamedTiming.{NamedTiming}
 use Rattle.model_timing.specs.NamedValues.{NamedValues}
@@ -26,6 +27,9 @@ chosen_script scripts name = place_chosen (λ script. script.name) scripts name
 
 abbrev pub chosen_timing : List NamedValues → Option (List ℕ) → Option ℕ
 chosen_timing timings name = place_chosen (λ timing. timing.name) timings name
+
+abbrev pub name_of_scheme : Scheme → List ℕ
+name_of_scheme scheme = scheme_text scheme
 
 abbrev pub name_of_fault : Group → List ℕ
 name_of_fault group = group.name

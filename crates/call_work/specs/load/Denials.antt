@@ -10,6 +10,7 @@ abbrev pub denial_status : Denial → ℕ
 denial_status (denial.Study why) = 5
 denial_status (denial.Scripts why) = 5
 denial_status (denial.Times why) = 5
+denial_status (denial.UnknownScheme near) = 9
 denial_status (denial.TooManyScripts there most) = 5
 denial_status (denial.SeveralScripts there) = 9
 denial_status (denial.UnknownScript near) = 9

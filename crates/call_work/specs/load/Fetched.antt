@@ -2,6 +2,7 @@
 -- fetched.
 use Rattle.std.specs.Prelude.{◌≡◌, ◌⊎◌, ◌<◌, ◌≤◌, ⊤, Vec, ℕ, List, [], ◌∷◌, Option, None, Some}
 use Rattle.std.specs.Prelude.{IfSome, Result, Ok, Err, length}
+use Rattle.std.specs.Option.{option_copied}
 use Rattle.std.specs.declared.alloc.Global.{Global}
 use Rattle.base_text.specs.store.Store.{SameCounts}
 use Rattle.call_files.specs.Files.{NamedFile, StoreCause, limit_of}
@@ -60,12 +61,22 @@ FetchesOne files a old new (Err why) = Stops files (a ∷ []) old new why
 
 abbrev pub source_list : Bytes → List (List ℕ)
 source_list (bytes.Files line scripts) = line.items ∷ scripts.items ∷ []
-source_list (bytes.Study study) = study.items ∷ []
+source_list (bytes.Study study scheme) = study.items ∷ []
+
+-- the scheme that is chosen
+abbrev pub chosen_at : Source → Option (List ℕ)
+chosen_at (request.files line scripts) = None
+chosen_at (request.study name chosen) = chosen
+
+abbrev pub chosen_in : Bytes → Option (List ℕ)
+chosen_in (bytes.Files line scripts) = None
+chosen_in (bytes.Study study scheme) = option_copied scheme
 
 abbrev pub FetchesSource : (List ℕ → Option (List ℕ)) → Source → (List ℕ → ℕ) → (List ℕ → ℕ)
     → Result Bytes Unread → Type 0
 FetchesSource files source old new (Ok b) =
     SameCounts old new × AreToldAs files (files_at source) (source_list b)
+    × (chosen_at source ≡ chosen_in b)
 FetchesSource files source old new (Err why) = Stops files (files_at source) old new why
 
 -- the bytes of the further files, of which there is one or none
@@ -88,6 +99,7 @@ IsShort (a ∷ rest) told = length told ≤ limit_of a.file
 -- these are the bytes of the files of a request
 pub record AreFetched (files : List ℕ → Option (List ℕ)) (r : Request) (f : Fetched) : Type 0 where
   pub source : AreToldAs files (files_at r.source) (source_list f.source)
+  pub chosen : chosen_at r.source ≡ chosen_in f.source
   pub further : AreToldAs files (files_beside r.asked)
       (further_list (files_beside r.asked) f.further.items)
 
@@ -102,7 +114,7 @@ FetchesAll files r old new (Err why) = Stops files (request.files_of r) old new 
 abbrev pub name_in_source : Source → File → Option (List ℕ)
 name_in_source (request.files line scripts) file.Line = Some line
 name_in_source (request.files line scripts) file.Scripts = Some scripts
-name_in_source (request.study name) file.Study = Some name
+name_in_source (request.study name chosen) file.Study = Some name
 name_in_source source f = None
 
 abbrev pub name_beside : Asked → File → Option (List ℕ)
@@ -120,15 +132,15 @@ name_at r f = name_beside r.asked f
 
 abbrev pub line_bytes : Bytes → List ℕ
 line_bytes (bytes.Files line scripts) = line.items
-line_bytes (bytes.Study study) = []
+line_bytes (bytes.Study study scheme) = []
 
 abbrev pub scripts_bytes : Bytes → List ℕ
 scripts_bytes (bytes.Files line scripts) = scripts.items
-scripts_bytes (bytes.Study study) = []
+scripts_bytes (bytes.Study study scheme) = []
 
 abbrev pub study_bytes : Bytes → List ℕ
 study_bytes (bytes.Files line scripts) = []
-study_bytes (bytes.Study study) = study.items
+study_bytes (bytes.Study study scheme) = study.items
 
 -- the bytes of this file
 abbrev pub bytes_at : Fetched → File → List ℕ

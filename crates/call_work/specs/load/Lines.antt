@@ -18,7 +18,7 @@ use Rattle.call_work.specs.choose.Denials.{choose_denial_pieces}
 use Rattle.call_work.specs.map.Denials.{map_denial_pieces}
 use Rattle.call_work.specs.declared.explain.unpicked.Unpicked.{Unpicked}
 use Rattle.call_work.specs.declared.explain.unpicked.Unpicked.TheVariants as unpicked
-use Rattle.call_work.specs.load.Fetched.{name_at}
+use Rattle.call_work.specs.load.Fetched.{chosen_at, name_at}
 use Rattle.call_work.specs.load.Nearest.{near_words, quoted}
 use Rattle.call_work.specs.load.Request as request
 use Rattle.call_work.specs.load.Request.{Asked, Request, Source}
@@ -38,12 +38,12 @@ one_line pieces = map within_line (concat pieces) ++ codes "\n"
 -- the file in which the scripts stand
 abbrev pub scripts_name : Source → List ℕ
 scripts_name (request.files line scripts) = scripts
-scripts_name (request.study name) = name
+scripts_name (request.study name chosen) = name
 
 -- that in which the line stands
 abbrev pub line_name : Source → List ℕ
 line_name (request.files line scripts) = line
-line_name (request.study name) = name
+line_name (request.study name chosen) = name
 
 -- the further file
 abbrev pub further_name : Asked → List ℕ
@@ -145,6 +145,8 @@ abbrev pub IsDenialLine : Request → HasBytes → Denial → List ℕ → Type 
 IsDenialLine r Has (denial.Study why) line = IsToldIn r Has file.Study line
 IsDenialLine r Has (denial.Scripts why) line = IsToldIn r Has file.Study line
 IsDenialLine r Has (denial.Times why) line = IsToldIn r Has file.Study line
+IsDenialLine r Has (denial.UnknownScheme near) line =
+    line ≡ unknown_line (line_name r.source) (codes "scheme") (chosen_at r.source) near
 IsDenialLine r Has (denial.TooManyScripts there most) line =
     line ≡ many_line (scripts_name r.source) there most
 IsDenialLine r Has (denial.SeveralScripts there) line =

@@ -1,10 +1,11 @@
 -- What is read of a source.
-use Rattle.std.specs.Prelude.{◌≡◌, ⊤, ℕ, List, Result, Ok, Err, map, string_bytes}
+use Rattle.std.specs.Prelude.{◌≡◌, ⊤, ℕ, false, List, Option, Result, Ok, Err, map, string_bytes}
+use Rattle.std.specs.Option.{option_copied}
 use Rattle.std.specs.List.{All}
 use Rattle.model_line.specs.Fits.{Fits}
 use Rattle.file_tables.specs.script.SoFar.{AreOnce}
 use Rattle.file_study.specs.sweeps.Studies.{script_names}
-use Rattle.file_study.specs.study.Studies.{StudyValues, study_of}
+use Rattle.file_study.specs.study.{Schemes.schemes_of, Studies.StudyValues, Studies.study_as}
 use Rattle.file_study.specs.sweeps.Groups.{group_values, single_group}
 use Rattle.call_files.specs.Study.{IsSaid}
 use Rattle.call_files.specs.declared.stop.Stop.TheVariants as stop
@@ -20,7 +21,7 @@ use Rattle.call_work.specs.declared.load.sources.Bytes.TheVariants as bytes
 use Rattle.call_work.specs.declared.load.sources.Loaded.{Loaded}
 use Rattle.call_work.specs.{load.Reading.given, load.Request.Source}
 use Rattle.call_work.specs.load.Request as request
-use Rattle.call_work.specs.load.Studied.{Given, IsOf, Studied, untitled}
+use Rattle.call_work.specs.load.Studied.{Given, IsOf, Studied, is_lacking, untitled}
 
 -- what it is asked about
 abbrev pub studied : Loaded → Studied
@@ -44,17 +45,19 @@ FilesSay line scripts l =
     × (string_bytes l.title ≡ untitled)
 
 -- a study file says it
-abbrev pub StudySays : List ℕ → Loaded → Type 0
-StudySays bytes l = (values : StudyValues) × (study_of bytes ≡ Ok values) × IsOf values (studied l)
+abbrev pub StudySays : Option (List ℕ) → List ℕ → Loaded → Type 0
+StudySays chosen bytes l =
+    (is_lacking chosen (schemes_of bytes) ≡ false)
+    × ((values : StudyValues) × (study_as chosen bytes ≡ Ok values) × IsOf values (studied l))
 
 abbrev pub Say : Bytes → Loaded → Type 0
 Say (bytes.Files line scripts) = FilesSay line.items scripts.items
-Say (bytes.Study study) = StudySays study.items
+Say (bytes.Study study scheme) = StudySays (option_copied scheme) study.items
 
 -- the bytes as lists
 abbrev pub source_in : Bytes → Source
 source_in (bytes.Files line scripts) = request.files line.items scripts.items
-source_in (bytes.Study study) = request.study study.items
+source_in (bytes.Study study scheme) = request.study study.items (option_copied scheme)
 
 abbrev pub given_of : Bytes → Given
 given_of from = given (source_in from)

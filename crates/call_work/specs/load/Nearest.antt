@@ -5,9 +5,9 @@ use Rattle.std.specs.List.{All, Contains, concat}
 use Rattle.model_line.specs.declared.script.Script.{Script}
 use Rattle.model_timing.specs.NamedValues.{NamedValues}
 use Rattle.strsim.specs.Edits.{levenshtein_row}
-use Rattle.model_line.specs.declared.line.Line.{Line}
+use Rattle.model_line.specs.{declared.line.Line.Line, declared.line.Scheme.Scheme}
 use Rattle.file_study.specs.declared.sweeps.group.Group.{Group}
-use Rattle.call_work.specs.load.Chosen.{name_of_fault, name_of_script, name_of_terminal}
+use Rattle.call_work.specs.load.Chosen.{name_of_fault, name_of_scheme, name_of_script, name_of_terminal}
 use Rattle.call_work.specs.declared.load.denial.Denial.{Denial}
 use Rattle.call_work.specs.declared.load.denial.Denial.TheVariants as denial
 use Rattle.call_work.specs.declared.load.nearest.Near.{Near}
@@ -60,6 +60,10 @@ IsNearestTo names (Some asked) near = IsNearest names asked near
 abbrev pub IsUnknown : (Option (List ℕ) → Denial) → List (List ℕ) → Option (List ℕ) → Denial → Type 0
 IsUnknown told names asked why =
     (near : Option (List ℕ)) × (why ≡ told near) × IsNearestTo names asked near
+
+-- no scheme of a study has the name
+abbrev pub IsUnknownScheme : List Scheme → Option (List ℕ) → Denial → Type 0
+IsUnknownScheme schemes name = IsUnknown denial.UnknownScheme (map name_of_scheme schemes) name
 
 -- no script has the name, no timing, no fault, no terminal
 abbrev pub IsUnknownScript : List Script → Option (List ℕ) → Denial → Type 0

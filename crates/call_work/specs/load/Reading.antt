@@ -3,7 +3,7 @@
 use Rattle.std.specs.Prelude.{◌≡◌, ◌∷◌, ℕ, List, [], Option, None, Some}
 use Rattle.std.specs.Prelude.{Result, Ok, Err, if◌then◌else◌, length, nat_le, option_map, slice_get}
 use Rattle.file_study.specs.sweeps.Parts.{is_part, parts_of}
-use Rattle.file_study.specs.study.Studies.{loose_study_of}
+use Rattle.file_study.specs.study.Studies.{loose_study_as}
 use Rattle.file_borders.specs.declared.loose.LooseFault.{LooseFault}
 use Rattle.file_borders.specs.declared.study.StudyBordersFault.TheVariants as borders_fault
 use Rattle.draw_shapes.specs.declared.rows.Rows.{Rows}
@@ -37,7 +37,8 @@ use Rattle.call_work.specs.load.Few.{number_of_terminal, script_alone, scripts_o
 use Rattle.call_work.specs.load.Nearest.{IsUnknownFault, IsUnknownScript, IsUnknownTerminal}
 use Rattle.call_work.specs.load.Nearest.{IsUnknownTiming}
 use Rattle.call_work.specs.load.Request.{Asked, Request, Source}
-use Rattle.call_work.specs.load.Studied.{Given, Studied, of_files, of_study_file, of_times, refused_by, times_halt}
+use Rattle.call_work.specs.load.Studied.{Given, Studied, of_files, of_scheme, of_study_file, of_times}
+use Rattle.call_work.specs.load.Studied.{refused_by, times_halt}
 
 -- what is asked for, over what the files say
 pub data Wanted : Type 0 where
@@ -244,8 +245,9 @@ why_of form given fault script terminal halted holds =
 -- times of faults, which only a study file has
 abbrev pub times_of : Source → Reading
 times_of (request.files line_bytes scripts_bytes) halted holds = halted (times_halt borders_fault.NoTimes)
-times_of (request.study study_bytes) halted holds =
-    of_times (loose_study_of study_bytes) halted (λ line faults. holds (times line faults))
+times_of (request.study study_bytes chosen) halted holds =
+    of_scheme chosen study_bytes halted
+    (of_times (loose_study_as chosen study_bytes) halted (λ line faults. holds (times line faults)))
 
 -- the page, made by what these words say, with a date if one is given, of files with these names and
 -- these bytes
@@ -257,7 +259,7 @@ page_of made date named from given halted holds =
 -- what a source of these bytes says
 abbrev pub given : Source → Given
 given (request.files line_bytes scripts_bytes) = of_files line_bytes scripts_bytes
-given (request.study study_bytes) = of_study_file study_bytes
+given (request.study study_bytes chosen) = of_study_file chosen study_bytes
 
 -- over the bytes of a source, which has these names, and of the further files
 abbrev pub over_source : Source → Source → Option (List ℕ) → Asked → List (List ℕ) → Reading
@@ -292,8 +294,8 @@ abbrev pub over_bytes : Source → Option (List ℕ) → Asked → List (List �
 over_bytes (request.files line scripts) script asked (line_bytes ∷ scripts_bytes ∷ further) =
     over_source (request.files line scripts) (request.files line_bytes scripts_bytes) script asked
     further
-over_bytes (request.study name) script asked (study_bytes ∷ further) =
-    over_source (request.study name) (request.study study_bytes) script asked further
+over_bytes (request.study name chosen) script asked (study_bytes ∷ further) =
+    over_source (request.study name chosen) (request.study study_bytes chosen) script asked further
 over_bytes source script asked bytes = λ halted holds. ⊥
 
 -- once the files are there, or one is too long

@@ -13,10 +13,11 @@ use Rattle.call_ask.specs.declared.ask.{Ask.Ask, Form.Form, Table.Table, Work.Wo
 use Rattle.call_ask.specs.declared.ask.Source.TheVariants as source
 use Rattle.call_ask.specs.declared.ask.Work.TheVariants as work
 
--- where a line and its scripts stand: in two files, or in one of a study; so too what these hold
+-- where a line and its scripts stand: in two files, or in one of a study, in the scheme that is chosen; so
+-- too what these hold
 pub data Source : Type 0 where
   files : List ℕ → List ℕ → Source
-  study : List ℕ → Source
+  study : List ℕ → Option (List ℕ) → Source
 
 -- a picture of every choice of delays, or of a play of a timing of a further file; a table; timings
 -- that fail; whether the trees of a further file are accepted; what is suspicious in the files; what
@@ -45,7 +46,7 @@ pub record Request : Type 0 where
 
 abbrev pub files_at : Source → List NamedFile
 files_at (files line scripts) = named file.Line line ∷ named file.Scripts scripts ∷ []
-files_at (study name) = named file.Study name ∷ []
+files_at (study name chosen) = named file.Study name ∷ []
 
 abbrev pub files_beside : Asked → List NamedFile
 files_beside (bands which made) = []
@@ -68,7 +69,7 @@ files_of request = files_at request.source ++ files_beside request.asked
 -- the request that the code's value stands for
 abbrev pub source_of : asks.Source.Source → Source
 source_of (source.Files line scripts) = files line.now scripts.now
-source_of (source.Study name) = study name.now
+source_of (source.Study name scheme) = study name.now (option_copied scheme)
 
 abbrev pub asked_of : Work → Asked
 asked_of (work.Bands which made) = bands which made.now

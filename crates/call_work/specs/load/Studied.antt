@@ -1,9 +1,13 @@
 -- What a source says: a line and the scripts of its faults, or why it says none.
-use Rattle.std.specs.Prelude.{◌≡◌, ◌⊎◌, ℕ, List, codes}
+use Rattle.std.specs.Prelude.{◌≡◌, ◌⊎◌, ℕ, Bool, true, false, not, List, [], Option, Some, codes, ⊤}
 use Rattle.std.specs.Prelude.{Result, Ok, Err, map}
+use Rattle.std.specs.{List.list_any, Str.bytes_eq}
 use Rattle.model_line.specs.{declared.line.Line.Line, declared.script.Script.Script}
+use Rattle.model_line.specs.declared.line.Scheme.{Scheme}
 use Rattle.file_line.specs.Lines.{line_values}
-use Rattle.file_study.specs.study.Studies.{StudyValues, study_of}
+use Rattle.file_line.specs.Canonical.{scheme_text}
+use Rattle.file_study.specs.study.Schemes.{schemes_of}
+use Rattle.file_study.specs.study.Studies.{StudyValues, study_as}
 use Rattle.file_document.specs.declared.fault.DocumentFault.{DocumentFault}
 use Rattle.file_study.specs.sweeps.Groups.{group_values, single_group}
 use Rattle.file_study.specs.declared.sweeps.group.Group.{Group}
@@ -15,6 +19,8 @@ use Rattle.file_borders.specs.declared.{loose.LooseFault.LooseFault, study.Study
 use Rattle.call_files.specs.Said.{of_study}
 use Rattle.call_files.specs.declared.refusal.Refusal.{Refusal}
 use Rattle.call_files.specs.declared.stop.Stop.TheVariants as stop
+use Rattle.call_work.specs.load.Nearest.{IsUnknownScheme}
+use Rattle.call_work.specs.declared.load.denial.Denial.{Denial}
 use Rattle.call_work.specs.declared.load.denial.Denial.TheVariants as denial
 use Rattle.call_work.specs.declared.load.halt.Halt.{Halt}
 use Rattle.call_work.specs.declared.load.halt.Halt.TheVariants as halt
@@ -64,9 +70,38 @@ of_values (Ok values) halted holds =
     ⊎ ((why : StudySweepFault) × IsNone values why × halted (halt.Denied (denial.Scripts why)))
 of_values (Err why) halted holds = halted (halt.Denied (denial.Study why))
 
--- the bytes of a study file
-abbrev pub of_study_file : List ℕ → Given
-of_study_file bytes = of_values (study_of bytes)
+-- the schemes that a study has
+abbrev pub schemes_there : Result (List Scheme) DocumentFault → List Scheme
+schemes_there (Ok schemes) = schemes
+schemes_there (Err why) = []
+
+-- whether the one that is chosen is none of them
+abbrev pub is_lacking : Option (List ℕ) → Result (List Scheme) DocumentFault → Bool
+is_lacking (Some name) (Ok schemes) =
+    not (list_any (λ scheme. bytes_eq (scheme_text scheme) name) schemes)
+is_lacking chosen said = false
+
+-- what holds where it is one of them, or of why not
+abbrev pub unless_lacking : Bool → (Denial → Type 0) → (Halt → Type 0) → Type 0 → Type 0
+unless_lacking true IsWhy halted holds = (why : Denial) × IsWhy why × halted (halt.Denied why)
+unless_lacking false IsWhy halted holds = holds
+
+abbrev pub of_scheme : Option (List ℕ) → List ℕ → (Halt → Type 0) → Type 0 → Type 0
+of_scheme chosen bytes halted holds =
+    unless_lacking (is_lacking chosen (schemes_of bytes))
+    (IsUnknownScheme (schemes_there (schemes_of bytes)) chosen) halted holds
+
+-- why a call ends whose scheme is none of the study's: that, or want of memory
+abbrev pub LacksScheme : Option (List ℕ) → Result (List Scheme) DocumentFault → Halt → Type 0
+LacksScheme chosen said (halt.Denied why) =
+    (is_lacking chosen said ≡ true) × IsUnknownScheme (schemes_there said) chosen why
+LacksScheme chosen said (halt.Stopped stop.Memory) = ⊤
+LacksScheme chosen said other = ⊥
+
+-- the bytes of a study file, in the scheme that is chosen
+abbrev pub of_study_file : Option (List ℕ) → List ℕ → Given
+of_study_file chosen bytes halted holds =
+    of_scheme chosen bytes halted (of_values (study_as chosen bytes) halted holds)
 
 -- a line, and its faults that have times which are not known
 pub record IsTimed (values : StudyValues) (line : Line) (faults : List LooseFault) : Type 0 where

@@ -19,6 +19,8 @@ pub enum Denial {
     Scripts(StudySweepFault),
     /// A study has no faults whose times are intervals, or one of them is refused.
     Times(StudyBordersFault),
+    /// No scheme of the study has the name; this one has the nearest.
+    UnknownScheme(Option<Name>),
     /// There are so many scripts, and this work takes so many at most.
     TooManyScripts { there: usize, most: usize },
     /// There are so many scripts, and none is named.
@@ -54,6 +56,7 @@ impl Denial {
             | Denial::Times(_)
             | Denial::TooManyScripts { .. } => 5,
             Denial::SeveralScripts(_)
+            | Denial::UnknownScheme(_)
             | Denial::UnknownScript(_)
             | Denial::UnknownTiming(_)
             | Denial::UnknownFault(_)

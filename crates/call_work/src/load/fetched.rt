@@ -18,8 +18,8 @@ use std::alloc::Global;
 /// The bytes of the files of a request: of its source, and of the further file that its work takes, none
 /// where it takes none.
 #[derive(Drop)]
-pub struct Fetched {
-    pub source: Bytes,
+pub struct Fetched<'a> {
+    pub source: Bytes<'a>,
     pub further: Vec<u8>,
 }
 
@@ -47,7 +47,11 @@ impl From<Unread> for Halt {
 }
 
 /// All files that are asked for, in the order of the words: each is fetched once.
-pub fn fetch_files<S: Store>(alloc: Global, ask: &Ask<'_>, store: &mut S) -> Result<Fetched, Unread>
+pub fn fetch_files<'a, S: Store>(
+    alloc: Global,
+    ask: &Ask<'a>,
+    store: &mut S,
+) -> Result<Fetched<'a>, Unread>
     ensures files { FetchesAll (S.held store.old) (request_of ask.now) (S.faults store.old)
         (S.faults store.new) result }
     ensures held { S.held store.new ≡ S.held store.old }
@@ -58,8 +62,12 @@ pub fn fetch_files<S: Store>(alloc: Global, ask: &Ask<'_>, store: &mut S) -> Res
 }
 
 // The files of a source.
-fn fetch_source<S: Store>(alloc: Global, source: Source<'_>, store: &mut S) -> Result<Bytes, Unread>
-    ensures files { FetchesSource (S.held store.old) (source_of source.entry) (S.faults store.old)
+fn fetch_source<'a, S: Store>(
+    alloc: Global,
+    source: Source<'a>,
+    store: &mut S,
+) -> Result<Bytes<'a>, Unread>
+    ensures files { FetchesSource (S.held store.old) (source_of source) (S.faults store.old)
         (S.faults store.new) result }
     ensures held { S.held store.new ≡ S.held store.old }
 {
@@ -69,9 +77,9 @@ fn fetch_source<S: Store>(alloc: Global, source: Source<'_>, store: &mut S) -> R
             let scripts = fetch(alloc, store, File::Scripts, scripts)?;
             Ok(Bytes::Files { line, scripts })
         }
-        Source::Study(study) => {
-            let study = fetch(alloc, store, File::Study, study)?;
-            Ok(Bytes::Study(study))
+        Source::Study { name, scheme } => {
+            let study = fetch(alloc, store, File::Study, name)?;
+            Ok(Bytes::Study { study, scheme })
         }
     }
 }
@@ -112,11 +120,14 @@ fn fetch<S: Store>(alloc: Global, store: &mut S, file: File, name: &str) -> Resu
     }
 }
 
-impl Fetched {
+impl<'a> Fetched<'a> {
     /// No bytes.
     pub fn nothing(alloc: Global) -> Self {
         Fetched {
-            source: Bytes::Study(Vec::new(alloc)),
+            source: Bytes::Study {
+                study: Vec::new(alloc),
+                scheme: None,
+            },
             further: Vec::new(alloc),
         }
     }
@@ -134,7 +145,7 @@ impl Fetched {
     }
 }
 
-impl Bytes {
+impl<'a> Bytes<'a> {
     ghost use Rattle.call_work.specs.load.Fetched.{line_bytes, scripts_bytes, study_bytes};
 
     fn line(&self) -> &[u8]
@@ -142,7 +153,7 @@ impl Bytes {
     {
         match self {
             Bytes::Files { line, .. } => line.as_slice(),
-            Bytes::Study(_) => &[],
+            Bytes::Study { .. } => &[],
         }
     }
 
@@ -151,7 +162,7 @@ impl Bytes {
     {
         match self {
             Bytes::Files { scripts, .. } => scripts.as_slice(),
-            Bytes::Study(_) => &[],
+            Bytes::Study { .. } => &[],
         }
     }
 
@@ -160,7 +171,7 @@ impl Bytes {
     {
         match self {
             Bytes::Files { .. } => &[],
-            Bytes::Study(study) => study.as_slice(),
+            Bytes::Study { study, .. } => study.as_slice(),
         }
     }
 }
@@ -181,7 +192,7 @@ fn name_in_source(source: Source<'_>, file: File) -> Option<&str>
     match (source, file) {
         (Source::Files { line, .. }, File::Line) => Some(line),
         (Source::Files { scripts, .. }, File::Scripts) => Some(scripts),
-        (Source::Study(study), File::Study) => Some(study),
+        (Source::Study { name, .. }, File::Study) => Some(name),
         _ => None,
     }
 }

@@ -4,7 +4,7 @@ ghost use Rattle.std.specs.Prelude.{[], ◌≡◌, ◌++◌, ◌∷◌, IfOk, On
 ghost use Rattle.std.specs.Option.{option_copied};
 ghost use Rattle.call_files.specs.Files.{limit_of as limit};
 ghost use Rattle.call_work.specs.choose.Denials.{choose_denial_pieces};
-ghost use Rattle.call_work.specs.load.Fetched.{bytes_at as bytes_in};
+ghost use Rattle.call_work.specs.load.Fetched.{bytes_at as bytes_in, chosen_at};
 ghost use Rattle.call_work.specs.load.Lines.{IsDenialLine, IsRefusalLine, IsToldIn, many_line as many};
 ghost use Rattle.call_work.specs.load.Lines.{missing_line as missing, one_line as line_of};
 ghost use Rattle.call_work.specs.load.Lines.{part_asked as part_of, part_line as part};
@@ -42,7 +42,7 @@ use std::alloc::Global;
 pub fn refusal_line(
     alloc: Global,
     ask: &Ask<'_>,
-    fetched: &Fetched,
+    fetched: &Fetched<'_>,
     why: &Refusal,
 ) -> Result<Vec<u8>, Memory>
     ensures { IfOk result (λ line. IsRefusalLine (request_of ask.now)
@@ -87,7 +87,7 @@ fn limit_of(file: File) -> usize
 pub fn denial_line(
     alloc: Global,
     ask: &Ask<'_>,
-    fetched: &Fetched,
+    fetched: &Fetched<'_>,
     why: &Denial,
 ) -> Result<Vec<u8>, Memory>
     ensures { IfOk result (λ line. IsDenialLine (request_of ask.now)
@@ -126,6 +126,13 @@ pub fn denial_line(
             timing_asked(ask.work),
             *near,
         ),
+        Denial::UnknownScheme(near) => unknown_line(
+            alloc,
+            line_name(ask.source),
+            b"scheme",
+            scheme_asked(ask.source),
+            *near,
+        ),
         Denial::UnknownFault(near) => {
             unknown_line(
                 alloc,
@@ -155,7 +162,7 @@ fn scripts_name(source: Source<'_>) -> &str
 {
     match source {
         Source::Files { scripts, .. } => scripts,
-        Source::Study(study) => study,
+        Source::Study { name, .. } => name,
     }
 }
 
@@ -165,7 +172,17 @@ fn line_name(source: Source<'_>) -> &str
 {
     match source {
         Source::Files { line, .. } => line,
-        Source::Study(study) => study,
+        Source::Study { name, .. } => name,
+    }
+}
+
+// The scheme that is chosen.
+fn scheme_asked(source: Source<'_>) -> Option<&str>
+    ensures { option_copied result ≡ chosen_at (source_of source.entry) }
+{
+    match source {
+        Source::Study { scheme, .. } => scheme,
+        Source::Files { .. } => None,
     }
 }
 

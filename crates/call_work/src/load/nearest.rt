@@ -142,8 +142,8 @@ pub fn nearest_parameter(alloc: Global, line: &Line, asked: &[u8]) -> Result<Opt
     Ok(name_in(near))
 }
 
-// The nearer of the nearest so far and another name.
-fn nearer(alloc: Global, so_far: Option<Near>, name: Name, asked: &[u8]) -> Result<Near, Memory>
+/// The nearer of the nearest so far and another name.
+pub fn nearer(alloc: Global, so_far: Option<Near>, name: Name, asked: &[u8]) -> Result<Near, Memory>
     ensures { IfOk result (λ near. near ≡ nearer_of asked.now so_far name) }
 {
     let edits = generic_levenshtein(alloc, name.bytes(), asked)?;
@@ -153,7 +153,8 @@ fn nearer(alloc: Global, so_far: Option<Near>, name: Name, asked: &[u8]) -> Resu
     }
 }
 
-fn name_in(near: Option<Near>) -> Option<Name>
+/// The name of the nearest.
+pub fn name_in(near: Option<Near>) -> Option<Name>
     ensures { result ≡ near_name near }
 {
     match near {

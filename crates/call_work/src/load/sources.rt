@@ -1,12 +1,15 @@
 //! A line and its scripts, from the bytes of their files.
 
 ghost use Rattle.std.specs.Prelude.{◌≡◌, IfOk, string_bytes};
+ghost use Rattle.std.specs.Option.{option_copied};
 ghost use Rattle.call_work.specs.load.Loaded.{FilesSay, Loads, Say, StudySays, given_of};
 ghost use Rattle.call_work.specs.load.Studied.{of_files, of_study_file, untitled as title_of_none};
 
 use crate::load::halt::Halt;
+use crate::load::schemes::known_scheme;
 use call_answer::Study;
 use call_files::read_study;
+use file_study::study::read_study_as;
 use file_study::sweeps::{Group, groups_of_scripts, scripts_of_study};
 use file_tables::script::a_file_says_scripts_of_one_file;
 use model_line::Memory;
@@ -15,9 +18,16 @@ use std::alloc::Global;
 
 /// The bytes of the files of a source.
 #[derive(Drop)]
-pub enum Bytes {
-    Files { line: Vec<u8>, scripts: Vec<u8> },
-    Study(Vec<u8>),
+pub enum Bytes<'a> {
+    Files {
+        line: Vec<u8>,
+        scripts: Vec<u8>,
+    },
+    /// Those of a study, which is read in the scheme of this name, or in its first.
+    Study {
+        study: Vec<u8>,
+        scheme: Option<&'a str>,
+    },
 }
 
 /// A title, a line, its net and its scripts, in groups, one for each fault.
@@ -29,12 +39,12 @@ pub struct Loaded {
 }
 
 /// What the bytes say, or their first fault.
-pub fn load(alloc: Global, bytes: &Bytes) -> Result<Loaded, Halt>
+pub fn load(alloc: Global, bytes: &Bytes<'_>) -> Result<Loaded, Halt>
     ensures { Loads (given_of bytes.now) (Say bytes.now) result }
 {
     match bytes {
         Bytes::Files { line, scripts } => load_files(alloc, line.as_slice(), scripts.as_slice()),
-        Bytes::Study(study) => load_study(alloc, study.as_slice()),
+        Bytes::Study { study, scheme } => load_study(alloc, *scheme, study.as_slice()),
     }
 }
 
@@ -61,10 +71,12 @@ fn untitled(alloc: Global) -> Result<String, Memory>
 }
 
 // The line of a study, and the scripts of its faults.
-fn load_study(alloc: Global, study: &[u8]) -> Result<Loaded, Halt>
-    ensures { Loads (of_study_file study.now) (StudySays study.now) result }
+fn load_study(alloc: Global, scheme: Option<&str>, study: &[u8]) -> Result<Loaded, Halt>
+    ensures { Loads (of_study_file (option_copied scheme.entry) study.now)
+        (StudySays (option_copied scheme.entry) study.now) result }
 {
-    let said = file_study::study::read_study(alloc, study)?;
+    known_scheme(alloc, scheme, study)?;
+    let said = read_study_as(alloc, scheme, study)?;
     let swept = scripts_of_study(alloc, &said)?;
     let net = compile(alloc, &said.line)?;
     let study = Study {

@@ -28,7 +28,7 @@ use std::alloc::Global;
 pub fn tell<E: Sink>(
     alloc: Global,
     ask: &Ask<'_>,
-    fetched: &Fetched,
+    fetched: &Fetched<'_>,
     reason: Reason,
     halt: Halt,
     err: &mut E,

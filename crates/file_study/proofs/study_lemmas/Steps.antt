@@ -13,6 +13,8 @@ use Rattle.model_line.specs.declared.script.Kind.{Kind}
 use Rattle.file_document.specs.declared.fault.DocumentFault.{DocumentFault}
 use Rattle.file_study.specs.declared.study.units.Units.{Units}
 use Rattle.file_study.specs.declared.study.stage.Shown.{Shown}
+use Rattle.model_line.specs.declared.line.Scheme.{Scheme}
+use Rattle.file_study.specs.study.Schemes.{OneOf, put_kept, scheme_in, schemes_in}
 use Rattle.file_study.specs.study.Settings.{time_in, put_times, setting_in, put_settings}
 use Rattle.file_study.specs.study.LineTables.{tables_of, terminals_in}
 use Rattle.file_study.specs.study.Shows.{all_shown, shown_in, terminals_show, terminal_shows, all_lost}
@@ -31,13 +33,22 @@ pub times_more : (units : Units) (path : List ℕ) (s rest : List Entry) (e : En
 unfolding put_times
 times_more units path s rest e done is = rw is
 
-pub settings_more : (units : Units) (path : List ℕ) (s rest : List Entry) (e : Entry)
-    (done : Members) → s ≡ e ∷ rest
+pub settings_more : (units : Units) (meant : OneOf) (path : List ℕ) (s rest : List Entry)
+    (e : Entry) (done : Members) → s ≡ e ∷ rest
     → (setting_in units (under path (string_bytes e.0)) (view e.1)
-    >>= λ d. put_settings units path (members_view rest) (put_member (string_bytes e.0) d done))
-    ≡ put_settings units path (members_view s) done
+    >>= λ d. put_settings units meant path (members_view rest) (put_kept meant (string_bytes e.0) d done))
+    ≡ put_settings units meant path (members_view s) done
 unfolding put_settings
-settings_more units path s rest e done is = rw is
+settings_more units meant path s rest e done is = rw is
+
+-- the next scheme
+pub schemes_more : (path : List ℕ) (i : ℕ) (vs : List Value) (d : Value) (done : List Scheme)
+    → i < length vs
+    → (scheme_in (numbered path i) done (view (get_or vs i d)) >>= λ scheme.
+    schemes_in path (i + 1) (items_view (drop (i + 1) vs)) (done ++ scheme ∷ []))
+    ≡ schemes_in path i (items_view (drop i vs)) done
+unfolding schemes_in
+schemes_more path i vs d done h = rw (items_view-drop vs i d h)
 
 -- the next item of an array
 pub terminals_more : (path : List ℕ) (i : ℕ) (vs : List Value) (d : Value) (done : List Terminal)

@@ -1,5 +1,5 @@
 -- The line of a study: the table that it comes to, and where the keys of this stand in the study.
-use Rattle.std.specs.Prelude.{◌==◌, ◌++◌, ◌+◌, ℕ, Bool, false, List, [], ◌∷◌, Option, None, Some}
+use Rattle.std.specs.Prelude.{◌==◌, ◌++◌, ◌+◌, ℕ, Bool, false, List, [], ◌∷◌, Option, Some}
 use Rattle.std.specs.Prelude.{Result, Ok, map, length, pos, codes, if◌then◌else◌, true}
 use Rattle.base_memory.specs.Gives.{◌>>=◌}
 use Rattle.toml.specs.Data.{Data, string, integer, boolean, array, table, Members, Items, no_items, no_members}
@@ -16,6 +16,7 @@ use Rattle.file_study.specs.declared.study.units.Units.{Units}
 use Rattle.file_document.specs.Keys.{number_at, number_or_none, text_in, text_at, flag_or_false}
 use Rattle.file_document.specs.Keys.{array_at, table_or_none, none_unknown, counted}
 use Rattle.file_study.specs.{study.Settings.put_section, study.Moments.instant_of}
+use Rattle.file_study.specs.study.Schemes.{OneOf, schemes_at, name_meant}
 use Rattle.file_document.specs.{Paths.under, Paths.numbered}
 
 -- The table of settings under a key at the top, if there is one, which has only these keys.
@@ -28,11 +29,11 @@ section_at key known top = do
   Ok section
 
 -- What an owner is by default, and what differs: a table stands for the whole table of that name.
-unfoldable pub owner_members : Units → List (List ℕ) → Option Members → List ℕ → Option Members
-    → List ℕ → Members → Result Members DocumentFault
-owner_members units known defaults kind own name start = do
-  base ← put_section units known (under [] (codes "default")) kind defaults start
-  put_section units known (under [] kind) name own base
+unfoldable pub owner_members : Units → OneOf → List (List ℕ) → Option Members → List ℕ
+    → Option Members → List ℕ → Members → Result Members DocumentFault
+owner_members units meant known defaults kind own name start = do
+  base ← put_section units meant known (under [] (codes "default")) kind defaults start
+  put_section units meant known (under [] kind) name own base
 
 -- the keys of a terminal and of a channel, by whatever scheme
 abbrev pub terminal_keys : List (List ℕ)
@@ -44,17 +45,17 @@ abbrev pub channel_keys : List (List ℕ)
 channel_keys = codes "delay" ∷ codes "unblock" ∷ []
 
 -- a terminal
-abbrev pub terminal_members : Units → Option Members → Option Members → Terminal
+abbrev pub terminal_members : Units → OneOf → Option Members → Option Members → Terminal
     → Result Members DocumentFault
-terminal_members units defaults own t =
-    owner_members units terminal_keys defaults (codes "terminal") own t.name
+terminal_members units meant defaults own t =
+    owner_members units meant terminal_keys defaults (codes "terminal") own t.name
     (table_of ((codes "name", string t.name) ∷ []))
 
 -- a channel
-abbrev pub channel_members : Units → Option Members → Option Members → List Terminal → Channel
-    → Result Members DocumentFault
-channel_members units defaults own ts c =
-    owner_members units channel_keys defaults (codes "channel") own (pair_name ts c)
+abbrev pub channel_members : Units → OneOf → Option Members → Option Members → List Terminal
+    → Channel → Result Members DocumentFault
+channel_members units meant defaults own ts c =
+    owner_members units meant channel_keys defaults (codes "channel") own (pair_name ts c)
     (table_of ((codes "from", string (name_at ts c.from))
     ∷ (codes "to", string (name_at ts c.to)) ∷ []))
 
@@ -92,18 +93,18 @@ abbrev pub channels_of : List Terminal → List Channel
 channels_of ts = channels_for (length ts)
 
 -- a table for each terminal
-unfoldable pub terminal_tables : Units → Option Members → List Terminal → Members
+unfoldable pub terminal_tables : Units → OneOf → Option Members → List Terminal → Members
     → Result (List Data) DocumentFault
-terminal_tables units defaults ts top = do
+terminal_tables units meant defaults ts top = do
   own ← section_at (codes "terminal") (map (λ t. t.name) ts) top
-  tables_of (terminal_members units defaults own) ts []
+  tables_of (terminal_members units meant defaults own) ts []
 
 -- a table for each channel
-unfoldable pub channel_tables : Units → Option Members → List Terminal → Members
+unfoldable pub channel_tables : Units → OneOf → Option Members → List Terminal → Members
     → Result (List Data) DocumentFault
-channel_tables units defaults ts top = do
+channel_tables units meant defaults ts top = do
   own ← section_at (codes "channel") (map (pair_name ts) (channels_of ts)) top
-  tables_of (channel_members units defaults own ts) (channels_of ts) []
+  tables_of (channel_members units meant defaults own ts) (channels_of ts) []
 
 -- how many microseconds a tick has, and how many hertz the system
 unfoldable pub units_of : Members → Result Units DocumentFault
@@ -133,20 +134,18 @@ table_pairs terminals channels =
     (codes "terminal", array (items_of terminals)) ∷ (codes "channel", array (items_of channels))
     ∷ []
 
--- the head of the line file
-unfoldable pub line_head : Units → Members → Result Members DocumentFault
-line_head units top = do
-  horizon ← horizon_of units top
-  scheme ← text_at [] (codes "scheme") top
-  zone1_trip ← flag_or_false (under [] (codes "zone1_trip")) (get_member (codes "zone1_trip") top)
-  Ok (table_of (head_pairs units horizon scheme zone1_trip))
+-- whether zone 1 trips by itself
+abbrev pub zone1_trip_of : Members → Result Bool DocumentFault
+zone1_trip_of top =
+    flag_or_false (under [] (codes "zone1_trip")) (get_member (codes "zone1_trip") top)
 
 -- the tables of the terminals and of the channels, behind the head
-unfoldable pub with_tables : Units → List Terminal → Members → Members → Result Members DocumentFault
-with_tables units ts top head = do
+unfoldable pub with_tables : Units → OneOf → List Terminal → Members → Members
+    → Result Members DocumentFault
+with_tables units meant ts top head = do
   defaults ← section_at (codes "default") (codes "terminal" ∷ codes "channel" ∷ []) top
-  terminals ← terminal_tables units defaults ts top
-  channels ← channel_tables units defaults ts top
+  terminals ← terminal_tables units meant defaults ts top
+  channels ← channel_tables units meant defaults ts top
   Ok (put_all (table_pairs terminals channels) head)
 
 -- ---- where the keys stand
@@ -172,10 +171,18 @@ channel_places ts top =
 
 -- ---- the line
 
--- the line of a study: that of its table, the keys of which stand in the study
-unfoldable pub line_of_study : Units → Members → Result LineValues DocumentFault
-line_of_study units top = do
-  head ← line_head units top
+-- the line of one scheme: that of its table, the keys of which stand in the study
+unfoldable pub line_meant : Units → OneOf → ℕ → Members → Result LineValues DocumentFault
+line_meant units meant horizon top = do
+  zone1_trip ← zone1_trip_of top
   ts ← terminals_of top
-  ms ← with_tables units ts top head
+  ms ← with_tables units meant ts top (table_of (head_pairs units horizon meant.name zone1_trip))
   line_at (terminal_places ts top) (channel_places ts top) ms
+
+-- the line of a study, in the scheme that is chosen, or in the first where none is
+unfoldable pub line_of_study : Option (List ℕ) → Units → Members → Result LineValues DocumentFault
+line_of_study chosen units top = do
+  horizon ← horizon_of units top
+  schemes ← schemes_at top
+  name ← name_meant chosen schemes top
+  line_meant units (record { name = name; schemes = schemes }) horizon top

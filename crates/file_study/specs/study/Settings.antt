@@ -9,6 +9,7 @@ use Rattle.file_document.specs.declared.fault.DocumentFault.{DocumentFault}
 use Rattle.file_document.specs.declared.fault.DocumentFault.TheVariants as fault
 use Rattle.file_study.specs.declared.study.units.Units.{Units}
 use Rattle.file_study.specs.{study.Moments.bounds_of}
+use Rattle.file_study.specs.study.Schemes.{OneOf, put_kept}
 use Rattle.file_document.specs.{Paths.under, Keys.table_or_none, Keys.member_of}
 use Rattle.file_document.specs.Keys.{none_unknown}
 
@@ -39,21 +40,22 @@ setting_in units path (table ms) = do
   Ok (table times)
 setting_in units path d = time_in units path d
 
--- a table with these settings besides; one takes the place of another that has its key
-unfoldable pub put_settings : Units → List ℕ → Members → Members → Result Members DocumentFault
-put_settings units path no_members done = Ok done
-put_settings units path (member key d more) done = do
+-- A table with these settings besides, except those that the scheme leaves out; one takes the place of
+-- another that has its key.
+unfoldable pub put_settings : Units → OneOf → List ℕ → Members → Members → Result Members DocumentFault
+put_settings units meant path no_members done = Ok done
+put_settings units meant path (member key d more) done = do
   setting ← setting_in units (under path key) d
-  put_settings units path more (put_member key setting done)
+  put_settings units meant path more (put_kept meant key setting done)
 
-abbrev pub put_optional : Units → List ℕ → Option Members → Members → Result Members DocumentFault
-put_optional units path None done = Ok done
-put_optional units path (Some ms) done = put_settings units path ms done
+abbrev pub put_optional : Units → OneOf → List ℕ → Option Members → Members → Result Members DocumentFault
+put_optional units meant path None done = Ok done
+put_optional units meant path (Some ms) done = put_settings units meant path ms done
 
 -- those of the table under a key of a table that may be absent, which has only these keys
-unfoldable pub put_section : Units → List (List ℕ) → List ℕ → List ℕ → Option Members → Members
+unfoldable pub put_section : Units → OneOf → List (List ℕ) → List ℕ → List ℕ → Option Members → Members
     → Result Members DocumentFault
-put_section units known path key outer done = do
+put_section units meant known path key outer done = do
   ms ← table_or_none (under path key) (member_of key outer)
   _ ← none_unknown (under path key) known ms
-  put_optional units (under path key) ms done
+  put_optional units meant (under path key) ms done

@@ -1,5 +1,6 @@
 -- What a study says.
-use Rattle.std.specs.Prelude.{◌≡◌, ℕ, Bool, true, false, List, [], ◌∷◌, Result, Ok, Err, codes, map}
+use Rattle.std.specs.Prelude.{◌≡◌, ℕ, Bool, true, false, List, [], ◌∷◌, Option, None}
+use Rattle.std.specs.Prelude.{Result, Ok, Err, codes, map}
 use Rattle.std.specs.Prelude.{string_bytes}
 use Rattle.toml.specs.Data.{Members}
 use Rattle.base_memory.specs.Gives.{◌>>=◌}
@@ -18,8 +19,8 @@ use Rattle.file_study.specs.study.Faults.{FaultValues, fault_values, faults_in}
 abbrev pub top_keys : List (List ℕ)
 top_keys =
     codes "study" ∷ codes "title" ∷ codes "tick_us" ∷ codes "frequency_hz" ∷ codes "horizon"
-    ∷ codes "scheme" ∷ codes "zone1_trip" ∷ codes "terminals" ∷ codes "default"
-    ∷ codes "terminal" ∷ codes "channel" ∷ codes "fault" ∷ []
+    ∷ codes "scheme" ∷ codes "schemes" ∷ codes "zone1_trip" ∷ codes "terminals"
+    ∷ codes "default" ∷ codes "terminal" ∷ codes "channel" ∷ codes "fault" ∷ []
 
 -- A study: its title, its units of time, its line and its faults.
 pub record StudyValues : Type 0 where
@@ -45,28 +46,37 @@ faults_of loose units line top = do
   faults_in loose units line (under [] (codes "fault")) 0 ds []
 
 -- what a document of this title and these units says
-unfoldable pub study_with : Bool → List ℕ → Units → Members → Result StudyValues DocumentFault
-study_with loose title units top = do
-  line ← line_of_study units top
+unfoldable pub study_with : Bool → Option (List ℕ) → List ℕ → Units → Members
+    → Result StudyValues DocumentFault
+study_with loose chosen title units top = do
+  line ← line_of_study chosen units top
   faults ← faults_of loose units line top
   Ok (record { title = title; units = units; line = line; faults = faults })
 
 -- what a document says
-unfoldable pub study_in : Bool → Members → Result StudyValues DocumentFault
-study_in loose top = do
+unfoldable pub study_in : Bool → Option (List ℕ) → Members → Result StudyValues DocumentFault
+study_in loose chosen top = do
   version ← number_at [] (codes "study") 1 1 top
   _ ← all_known [] top_keys top
   title ← text_at [] (codes "title") top
   units ← units_of top
-  study_with loose title units top
+  study_with loose chosen title units top
 
--- what these bytes say; each stage lasts for one time, or for those of a sweep
-unfoldable pub study_of : List ℕ → Result StudyValues DocumentFault
-study_of bytes = opened (document_of bytes) >>= study_in false
+-- What these bytes say in the scheme that is chosen, or in the first where none is. Each stage lasts for one
+-- time, or for those of a sweep.
+unfoldable pub study_as : Option (List ℕ) → List ℕ → Result StudyValues DocumentFault
+study_as chosen bytes = opened (document_of bytes) >>= study_in false chosen
 
 -- what they say where a stage may last for an interval too
-unfoldable pub loose_study_of : List ℕ → Result StudyValues DocumentFault
-loose_study_of bytes = opened (document_of bytes) >>= study_in true
+unfoldable pub loose_study_as : Option (List ℕ) → List ℕ → Result StudyValues DocumentFault
+loose_study_as chosen bytes = opened (document_of bytes) >>= study_in true chosen
+
+-- where no scheme is chosen
+abbrev pub study_of : List ℕ → Result StudyValues DocumentFault
+study_of bytes = study_as None bytes
+
+abbrev pub loose_study_of : List ℕ → Result StudyValues DocumentFault
+loose_study_of bytes = loose_study_as None bytes
 
 -- a text is a line file of the study's line
 abbrev pub HasLine : Result StudyValues DocumentFault → List ℕ → Type 0

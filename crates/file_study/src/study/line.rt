@@ -14,10 +14,13 @@ ghost use Rattle.file_study.specs.study.LineTables.{channels_of, channels_for, u
 ghost use Rattle.file_study.specs.study.LineTables.{section_at, terminal_tables, channel_tables};
 ghost use Rattle.file_study.specs.study.LineTables.{tables_of};
 ghost use Rattle.file_study.specs.study.LineTables.{owner_members, terminal_members, channel_members};
-ghost use Rattle.file_study.specs.study.LineTables.{line_head, with_tables, line_of_study};
+ghost use Rattle.file_study.specs.study.LineTables.{zone1_trip_of, with_tables, line_meant, line_of_study};
 ghost use Rattle.file_study.specs.study.LineTables.{head_pairs};
+ghost use Rattle.file_study.specs.study.Schemes.{one_of};
+ghost use Rattle.std.specs.Option.{option_copied};
 
 use crate::study::places::placed_line;
+use crate::study::schemes::{Meant, name_meant, schemes};
 use crate::study::settings::put_section;
 use crate::study::ticks::instant;
 use crate::study::units::Units;
@@ -141,6 +144,7 @@ fn channels(count: usize) -> &'static [Channel]
 fn with_owner(
     alloc: Global,
     units: Units,
+    meant: &Meant<'_>,
     known: &[&str],
     defaults: Option<&Table>,
     kind: &str,
@@ -151,15 +155,15 @@ fn with_owner(
     requires { 0 < units.tick_us }
     ensures { (ms : Members) → IfOk table (λ t. table_view t ≡ ms)
         → Gives table_view result
-        (owner_members units (map (λ name. name.now) known.now)
+        (owner_members units (one_of meant.now) (map (λ name. name.now) known.now)
         (option_map (λ t. table_view t.now) defaults.entry) kind.now
         (option_map (λ t. table_view t.now) own.entry) name.now ms) }
 {
     let mut table = table?;
     let path = Path::root().key(b"default");
-    put_section(alloc, units, known, path, kind, defaults, &mut table)?;
+    put_section(alloc, units, meant, known, path, kind, defaults, &mut table)?;
     let path = Path::root().key(kind.as_bytes());
-    put_section(alloc, units, known, path, name, own, &mut table)?;
+    put_section(alloc, units, meant, known, path, name, own, &mut table)?;
     Ok(table)
 }
 
@@ -167,6 +171,7 @@ fn with_owner(
 fn terminal_table(
     alloc: Global,
     units: Units,
+    meant: &Meant<'_>,
     defaults: Option<&Table>,
     own: Option<&Table>,
     terminal: Terminal,
@@ -174,7 +179,7 @@ fn terminal_table(
     requires tick { 0 < units.tick_us }
     requires plain { is_plain_name terminal.name ≡ true }
     ensures { Gives table_view result
-        (terminal_members units (option_map (λ t. table_view t.now) defaults.entry)
+        (terminal_members units (one_of meant.now) (option_map (λ t. table_view t.now) defaults.entry)
         (option_map (λ t. table_view t.now) own.entry) terminal) }
 {
     let name = terminal.name.plain_text();
@@ -182,6 +187,7 @@ fn terminal_table(
     with_owner(
         alloc,
         units,
+        meant,
         TERMINAL_KEYS,
         defaults,
         "terminal",
@@ -206,6 +212,7 @@ pub fn text_of_channel(name: &Name) -> &str
 fn channel_table(
     alloc: Global,
     units: Units,
+    meant: &Meant<'_>,
     defaults: Option<&Table>,
     own: Option<&Table>,
     terminals: &[Terminal],
@@ -216,7 +223,7 @@ fn channel_table(
     requires from { channel.from < length terminals.now }
     requires to { channel.to < length terminals.now }
     ensures { Gives table_view result
-        (channel_members units (option_map (λ t. table_view t.now) defaults.entry)
+        (channel_members units (one_of meant.now) (option_map (λ t. table_view t.now) defaults.entry)
         (option_map (λ t. table_view t.now) own.entry) terminals.now channel) }
 {
     let name = channel_name(terminals, channel);
@@ -228,6 +235,7 @@ fn channel_table(
     with_owner(
         alloc,
         units,
+        meant,
         CHANNEL_KEYS,
         defaults,
         "channel",
@@ -242,6 +250,7 @@ fn channel_table(
 fn terminal_tables(
     alloc: Global,
     units: Units,
+    meant: &Meant<'_>,
     defaults: Option<&Table>,
     terminals: &[Terminal],
     top: &Table,
@@ -249,17 +258,18 @@ fn terminal_tables(
     requires tick { 0 < units.tick_us }
     requires plain { are_plain_names terminals.now ≡ true }
     ensures { Gives (λ vs. map view vs.items) result
-        (terminal_tables units (option_map (λ t. table_view t.now) defaults.entry) terminals.now
+        (terminal_tables units (one_of meant.now) (option_map (λ t. table_view t.now) defaults.entry) terminals.now
         (table_view top.now)) }
 {
     let names = terminal_names(alloc, terminals)?;
     let own = section("terminal", &[], &names, top)?;
-    each_terminal(alloc, units, defaults, own, terminals)
+    each_terminal(alloc, units, meant, defaults, own, terminals)
 }
 
 fn each_terminal(
     alloc: Global,
     units: Units,
+    meant: &Meant<'_>,
     defaults: Option<&Table>,
     own: Option<&Table>,
     terminals: &[Terminal],
@@ -267,12 +277,12 @@ fn each_terminal(
     requires tick { 0 < units.tick_us }
     requires plain { are_plain_names terminals.now ≡ true }
     ensures { Gives (λ vs. map view vs.items) result
-        (tables_of (terminal_members units (option_map (λ t. table_view t.now) defaults.entry)
+        (tables_of (terminal_members units (one_of meant.now) (option_map (λ t. table_view t.now) defaults.entry)
         (option_map (λ t. table_view t.now) own.entry)) terminals.now []) }
 {
     let mut tables = Vec::new(alloc);
     for terminal in terminals {
-        let table = terminal_table(alloc, units, defaults, own, *terminal)?;
+        let table = terminal_table(alloc, units, meant, defaults, own, *terminal)?;
         tables.push(Value::Table(table))?;
     }
     Ok(tables)
@@ -294,6 +304,7 @@ pub fn terminal_names(alloc: Global, terminals: &[Terminal]) -> Result<Vec<Name>
 fn channel_tables(
     alloc: Global,
     units: Units,
+    meant: &Meant<'_>,
     defaults: Option<&Table>,
     terminals: &[Terminal],
     top: &Table,
@@ -302,7 +313,7 @@ fn channel_tables(
     requires plain { are_plain_names terminals.now ≡ true }
     requires count { (2 ≤ length terminals.now) × (length terminals.now ≤ 3) }
     ensures { Gives (λ vs. map view vs.items) result
-        (channel_tables units (option_map (λ t. table_view t.now) defaults.entry) terminals.now
+        (channel_tables units (one_of meant.now) (option_map (λ t. table_view t.now) defaults.entry) terminals.now
         (table_view top.now)) }
 {
     let names = channel_names(alloc, terminals)?;
@@ -310,6 +321,7 @@ fn channel_tables(
     each_channel(
         alloc,
         units,
+        meant,
         defaults,
         own,
         terminals,
@@ -320,6 +332,7 @@ fn channel_tables(
 fn each_channel(
     alloc: Global,
     units: Units,
+    meant: &Meant<'_>,
     defaults: Option<&Table>,
     own: Option<&Table>,
     terminals: &[Terminal],
@@ -330,12 +343,12 @@ fn each_channel(
     requires count { (2 ≤ length terminals.now) × (length terminals.now ≤ 3) }
     requires channels { channels.now ≡ channels_of terminals.now }
     ensures { Gives (λ vs. map view vs.items) result
-        (tables_of (channel_members units (option_map (λ t. table_view t.now) defaults.entry)
+        (tables_of (channel_members units (one_of meant.now) (option_map (λ t. table_view t.now) defaults.entry)
         (option_map (λ t. table_view t.now) own.entry) terminals.now) channels.now []) }
 {
     let mut tables = Vec::new(alloc);
     for channel in channels {
-        let table = channel_table(alloc, units, defaults, own, terminals, *channel)?;
+        let table = channel_table(alloc, units, meant, defaults, own, terminals, *channel)?;
         tables.push(Value::Table(table))?;
     }
     Ok(tables)
@@ -407,23 +420,12 @@ fn head(
     with(alloc, table, "zone1_trip", Value::Boolean(zone1_trip))
 }
 
-// The head of the line file.
-#[tactic(auto, unfolding(crate::specs::study::LineTables::line_head))]
-fn line_head(alloc: Global, units: Units, top: &Table) -> Result<Table, Stopped<DocumentFault>>
-    requires { 0 < units.tick_us }
-    ensures { Gives table_view result (line_head units (table_view top.now)) }
-{
-    let horizon = horizon(units, top)?;
-    let scheme = text(Path::root(), "scheme", top)?;
-    let zone1_trip = flag(Path::root().key(b"zone1_trip"), find(top, "zone1_trip"))?;
-    Ok(head(alloc, units, horizon, scheme, zone1_trip)?)
-}
-
 // Puts the tables of the terminals and of the channels.
 #[tactic(auto, unfolding(crate::specs::study::LineTables::with_tables))]
 fn put_tables(
     alloc: Global,
     units: Units,
+    meant: &Meant<'_>,
     terminals: &[Terminal],
     top: &Table,
     table: &mut Table,
@@ -432,24 +434,61 @@ fn put_tables(
     requires plain { are_plain_names terminals.now ≡ true }
     requires count { (2 ≤ length terminals.now) × (length terminals.now ≤ 3) }
     ensures { Becomes result (table_view table.new)
-        (with_tables units terminals.now (table_view top.now) (table_view table.old)) }
+        (with_tables units (one_of meant.now) terminals.now (table_view top.now) (table_view table.old)) }
 {
     let defaults = section("default", &["terminal", "channel"], &[], top)?;
-    let terminal_values = terminal_tables(alloc, units, defaults, terminals, top)?;
-    let channel_values = channel_tables(alloc, units, defaults, terminals, top)?;
+    let terminal_values = terminal_tables(alloc, units, meant, defaults, terminals, top)?;
+    let channel_values = channel_tables(alloc, units, meant, defaults, terminals, top)?;
     put(alloc, table, "terminal", Value::Array(terminal_values))?;
     put(alloc, table, "channel", Value::Array(channel_values))?;
     Ok(())
 }
 
-/// The line of a study: that of its table, the keys of which stand in the study.
-#[tactic(auto, unfolding(crate::specs::study::LineTables::line_of_study))]
-pub fn line(alloc: Global, units: Units, top: &Table) -> Result<Line, Stopped<DocumentFault>>
-    requires { 0 < units.tick_us }
-    ensures { Gives line_values result (line_of_study units (table_view top.now)) }
+// Whether zone 1 trips by itself.
+fn zone1_trip(top: &Table) -> Result<bool, DocumentFault>
+    ensures { result ≡ zone1_trip_of (table_view top.now) }
 {
-    let mut table = line_head(alloc, units, top)?;
+    flag(Path::root().key(b"zone1_trip"), find(top, "zone1_trip"))
+}
+
+// The line of one scheme: that of its table, the keys of which stand in the study.
+#[tactic(auto, unfolding(crate::specs::study::LineTables::line_meant))]
+fn line_meant(
+    alloc: Global,
+    units: Units,
+    meant: &Meant<'_>,
+    horizon: u32,
+    top: &Table,
+) -> Result<Line, Stopped<DocumentFault>>
+    requires { 0 < units.tick_us }
+    ensures { Gives line_values result
+        (line_meant units (one_of meant.now) horizon (table_view top.now)) }
+{
+    let zone1_trip = zone1_trip(top)?;
     let terminals = terminals(alloc, top)?;
-    put_tables(alloc, units, &terminals, top, &mut table)?;
+    let mut table = head(alloc, units, horizon, meant.name, zone1_trip)?;
+    put_tables(alloc, units, meant, &terminals, top, &mut table)?;
     placed_line(alloc, &terminals, top, &table)
+}
+
+/// The line of a study, in the scheme that is chosen, or in the first where none is.
+#[tactic(auto, unfolding(crate::specs::study::LineTables::line_of_study))]
+pub fn line(
+    alloc: Global,
+    chosen: Option<&str>,
+    units: Units,
+    top: &Table,
+) -> Result<Line, Stopped<DocumentFault>>
+    requires { 0 < units.tick_us }
+    ensures { Gives line_values result
+        (line_of_study (option_copied chosen.entry) units (table_view top.now)) }
+{
+    let horizon = horizon(units, top)?;
+    let schemes = schemes(alloc, top)?;
+    let name = name_meant(chosen, &schemes, top)?;
+    let meant = Meant {
+        name,
+        schemes: &schemes,
+    };
+    line_meant(alloc, units, &meant, horizon, top)
 }

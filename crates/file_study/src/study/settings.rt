@@ -4,9 +4,10 @@ ghost use Rattle.std.specs.Prelude.{◌≡◌, ◌<◌, IfOk, map, option_map};
 ghost use Rattle.toml.specs.{Data.no_members, View.view, View.table_view};
 ghost use Rattle.base_memory.specs.Gives.{Becomes, Gives};
 ghost use Rattle.file_study.specs.study.Settings.{time_data, time_in, put_times, setting_in};
-ghost use Rattle.file_study.specs.study.Settings.{put_settings};
+ghost use Rattle.file_study.specs.study.{Settings.put_settings, Schemes.one_of};
 ghost use Rattle.file_study.specs.study.Settings.{put_optional, put_section, ends_data};
 
+use crate::study::schemes::Meant;
 use crate::study::ticks::bounds;
 use crate::study::units::Units;
 use base_memory::{Memory, Stopped};
@@ -107,21 +108,23 @@ fn setting(
     }
 }
 
-// Puts these settings; one takes the place of another that has its key.
+// Puts these settings, except those that the scheme leaves out; one takes the place of another that has
+// its key.
 fn put_settings(
     alloc: Global,
     units: Units,
+    meant: &Meant<'_>,
     path: Path,
     settings: &Table,
     table: &mut Table,
 ) -> Result<(), Stopped<DocumentFault>>
     requires { 0 < units.tick_us }
     ensures { Becomes result (table_view table.new)
-        (put_settings units path (table_view settings.now) (table_view table.old)) }
+        (put_settings units (one_of meant.now) path (table_view settings.now) (table_view table.old)) }
 {
     for (key, value) in settings {
         let setting = setting(alloc, units, path.key(key.as_bytes()), value)?;
-        put(alloc, table, key.as_str(), setting)?;
+        meant.put(alloc, table, key.as_str(), setting)?;
     }
     Ok(())
 }
@@ -129,17 +132,18 @@ fn put_settings(
 fn put_optional(
     alloc: Global,
     units: Units,
+    meant: &Meant<'_>,
     path: Path,
     settings: Option<&Table>,
     table: &mut Table,
 ) -> Result<(), Stopped<DocumentFault>>
     requires { 0 < units.tick_us }
     ensures { Becomes result (table_view table.new)
-        (put_optional units path (option_map (λ t. table_view t.now) settings.entry)
+        (put_optional units (one_of meant.now) path (option_map (λ t. table_view t.now) settings.entry)
         (table_view table.old)) }
 {
     match settings {
-        Some(settings) => put_settings(alloc, units, path, settings, table),
+        Some(settings) => put_settings(alloc, units, meant, path, settings, table),
         None => Ok(()),
     }
 }
@@ -150,6 +154,7 @@ fn put_optional(
 pub fn put_section(
     alloc: Global,
     units: Units,
+    meant: &Meant<'_>,
     known: &[&str],
     path: Path,
     key: &str,
@@ -158,11 +163,11 @@ pub fn put_section(
 ) -> Result<(), Stopped<DocumentFault>>
     requires { 0 < units.tick_us }
     ensures { Becomes result (table_view table.new)
-        (put_section units (map (λ name. name.now) known.now) path key.now
+        (put_section units (one_of meant.now) (map (λ name. name.now) known.now) path key.now
         (option_map (λ t. table_view t.now) outer.entry) (table_view table.old)) }
 {
     let path = path.key(key.as_bytes());
     let settings = optional_table(path, find_in(outer, key))?;
     only_in(path, known, &[], settings)?;
-    put_optional(alloc, units, path, settings, table)
+    put_optional(alloc, units, meant, path, settings, table)
 }

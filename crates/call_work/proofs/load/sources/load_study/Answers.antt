@@ -1,24 +1,38 @@
 use Rattle.std.proofs.Common.{refl}
 use Rattle.std.proofs.lemmas.Result.{err_from_is_err_and}
+use Rattle.std.specs.Option.{option_copied}
 use Rattle.file_study.specs.study.Studies.{study_values}
 use Rattle.call_work.specs.load.Loaded.{StudySays}
-use Rattle.call_work.proofs.load_lemmas.Loading.{scripts_halts, study_halts}
+use Rattle.call_work.proofs.load_lemmas.Loading.{scheme_halts, scripts_halts, study_halts}
 use Rattle.call_work.proofs.load.sources.load_study.Goals as goal
+
+pub returns-in_err-known_scheme : goal.returns-in_err-known_scheme
+returns-in_err-known_scheme c =
+    let p = err_from_is_err_and c.from_residual.result c.from_residual.ensures.1 in
+    let chosen = option_copied c.args.scheme in
+    let study = c.args.study.now in
+    rw (p.1, p.2)
+    (scheme_halts chosen study (StudySays chosen study) c.in_err-known_scheme.field-0.0
+    c.in_err-known_scheme.ensures)
 
 pub returns-in_err-said : goal.returns-in_err-said
 returns-in_err-said c =
-    let p = err_from_is_err_and c.from_residual.result c.from_residual.ensures.1 in
+    let p = err_from_is_err_and c.from_residual-in_err-said.result
+    c.from_residual-in_err-said.ensures.1 in
+    let chosen = option_copied c.args.scheme in
     let study = c.args.study.now in
     rw (p.1, p.2)
-    (study_halts study (StudySays study) c.in_err-said.field-0.0 c.in_err-said.ensures)
+    (study_halts chosen study (StudySays chosen study) c.in_ok-known_scheme.ensures
+    c.in_err-said.field-0.0 c.in_err-said.ensures)
 
 pub returns-in_err-swept : goal.returns-in_err-swept
 returns-in_err-swept c =
     let p = err_from_is_err_and c.from_residual-in_err-swept.result
     c.from_residual-in_err-swept.ensures.1 in
+    let chosen = option_copied c.args.scheme in
     let study = c.args.study.now in
-    rw (p.1, p.2) (scripts_halts study (StudySays study) c.in_ok-said.said
-    c.in_err-swept.field-0.0 c.in_ok-said.ensures c.in_err-swept.ensures.refused)
+    rw (p.1, p.2) (scripts_halts chosen study (StudySays chosen study) c.in_ok-known_scheme.ensures
+    c.in_ok-said.said c.in_err-swept.field-0.0 c.in_ok-said.ensures c.in_err-swept.ensures.refused)
 
 pub returns : goal.returns
 returns c =
@@ -26,8 +40,11 @@ returns c =
     let are = c.in_ok-swept.ensures.are in (
       record { fit = are.fit; once = are.once },
       (
-        study_values said,
-        c.in_ok-said.ensures,
-        record { title = refl; line = refl; scripts = are },
+        c.in_ok-known_scheme.ensures,
+        (
+          study_values said,
+          c.in_ok-said.ensures,
+          record { title = refl; line = refl; scripts = are },
+        ),
       ),
     )

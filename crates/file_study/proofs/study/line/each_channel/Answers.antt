@@ -6,6 +6,7 @@ use Rattle.base_memory.specs.CheckLaws.{fails_ends}
 use Rattle.toml.specs.View.{view, table_view}
 use Rattle.toml.specs.declared.value.Value.{Table}
 use Rattle.toml.proofs.Views.{view-Table}
+use Rattle.file_study.specs.study.Schemes.{one_of}
 use Rattle.file_study.specs.study.LineTables.{tables_of, channel_members}
 use Rattle.file_study.proofs.study_lemmas.Steps.{tables_more}
 use Rattle.file_study.proofs.study.line.each_channel.Goals as goal
@@ -14,7 +15,7 @@ pub returns-in_err-table : goal.returns-in_err-table
 returns-in_err-table c =
     let told = err_from_is_err_and c.from_residual.result c.from_residual.ensures.1 in
     let more = tables_more
-    (channel_members c.args.units (option_map (λ t. table_view t.now) c.args.defaults)
+    (channel_members c.args.units (one_of c.args.meant.now) (option_map (λ t. table_view t.now) c.args.defaults)
     (option_map (λ t. table_view t.now) c.args.own) c.args.terminals.now)
     c.args.channels.now c.loop-channel.channel-index (record { from = 0; to = 0 })
     (map view c.loop-channel.tables.items)
@@ -27,7 +28,7 @@ returns-in_err-table c =
 pub loop-channel-preserved : goal.loop-channel-preserved
 loop-channel-preserved c =
     let more = tables_more
-    (channel_members c.args.units (option_map (λ t. table_view t.now) c.args.defaults)
+    (channel_members c.args.units (one_of c.args.meant.now) (option_map (λ t. table_view t.now) c.args.defaults)
     (option_map (λ t. table_view t.now) c.args.own) c.args.terminals.now)
     c.args.channels.now c.loop-channel.channel-index (record { from = 0; to = 0 })
     (map view c.loop-channel.tables.items)

@@ -6,6 +6,7 @@ use Rattle.base_memory.specs.CheckLaws.{fails_ends}
 use Rattle.toml.specs.View.{view, table_view}
 use Rattle.toml.specs.declared.value.Value.{Table}
 use Rattle.toml.proofs.Views.{view-Table}
+use Rattle.file_study.specs.study.Schemes.{one_of}
 use Rattle.file_study.specs.study.LineTables.{tables_of, terminal_members}
 use Rattle.file_study.proofs.study_lemmas.Steps.{tables_more}
 use Rattle.file_study.proofs.study.line.each_terminal.Goals as goal
@@ -14,7 +15,7 @@ pub returns-in_err-table : goal.returns-in_err-table
 returns-in_err-table c =
     let told = err_from_is_err_and c.from_residual.result c.from_residual.ensures.1 in
     let more = tables_more
-    (terminal_members c.args.units (option_map (λ t. table_view t.now) c.args.defaults)
+    (terminal_members c.args.units (one_of c.args.meant.now) (option_map (λ t. table_view t.now) c.args.defaults)
     (option_map (λ t. table_view t.now) c.args.own))
     c.args.terminals.now c.loop-terminal.terminal-index c.terminal-item.result
     (map view c.loop-terminal.tables.items)
@@ -27,7 +28,7 @@ returns-in_err-table c =
 pub loop-terminal-preserved : goal.loop-terminal-preserved
 loop-terminal-preserved c =
     let more = tables_more
-    (terminal_members c.args.units (option_map (λ t. table_view t.now) c.args.defaults)
+    (terminal_members c.args.units (one_of c.args.meant.now) (option_map (λ t. table_view t.now) c.args.defaults)
     (option_map (λ t. table_view t.now) c.args.own))
     c.args.terminals.now c.loop-terminal.terminal-index c.terminal-item.result
     (map view c.loop-terminal.tables.items)

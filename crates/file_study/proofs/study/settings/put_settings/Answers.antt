@@ -4,7 +4,7 @@ use Rattle.std.proofs.lemmas.Map.Iter.{rest_more, rest_all}
 use Rattle.std.specs.Map.Iter.{deref_pair}
 use Rattle.base_memory.specs.CheckLaws.{fails_ends}
 use Rattle.toml.specs.View.{table_view}
-use Rattle.file_study.specs.study.Settings.{put_settings}
+use Rattle.file_study.specs.study.{Settings.put_settings, Schemes.one_of}
 use Rattle.file_study.proofs.study_lemmas.Steps.{settings_more}
 use Rattle.file_study.proofs.study.settings.put_settings.Goals as goal
 
@@ -13,7 +13,7 @@ returns-in_err-setting c =
     let told = err_from_is_err_and c.from_residual.result c.from_residual.ensures.1 in
     let first = rest_more deref_pair c.loop-key.key-iterator c.next.new.self c.next.result
     (c.in-Some.key, c.in-Some.value) c.in-Some.is c.next.ensures.steps in
-    let more = settings_more c.args.units c.args.path c.loop-key.key-iterator c.next.new.self
+    let more = settings_more c.args.units (one_of c.args.meant.now) c.args.path c.loop-key.key-iterator c.next.new.self
     (c.in-Some.key.now, c.in-Some.value.now) (table_view c.loop-key.table) first in
     let here = rw (← c.as_bytes.ensures.value, ← c.key.ensures) at more in
     rw (told.1, told.2)
@@ -24,7 +24,7 @@ pub loop-key-preserved : goal.loop-key-preserved
 loop-key-preserved c =
     let first = rest_more deref_pair c.loop-key.key-iterator c.next.new.self c.next.result
     (c.in-Some.key, c.in-Some.value) c.in-Some.is c.next.ensures.steps in
-    let more = settings_more c.args.units c.args.path c.loop-key.key-iterator c.next.new.self
+    let more = settings_more c.args.units (one_of c.args.meant.now) c.args.path c.loop-key.key-iterator c.next.new.self
     (c.in-Some.key.now, c.in-Some.value.now) (table_view c.loop-key.table) first in
     let here = rw (← c.as_bytes.ensures.value, ← c.key.ensures) at more in
     let next = rw c.in_ok-setting.ensures at here in
