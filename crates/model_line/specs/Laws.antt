@@ -11,6 +11,7 @@ use Rattle.model_line.specs.{declared.line.Terminal.Terminal, declared.line.Chan
 use Rattle.model_line.specs.{declared.line.Owner.Owner, declared.line.Setting.Setting}
 use Rattle.model_line.specs.{declared.script.Script.Script, Intervals.delay_number_of}
 use Rattle.model_line.specs.{SetBounds.SameButParams, Fits.Fits}
+use Rattle.model_line.specs.Asks.{alike, obligation_over, AllEndInRun}
 use Rattle.model_line.specs.declared.line.Owner.TheVariants as owner
 
 -- parameters are numbered in the order of the settings: as many as settings and at most 63, each
@@ -61,6 +62,17 @@ pub record DelaysAreParameters : Type 0 where
 abbrev pub DeadlinesAreBelowTheHorizon : Type 0
 DeadlinesAreBelowTheHorizon = (line : Line) (script : Script) → Fits line script
     → script.deadline < line.horizon
+
+-- the obligations of a script that fits end in the run
+abbrev pub ObligationsEndInTheRun : Type 0
+ObligationsEndInTheRun = (line : Line) (script : Script) → Fits line script
+    → AllEndInRun line.horizon script
+
+-- where each terminal is asked alike, each has the obligation that the kind and the deadline say
+abbrev pub AlikeIsWhatTheScriptSays : Type 0
+AlikeIsWhatTheScriptSays = (horizon : ℕ) (script : Script) (k : ℕ) → script.asks ≡ alike
+    → obligation_over horizon script k
+    ≡ record { kind = script.kind; deadline = script.deadline; end = horizon }
 
 -- each has as many terminals, channels and parameters, and the same delays under the same numbers
 pub record CountsRestOnNoInterval : Type 0 where

@@ -1,3 +1,5 @@
+pub mod Asks
+pub mod AskLaws
 pub mod Channels
 pub mod DelayLaws
 pub mod FirstPositionLaws

@@ -7,7 +7,7 @@ use Rattle.model_history.specs.Elements.{some_below}
 use Rattle.model_line.specs.Parameters.{terminal_count, channel_count, param_count, delay_param}
 use Rattle.model_line.specs.Parameters.{is_delay}
 use Rattle.model_line.specs.Settings.{line_settings, setting_number}
-use Rattle.model_line.specs.Fits.{exists_in, span_fits, deadline_fits, Fits}
+use Rattle.model_line.specs.Fits.{exists_in, span_fits, deadline_fits, asks_fit, Fits}
 use Rattle.model_line.specs.{declared.line.Line.Line, declared.line.Scheme.Scheme}
 use Rattle.model_line.specs.{declared.line.Terminal.Terminal, declared.line.Channel.Channel}
 use Rattle.model_line.specs.{declared.line.Setting.TheVariants.Delay, declared.script.Script.Script}
@@ -68,6 +68,7 @@ module _ (old new : Line) (same : SameButParams old new) where
     few_spans = fits.few_spans;
     deadline = subst (λ (h : ℕ). IsTrue (deadline_fits h script.kind script.deadline))
         (sym same.horizon) fits.deadline;
+    asks = subst (λ (h : ℕ). IsTrue (asks_fit h script.kind script.asks)) (sym same.horizon) fits.asks;
     spans = ap (λ (f : SeenSpan → Bool). list_all f script.spans.items) (fun_ext span_same)
         ∙ fits.spans;
   }

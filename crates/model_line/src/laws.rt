@@ -3,6 +3,7 @@
 
 ghost use Rattle.model_line.specs.Laws.{ParametersAreNumbered, SettingsAreCounted};
 ghost use Rattle.model_line.specs.Laws.{DelaysAreParameters, DeadlinesAreBelowTheHorizon};
+ghost use Rattle.model_line.specs.Laws.{ObligationsEndInTheRun, AlikeIsWhatTheScriptSays};
 ghost use Rattle.model_line.specs.Laws.{CountsRestOnNoInterval, DeclaredIntervalsAreInOrder};
 ghost use Rattle.model_line.specs.declared.script.Script.{Script};
 ghost use Rattle.model_line.specs.{SetBounds.SameButParams, Fits.Fits, declared.line.Line.Line};
@@ -27,6 +28,17 @@ pub fn delays_are_parameters()
 /// The deadline of a script that fits is below the horizon.
 pub fn deadlines_are_below_the_horizon()
     ensures { DeadlinesAreBelowTheHorizon }
+{}
+
+/// The obligations of a script that fits end in the run: each deadline is below the horizon.
+pub fn obligations_end_in_the_run()
+    ensures { ObligationsEndInTheRun }
+{}
+
+/// Where each terminal is asked alike, each has the obligation that the script's kind and deadline
+/// say, up to the horizon.
+pub fn alike_is_what_the_script_says()
+    ensures { AlikeIsWhatTheScriptSays }
 {}
 
 /// How many terminals, channels and parameters a line has does not rest on its intervals.

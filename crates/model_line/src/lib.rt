@@ -6,10 +6,11 @@
 //!   `param_names`, `interval`.
 //! - `names`: the name of a terminal, a parameter or a script by its number; the words of an element,
 //!   of a kind of fault, and of a scheme.
-//! - Scripts: `script`, and `script_fits` for a line.
+//! - Scripts: `script`, `asks` of what is asked of each terminal, and `script_fits` for a line.
 //! - `laws`: how parameters are numbered, and what does not rest on the declared intervals.
 #![tactic(auto)]
 
+mod asks;
 mod bounds;
 mod channels;
 mod copy;
@@ -28,6 +29,7 @@ mod setting_places;
 mod settings;
 mod terminals;
 
+pub use asks::{ALIKE, Ask, Asks, Obligation, obligation_at, obligation_within};
 pub use base_memory::Memory;
 pub use bounds::Bounds;
 pub use line::{Channel, Line, Owner, Param, Scheme, Setting, Terminal};

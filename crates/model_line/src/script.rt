@@ -3,6 +3,7 @@
 ghost use Rattle.std.specs.Prelude.{◌≡◌};
 ghost use Rattle.model_line.specs.Seen.{is_seen, is_lost, shows, loses};
 
+use crate::asks::Asks;
 use crate::name::Name;
 
 /// What a terminal sees: zone 1 and zone 2, the reverse and the undervoltage element, current.
@@ -52,6 +53,8 @@ pub struct Script {
     pub kind: Kind,
     /// The last tick by which an internal fault is to be tripped; of an external one 0.
     pub deadline: u32,
+    /// What is asked of a terminal where it is not this.
+    pub asks: Asks,
     /// At most 200, in any order. Spans of one place may overlap.
     pub spans: Vec<SeenSpan>,
 }

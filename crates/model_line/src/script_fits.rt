@@ -3,14 +3,16 @@
 ghost use Rattle.std.specs.Prelude.{◌≡◌, ◌↔◌, IsTrue};
 ghost use Rattle.std.specs.List.{list_all};
 ghost use Rattle.model_line.specs.Fits.{exists_in, span_fits, deadline_fits, Fits};
+ghost use Rattle.model_line.specs.Fits.{ask_fits, asks_fit};
 
+use crate::asks::{Ask, Asks};
 use crate::line::Line;
 use crate::name::is_plain;
 use crate::script::{Kind, Script, SeenSpan, What};
 
 /// Whether the script has a plain name, at most 200 spans, each with `from < to <= horizon` and of
-/// a terminal or channel of the line, and an internal deadline below the horizon or an external
-/// one of 0.
+/// a terminal or channel of the line, an internal deadline below the horizon or an external one of
+/// 0, and asks of no trip but of an internal fault, by a tick below the horizon.
 pub fn fits(line: &Line, script: &Script) -> bool
     ensures { IsTrue result ↔ Fits line.now script.now }
 {
@@ -19,6 +21,7 @@ pub fn fits(line: &Line, script: &Script) -> bool
     }
     is_plain(script.name.bytes())
         && has_deadline(line.horizon, script.kind, script.deadline)
+        && has_asks(line.horizon, script.kind, script.asks)
         && spans_fit(line, script)
 }
 
@@ -28,6 +31,24 @@ fn has_deadline(horizon: u32, kind: Kind, deadline: u32) -> bool
     match kind {
         Kind::Internal => deadline < horizon,
         Kind::External => deadline == 0,
+    }
+}
+
+fn has_asks(horizon: u32, kind: Kind, asks: Asks) -> bool
+    ensures { result ≡ asks_fit horizon kind asks }
+{
+    has_ask(horizon, kind, asks.first)
+        && has_ask(horizon, kind, asks.second)
+        && has_ask(horizon, kind, asks.third)
+}
+
+fn has_ask(horizon: u32, kind: Kind, ask: Ask) -> bool
+    ensures { result ≡ ask_fits horizon kind ask }
+{
+    match (ask, kind) {
+        (Ask::By(tick), Kind::Internal) => tick < horizon,
+        (Ask::By(_), Kind::External) => false,
+        (Ask::OfTheLine | Ask::Nothing, _) => true,
     }
 }
 
