@@ -2,11 +2,11 @@
 use Rattle.std.proofs.Common.{◌≡◌, ◌<◌, ℕ, ◌∙◌, ap, arith}
 use Rattle.model_history.specs.Laws.{HistoryLaws}
 use Rattle.model_line.specs.{declared.line.Line.Line, declared.script.Script.Script}
-use Rattle.model_line.specs.{Parameters.terminal_count, SetBounds.SameButParams}
+use Rattle.model_line.specs.{Parameters.terminal_count, SetBounds.SameButParams, Asks.AllEndInRun}
 use Rattle.model_line.specs.SameLineLaws.{exchanged}
 use Rattle.model_logic.specs.Choice.{Choice, Box, IsWithin, IsBoxWithin, LeastFromOne, declared_box}
 use Rattle.model_logic.specs.Histories.{History, IsLineHistory, Meets, PairHistory, IsPairHistory}
-use Rattle.model_logic.specs.Rule.{Held, rule_by, rule_of}
+use Rattle.model_logic.specs.Rule.{Held, rule_over, rule_of}
 use Rattle.model_logic.specs.{Boxes.IsSameBox, HeldOver.IsHeldOver}
 use Rattle.model_logic.proofs.DeclaredChoices.{declared_from_one}
 use Rattle.model_logic.proofs.SameHistories.{pair_history_same, same_box}
@@ -23,11 +23,11 @@ box_within_itself line box = record {
 }
 
 module _ (laws : HistoryLaws) where
-  module _ (line : Line) (script : Script) (k : ℕ) (early : script.deadline < line.horizon)
+  module _ (line : Line) (script : Script) (k : ℕ) (early : AllEndInRun line.horizon script)
       (kn : k < terminal_count line) where
     -- a rule that is held over one interval history of the box is held over the box
     pub held_of : (box : Box) → LeastFromOne line box → (v : PairHistory)
-        → IsPairHistory line script box v → rule_of line script (v.trip k) ≡ Held
+        → IsPairHistory line script box v → rule_of line script k (v.trip k) ≡ Held
         → IsHeldOver line script k box
     held_of box d v is_v held = record {
       held = λ w is_w.
@@ -61,7 +61,7 @@ module _ (laws : HistoryLaws) where
       (box : Box) → IsHeldOver old script k box → IsHeldOver new script k box
   held_same_line old new same script k box held = record {
     held = λ w is_w.
-        ap (λ (n : ℕ). rule_by script.kind script.deadline n (w.trip k)) same.horizon
+        ap (λ (n : ℕ). rule_over n script k (w.trip k)) same.horizon
         ∙ held.held w (pair_history_same new old (exchanged old new same) script box w is_w);
   }
 
@@ -74,7 +74,7 @@ module _ (laws : HistoryLaws) where
 
   -- and of each line that differs in its intervals alone, where these are narrower
   pub held_narrower_line : (old new : Line) → SameButParams old new → (script : Script) (k : ℕ)
-      → script.deadline < old.horizon → k < terminal_count old
+      → AllEndInRun old.horizon script → k < terminal_count old
       → IsBoxWithin old (declared_box new) (declared_box old)
       → IsHeldOver old script k (declared_box old) → IsHeldOver new script k (declared_box new)
   held_narrower_line old new same script k early kn within held =

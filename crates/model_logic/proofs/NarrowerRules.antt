@@ -5,9 +5,11 @@ use Rattle.model_history.specs.{Laws.HistoryLaws, Rails.Rails, Rails.RailsCover}
 use Rattle.model_line.specs.declared.script.Kind.TheVariants.{Internal, External}
 use Rattle.model_line.specs.{declared.line.Line.Line, declared.script.Kind.Kind}
 use Rattle.model_line.specs.{declared.script.Script.Script, Parameters.terminal_count}
+use Rattle.model_line.specs.Asks.{obligation_of, AllEndInRun}
+use Rattle.model_line.specs.declared.asks.Obligation.{Obligation}
 use Rattle.model_logic.specs.Choice.{Box, IsBoxWithin, LeastFromOne}
 use Rattle.model_logic.specs.Histories.{PairHistory, IsPairHistory, CoversPairHistory}
-use Rattle.model_logic.specs.Rule.{Held, IsHeld, rule_of}
+use Rattle.model_logic.specs.Rule.{Held, HeldBy, rule_of}
 use Rattle.model_logic.proofs.BoxLaws.{box_covers}
 use Rattle.model_logic.proofs.RuleLaws.{rule_held, held_rule}
 
@@ -18,26 +20,28 @@ off_below wide narrow cover off = from narrow.may cover.may where
   from true on = let same : true ≡ false = sym (on refl) ∙ off in absurd (cc)
   from false on = refl
 
-held_narrower : (kind : Kind) (deadline horizon : ℕ) (wide narrow : ℕ → Rails)
-    → deadline < horizon → ((t : ℕ) → t < horizon → RailsCover (wide t) (narrow t))
-    → IsHeld kind deadline horizon wide → IsHeld kind deadline horizon narrow
-held_narrower Internal deadline horizon wide narrow early cover held =
+held_narrower : (kind : Kind) (deadline end horizon : ℕ) (wide narrow : ℕ → Rails)
+    → deadline < horizon → end ≤ horizon
+    → ((t : ℕ) → t < horizon → RailsCover (wide t) (narrow t)) → HeldBy kind deadline end wide
+    → HeldBy kind deadline end narrow
+held_narrower Internal deadline end horizon wide narrow early last cover held =
     let le : held.0 ≤ deadline = held.1 in
     (held.0, held.1, (cover held.0 (omega arith)).must held.2)
-held_narrower External deadline horizon wide narrow early cover held =
-    λ t lt. off_below (wide t) (narrow t) (cover t lt) (held t lt)
+held_narrower External deadline end horizon wide narrow early last cover held =
+    λ t lt. off_below (wide t) (narrow t) (cover t (omega arith)) (held t lt)
 
 module _ (laws : HistoryLaws) where
   pub narrower_held : (line : Line) (script : Script) (inner outer : Box)
-      (narrow wide : PairHistory) (k : ℕ) → script.deadline < line.horizon
+      (narrow wide : PairHistory) (k : ℕ) → AllEndInRun line.horizon script
       → LeastFromOne line outer → IsBoxWithin line inner outer
       → IsPairHistory line script inner narrow → IsPairHistory line script outer wide
-      → k < terminal_count line → rule_of line script (wide.trip k) ≡ Held
-      → rule_of line script (narrow.trip k) ≡ Held
+      → k < terminal_count line → rule_of line script k (wide.trip k) ≡ Held
+      → rule_of line script k (narrow.trip k) ≡ Held
   narrower_held line script inner outer narrow wide k early d within is_narrow is_wide kn held =
       let covers : CoversPairHistory line wide narrow =
       box_covers laws line script outer d inner within wide narrow is_wide is_narrow in
-      held_rule laws script.kind script.deadline line.horizon (narrow.trip k)
-      (held_narrower script.kind script.deadline line.horizon (wide.trip k) (narrow.trip k) early
-      (λ t lt. covers.trips k t kn lt)
-      (rule_held laws script.kind script.deadline line.horizon (wide.trip k) held))
+      let asked : Obligation = obligation_of line script k in
+      held_rule laws asked.kind asked.deadline asked.end (narrow.trip k)
+      (held_narrower asked.kind asked.deadline asked.end line.horizon (wide.trip k) (narrow.trip k)
+      (early.each k).deadline (early.each k).end (λ t lt. covers.trips k t kn lt)
+      (rule_held laws asked.kind asked.deadline asked.end (wide.trip k) held))

@@ -8,9 +8,11 @@ use Rattle.model_history.specs.{Laws.HistoryLaws, Elements.some_below, Rails.Rai
 use Rattle.model_line.specs.declared.script.Kind.TheVariants.{Internal, External}
 use Rattle.model_line.specs.{declared.line.Line.Line, declared.script.Script.Script}
 use Rattle.model_line.specs.{declared.script.Kind.Kind, Parameters.terminal_count}
-use Rattle.model_logic.specs.Histories.{History, MeetsBy, Meets, PairHistory, CoversHistory}
-use Rattle.model_logic.specs.Rule.{Rule, Held, Broken, Unknown, IsHeld, IsBroken, is_held}
-use Rattle.model_logic.specs.Rule.{is_broken, rule_by, rule_of}
+use Rattle.model_line.specs.Asks.{obligation_of, AllEndInRun}
+use Rattle.model_line.specs.declared.asks.Obligation.{Obligation}
+use Rattle.model_logic.specs.Histories.{History, MetBy, Meets, PairHistory, CoversHistory}
+use Rattle.model_logic.specs.Rule.{Rule, Held, Broken, Unknown, HeldBy, BrokenBy, held_by}
+use Rattle.model_logic.specs.Rule.{broken_by, rule_by, rule_of}
 use Rattle.model_history.specs.BelowLaws.{some_below-some}
 use Rattle.model_history.specs.TruthLaws.{not_both}
 
@@ -52,20 +54,20 @@ module _ (laws : HistoryLaws) where
       (λ all t lt. all t (omega arith))
       (Decides-none u (suc last))
 
-  pub Decides-held : (kind : Kind) (deadline horizon : ℕ) (trip : ℕ → Rails)
-      → Decides (is_held kind deadline horizon trip) (IsHeld kind deadline horizon trip)
-  Decides-held Internal deadline horizon trip = Decides-by (λ t. (trip t).must) deadline
-  Decides-held External deadline horizon trip = Decides-none (λ t. (trip t).may) horizon
+  pub Decides-held : (kind : Kind) (deadline end : ℕ) (trip : ℕ → Rails)
+      → Decides (held_by kind deadline end trip) (HeldBy kind deadline end trip)
+  Decides-held Internal deadline end trip = Decides-by (λ t. (trip t).must) deadline
+  Decides-held External deadline end trip = Decides-none (λ t. (trip t).may) end
 
-  pub Decides-broken : (kind : Kind) (deadline horizon : ℕ) (trip : ℕ → Rails)
-      → Decides (is_broken kind deadline horizon trip) (IsBroken kind deadline horizon trip)
-  Decides-broken Internal deadline horizon trip = Decides-none_by (λ t. (trip t).may) deadline
-  Decides-broken External deadline horizon trip =
-      laws.tests.some (λ t. (trip t).must) horizon
+  pub Decides-broken : (kind : Kind) (deadline end : ℕ) (trip : ℕ → Rails)
+      → Decides (broken_by kind deadline end trip) (BrokenBy kind deadline end trip)
+  Decides-broken Internal deadline end trip = Decides-none_by (λ t. (trip t).may) deadline
+  Decides-broken External deadline end trip =
+      laws.tests.some (λ t. (trip t).must) end
 
-  module _ (kind : Kind) (deadline horizon : ℕ) (trip : ℕ → Rails) where
+  module _ (kind : Kind) (deadline end : ℕ) (trip : ℕ → Rails) where
     abbrev rule : Rule
-    rule = rule_by kind deadline horizon trip
+    rule = rule_by kind deadline end trip
 
     abbrev by_tests : Bool → Bool → Rule
     by_tests h b = cond h Held (cond b Broken Unknown)
@@ -92,96 +94,101 @@ module _ (laws : HistoryLaws) where
     denied : (b : Bool) (P : Type 0) → Decides b P → (P → ⊥) → IsFalse b
     denied b P d never = false_from_ne_true b (λ on. never (d.0 on))
 
-    pub rule_held : rule ≡ Held → IsHeld kind deadline horizon trip
+    pub rule_held : rule ≡ Held → HeldBy kind deadline end trip
     unfolding rule_by
-    rule_held e = (Decides-held kind deadline horizon trip).0
-        (held_test (is_held kind deadline horizon trip) (is_broken kind deadline horizon trip) e)
+    rule_held e = (Decides-held kind deadline end trip).0
+        (held_test (held_by kind deadline end trip) (broken_by kind deadline end trip) e)
 
-    pub held_rule : IsHeld kind deadline horizon trip → rule ≡ Held
+    pub held_rule : HeldBy kind deadline end trip → rule ≡ Held
     unfolding rule_by
-    held_rule h = ap (λ b. by_tests b (is_broken kind deadline horizon trip))
-        ((Decides-held kind deadline horizon trip).1 h)
+    held_rule h = ap (λ b. by_tests b (broken_by kind deadline end trip))
+        ((Decides-held kind deadline end trip).1 h)
 
     pub rule_broken : rule ≡ Broken
-        → IsBroken kind deadline horizon trip × (IsHeld kind deadline horizon trip → ⊥)
+        → BrokenBy kind deadline end trip × (HeldBy kind deadline end trip → ⊥)
     unfolding rule_by
     rule_broken e =
-        let tests = broken_test (is_held kind deadline horizon trip)
-        (is_broken kind deadline horizon trip) e in (
-          (Decides-broken kind deadline horizon trip).0 tests.0,
-          given (is_held kind deadline horizon trip) (IsHeld kind deadline horizon trip)
-              (Decides-held kind deadline horizon trip) tests.1,
+        let tests = broken_test (held_by kind deadline end trip)
+        (broken_by kind deadline end trip) e in (
+          (Decides-broken kind deadline end trip).0 tests.0,
+          given (held_by kind deadline end trip) (HeldBy kind deadline end trip)
+              (Decides-held kind deadline end trip) tests.1,
         )
 
-    pub broken_rule : IsBroken kind deadline horizon trip
-        → (IsHeld kind deadline horizon trip → ⊥) → rule ≡ Broken
+    pub broken_rule : BrokenBy kind deadline end trip
+        → (HeldBy kind deadline end trip → ⊥) → rule ≡ Broken
     unfolding rule_by
     broken_rule broken never =
-        ap (λ b. by_tests b (is_broken kind deadline horizon trip))
-        (denied (is_held kind deadline horizon trip) (IsHeld kind deadline horizon trip)
-        (Decides-held kind deadline horizon trip) never)
-        ∙ ap (λ b. by_tests false b) ((Decides-broken kind deadline horizon trip).1 broken)
+        ap (λ b. by_tests b (broken_by kind deadline end trip))
+        (denied (held_by kind deadline end trip) (HeldBy kind deadline end trip)
+        (Decides-held kind deadline end trip) never)
+        ∙ ap (λ b. by_tests false b) ((Decides-broken kind deadline end trip).1 broken)
 
     pub rule_unknown : rule ≡ Unknown
-        → (IsHeld kind deadline horizon trip → ⊥) × (IsBroken kind deadline horizon trip → ⊥)
+        → (HeldBy kind deadline end trip → ⊥) × (BrokenBy kind deadline end trip → ⊥)
     unfolding rule_by
     rule_unknown e =
-        let tests = unknown_test (is_held kind deadline horizon trip)
-        (is_broken kind deadline horizon trip) e in (
-          given (is_held kind deadline horizon trip) (IsHeld kind deadline horizon trip)
-              (Decides-held kind deadline horizon trip) tests.0,
-          given (is_broken kind deadline horizon trip) (IsBroken kind deadline horizon trip)
-              (Decides-broken kind deadline horizon trip) tests.1,
+        let tests = unknown_test (held_by kind deadline end trip)
+        (broken_by kind deadline end trip) e in (
+          given (held_by kind deadline end trip) (HeldBy kind deadline end trip)
+              (Decides-held kind deadline end trip) tests.0,
+          given (broken_by kind deadline end trip) (BrokenBy kind deadline end trip)
+              (Decides-broken kind deadline end trip) tests.1,
         )
 
-    pub unknown_rule : (IsHeld kind deadline horizon trip → ⊥)
-        → (IsBroken kind deadline horizon trip → ⊥) → rule ≡ Unknown
+    pub unknown_rule : (HeldBy kind deadline end trip → ⊥)
+        → (BrokenBy kind deadline end trip → ⊥) → rule ≡ Unknown
     unfolding rule_by
     unknown_rule not_held not_broken =
-        ap (λ b. by_tests b (is_broken kind deadline horizon trip))
-        (denied (is_held kind deadline horizon trip) (IsHeld kind deadline horizon trip)
-        (Decides-held kind deadline horizon trip) not_held)
+        ap (λ b. by_tests b (broken_by kind deadline end trip))
+        (denied (held_by kind deadline end trip) (HeldBy kind deadline end trip)
+        (Decides-held kind deadline end trip) not_held)
         ∙ ap (λ b. by_tests false b)
-        (denied (is_broken kind deadline horizon trip) (IsBroken kind deadline horizon trip)
-        (Decides-broken kind deadline horizon trip) not_broken)
+        (denied (broken_by kind deadline end trip) (BrokenBy kind deadline end trip)
+        (Decides-broken kind deadline end trip) not_broken)
 
   -- ---- over trips that the pairs cover
 
   covered_off : (x : Rails) (v : Bool) → Covers x v → IsFalse x.may → IsFalse v
   covered_off x v cover off = false_from_ne_true v (λ on. not_both x.may off (cover.may on))
 
-  module _ (deadline horizon : ℕ) (early : deadline < horizon) (trip : ℕ → Rails) (plain : ℕ → Bool)
+  module _ (deadline end horizon : ℕ) (early : deadline < horizon) (last : end ≤ horizon)
+      (trip : ℕ → Rails) (plain : ℕ → Bool)
       (cover : (t : ℕ) → t < horizon → Covers (trip t) (plain t)) where
-    pub held_met : (kind : Kind) → IsHeld kind deadline horizon trip
-        → MeetsBy kind deadline horizon plain
+    pub held_met : (kind : Kind) → HeldBy kind deadline end trip → MetBy kind deadline end plain
     held_met Internal held =
         let le : held.0 ≤ deadline = held.1 in
         (held.0, held.1, (cover held.0 (omega arith)).must held.2)
-    held_met External held = λ t lt. covered_off (trip t) (plain t) (cover t lt) (held t lt)
+    held_met External held =
+        λ t lt. covered_off (trip t) (plain t) (cover t (omega arith)) (held t lt)
 
-    pub broken_failed : (kind : Kind) → IsBroken kind deadline horizon trip
-        → MeetsBy kind deadline horizon plain → ⊥
+    pub broken_failed : (kind : Kind) → BrokenBy kind deadline end trip
+        → MetBy kind deadline end plain → ⊥
     broken_failed Internal broken met =
         let le : met.0 ≤ deadline = met.1 in
         not_both (plain met.0)
         (covered_off (trip met.0) (plain met.0) (cover met.0 (omega arith))
         (broken met.0 met.1)) met.2
     broken_failed External broken met =
+        let lt : broken.0 < end = broken.1 in
         not_both (plain broken.0) (met broken.0 broken.1)
-        ((cover broken.0 broken.1).must broken.2)
+        ((cover broken.0 (omega arith)).must broken.2)
 
   -- what the rule of a line's obligation says of a history that is covered
   module _ (line : Line) (script : Script) (w : PairHistory) (h : History) (k : ℕ)
-      (early : script.deadline < line.horizon) (cover : CoversHistory line w h)
+      (early : AllEndInRun line.horizon script) (cover : CoversHistory line w h)
       (lt : k < terminal_count line) where
-    pub held_rule_met : rule_of line script (w.trip k) ≡ Held → Meets line script k h
-    held_rule_met rule =
-        held_met script.deadline line.horizon early (w.trip k) (h.trip k)
-        (λ t below. cover.trips k t lt below) script.kind
-        (rule_held script.kind script.deadline line.horizon (w.trip k) rule)
+    abbrev asked : Obligation
+    asked = obligation_of line script k
 
-    pub broken_rule_failed : rule_of line script (w.trip k) ≡ Broken → Meets line script k h → ⊥
+    pub held_rule_met : rule_of line script k (w.trip k) ≡ Held → Meets line script k h
+    held_rule_met rule =
+        held_met asked.deadline asked.end line.horizon (early.each k).deadline (early.each k).end
+        (w.trip k) (h.trip k) (λ t below. cover.trips k t lt below) asked.kind
+        (rule_held asked.kind asked.deadline asked.end (w.trip k) rule)
+
+    pub broken_rule_failed : rule_of line script k (w.trip k) ≡ Broken → Meets line script k h → ⊥
     broken_rule_failed rule =
-        broken_failed script.deadline line.horizon early (w.trip k) (h.trip k)
-        (λ t below. cover.trips k t lt below) script.kind
-        (rule_broken script.kind script.deadline line.horizon (w.trip k) rule).0
+        broken_failed asked.deadline asked.end line.horizon (early.each k).deadline
+        (early.each k).end (w.trip k) (h.trip k) (λ t below. cover.trips k t lt below) asked.kind
+        (rule_broken asked.kind asked.deadline asked.end (w.trip k) rule).0

@@ -7,9 +7,11 @@ use Rattle.model_history.specs.TruthLaws.{not_both}
 use Rattle.model_line.specs.declared.script.Kind.TheVariants.{Internal, External}
 use Rattle.model_line.specs.{declared.line.Line.Line, declared.script.Script.Script}
 use Rattle.model_line.specs.{declared.script.Kind.Kind, Parameters.terminal_count}
+use Rattle.model_line.specs.Asks.{obligation_of, AllEndInRun}
+use Rattle.model_line.specs.declared.asks.Obligation.{Obligation}
 use Rattle.model_logic.specs.Choice.{Choice, Box, IsWithin, DelaysFromOne, LeastFromOne}
 use Rattle.model_logic.specs.Histories.{PairHistory, IsPairHistory, CoversHistory, IsSoundHistory}
-use Rattle.model_logic.specs.Rule.{Broken, IsHeld, IsBroken, rule_of}
+use Rattle.model_logic.specs.Rule.{Broken, HeldBy, BrokenBy, IsBroken, rule_of}
 use Rattle.model_logic.proofs.HistoryLaws.{history_exists}
 use Rattle.model_logic.proofs.BoxLaws.{box_covers_choice}
 use Rattle.model_logic.proofs.RuleLaws.{rule_broken, broken_rule}
@@ -38,22 +40,25 @@ module _ (laws : HistoryLaws) where
       }
 
   -- over pairs of which what must be may be, what is broken is not held
-  never_both : (kind : Kind) (deadline horizon : ℕ) (trip : ℕ → Rails) → deadline < horizon
-      → ((t : ℕ) → t < horizon → IsSound (trip t)) → IsBroken kind deadline horizon trip
-      → IsHeld kind deadline horizon trip → ⊥
-  never_both Internal deadline horizon trip early sound broken held =
+  never_both : (kind : Kind) (deadline end horizon : ℕ) (trip : ℕ → Rails) → deadline < horizon
+      → end ≤ horizon → ((t : ℕ) → t < horizon → IsSound (trip t))
+      → BrokenBy kind deadline end trip → HeldBy kind deadline end trip → ⊥
+  never_both Internal deadline end horizon trip early last sound broken held =
       let le : held.0 ≤ deadline = held.1 in
       not_both (trip held.0).may (broken held.0 held.1) (sound held.0 (omega arith) held.2)
-  never_both External deadline horizon trip early sound broken held =
-      not_both (trip broken.0).may (held broken.0 broken.1) (sound broken.0 broken.1 broken.2)
+  never_both External deadline end horizon trip early last sound broken held =
+      let lt : broken.0 < end = broken.1 in
+      not_both (trip broken.0).may (held broken.0 broken.1)
+      (sound broken.0 (omega arith) broken.2)
 
   pub sound_broken : (line : Line) (script : Script) (w : PairHistory) (k : ℕ)
-      → script.deadline < line.horizon → IsSoundHistory line w → k < terminal_count line
-      → (rule_of line script (w.trip k) ≡ Broken)
-      ↔ IsBroken script.kind script.deadline line.horizon (w.trip k)
-  sound_broken line script w k early sound kn = (
-    λ rule. (rule_broken laws script.kind script.deadline line.horizon (w.trip k) rule).0,
-    λ broken. broken_rule laws script.kind script.deadline line.horizon (w.trip k) broken
-        (never_both script.kind script.deadline line.horizon (w.trip k) early
-        (λ t lt. sound.trips k t kn lt) broken),
-  )
+      → AllEndInRun line.horizon script → IsSoundHistory line w → k < terminal_count line
+      → (rule_of line script k (w.trip k) ≡ Broken)
+      ↔ IsBroken (obligation_of line script k) (w.trip k)
+  sound_broken line script w k early sound kn =
+      let asked : Obligation = obligation_of line script k in (
+        λ rule. (rule_broken laws asked.kind asked.deadline asked.end (w.trip k) rule).0,
+        λ broken. broken_rule laws asked.kind asked.deadline asked.end (w.trip k) broken
+            (never_both asked.kind asked.deadline asked.end line.horizon (w.trip k)
+            (early.each k).deadline (early.each k).end (λ t lt. sound.trips k t kn lt) broken),
+      )

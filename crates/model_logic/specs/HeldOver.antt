@@ -8,4 +8,4 @@ use Rattle.model_logic.specs.Choice.{Box}
 -- the rule of a script at terminal k is held over the one interval history of this box
 pub record IsHeldOver (line : Line) (script : Script) (k : ℕ) (box : Box) : Type 0 where
   pub held : (w : PairHistory) → IsPairHistory line script box w
-      → rule_of line script (w.trip k) ≡ Held
+      → rule_of line script k (w.trip k) ≡ Held

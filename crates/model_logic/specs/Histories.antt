@@ -4,6 +4,7 @@ use Rattle.model_history.specs.Rails.{both, Covers, RailsCover, IsSound}
 use Rattle.model_line.specs.declared.script.Kind.TheVariants.{Internal, External}
 use Rattle.model_line.specs.{declared.line.Line.Line, declared.script.Kind.Kind}
 use Rattle.model_line.specs.{declared.script.Script.Script, Parameters.terminal_count}
+use Rattle.model_line.specs.{declared.asks.Obligation.Obligation, Asks.obligation_of}
 use Rattle.model_logic.specs.Mean.{Signals, mean}
 use Rattle.model_logic.specs.PairMean.{PairSignals, pair_mean}
 use Rattle.model_logic.specs.Choice.{Choice, Box, world_of, pair_world_of}
@@ -32,15 +33,18 @@ pub record IsSameHistory (line : Line) (g h : History) : Type 0 where
   pub keys : Everywhere line (λ k t. g.key k t ≡ h.key k t)
   pub trips : Everywhere line (λ k t. g.trip k t ≡ h.trip k t)
 
--- the obligation of a terminal is met. Internal fault: it trips at some tick up to the deadline.
--- External fault: it trips at no tick.
-abbrev pub MeetsBy : Kind → ℕ → ℕ → (ℕ → Bool) → Type 0
-MeetsBy Internal deadline horizon trip = (t : ℕ) × (t ≤ deadline) × IsTrue (trip t)
-MeetsBy External deadline horizon trip = (t : ℕ) → t < horizon → IsFalse (trip t)
+-- what is asked of a terminal is met. Internal: it trips at some tick up to the deadline. External: it
+-- trips at no tick before the end.
+abbrev pub MetBy : Kind → ℕ → ℕ → (ℕ → Bool) → Type 0
+MetBy Internal deadline end trip = (t : ℕ) × (t ≤ deadline) × IsTrue (trip t)
+MetBy External deadline end trip = (t : ℕ) → t < end → IsFalse (trip t)
 
--- the obligation of a script at terminal k is met by a history
+-- an obligation is met by a terminal's trip, and that of a script at terminal k by a history
+abbrev pub MeetsBy : Obligation → (ℕ → Bool) → Type 0
+MeetsBy asked trip = MetBy asked.kind asked.deadline asked.end trip
+
 abbrev pub Meets : Line → Script → ℕ → History → Type 0
-Meets line script k h = MeetsBy script.kind script.deadline line.horizon (h.trip k)
+Meets line script k h = MeetsBy (obligation_of line script k) (h.trip k)
 
 -- the pairs of what each terminal keys and of its trip, at each tick
 pub record PairHistory : Type 0 where

@@ -11,7 +11,7 @@ use Rattle.model_logic.specs.Rule.{Held, rule_of}
 use Rattle.model_logic.specs.HeldOver.{IsHeldOver}
 use Rattle.model_line.specs.Parameters.{terminal_count, param_count, is_delay}
 use Rattle.model_line.specs.{declared.line.Line.Line, declared.script.Script.Script}
-use Rattle.model_line.specs.{SetBounds.SameButParams, WithBounds.IsWithBounds}
+use Rattle.model_line.specs.{SetBounds.SameButParams, WithBounds.IsWithBounds, Asks.AllEndInRun}
 
 -- each terminal keys and trips on the same trees
 pub record TreesRestOnNoInterval : Type 0 where
@@ -70,11 +70,11 @@ pub record ABoxWithAnotherInterval : Type 0 where
 -- differs in its intervals alone; and every choice within meets the obligation
 pub record TheRuleOverABox : Type 0 where
   pub one : (line : Line) (script : Script) (k : ℕ) (box : Box) (w : PairHistory)
-      → script.deadline < line.horizon → LeastFromOne line box → k < terminal_count line
-      → IsPairHistory line script box w → rule_of line script (w.trip k) ≡ Held
+      → AllEndInRun line.horizon script → LeastFromOne line box → k < terminal_count line
+      → IsPairHistory line script box w → rule_of line script k (w.trip k) ≡ Held
       → IsHeldOver line script k box
   pub narrower : (line : Line) (script : Script) (k : ℕ) (inner outer : Box)
-      → script.deadline < line.horizon → LeastFromOne line outer → k < terminal_count line
+      → AllEndInRun line.horizon script → LeastFromOne line outer → k < terminal_count line
       → IsBoxWithin line inner outer → IsHeldOver line script k outer
       → IsHeldOver line script k inner
   pub same : (line : Line) (script : Script) (k : ℕ) (a b : Box) → IsSameBox line b a
@@ -82,6 +82,6 @@ pub record TheRuleOverABox : Type 0 where
   pub lines : (line other : Line) (script : Script) (k : ℕ) (box : Box)
       → SameButParams line other → IsHeldOver line script k box → IsHeldOver other script k box
   pub meets : (line : Line) (script : Script) (k : ℕ) (box : Box)
-      → script.deadline < line.horizon → LeastFromOne line box → k < terminal_count line
+      → AllEndInRun line.horizon script → LeastFromOne line box → k < terminal_count line
       → IsHeldOver line script k box → (choice : Choice) (h : History) → IsWithin line choice box
       → IsLineHistory line script choice h → Meets line script k h

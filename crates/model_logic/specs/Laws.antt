@@ -3,7 +3,9 @@
 use Rattle.std.specs.Prelude.{◌≡◌, ◌<◌, ◌↔◌, ℕ, Decides}
 use Rattle.model_history.specs.Rails.{Rails, Covers}
 use Rattle.model_line.specs.Laws.{ParametersAreNumbered, SettingsAreCounted, DelaysAreParameters}
-use Rattle.model_line.specs.Laws.{DeadlinesAreBelowTheHorizon}
+use Rattle.model_line.specs.Laws.{DeadlinesAreBelowTheHorizon, ObligationsEndInTheRun}
+use Rattle.model_line.specs.Laws.{AlikeIsWhatTheScriptSays}
+use Rattle.model_line.specs.Asks.{obligation_of, AllEndInRun}
 use Rattle.model_line.specs.{Parameters.terminal_count, Intervals.leasts}
 use Rattle.model_line.specs.{declared.line.Line.Line}
 use Rattle.model_line.specs.{declared.script.Kind.Kind, declared.script.Script.Script}
@@ -19,8 +21,8 @@ use Rattle.model_logic.specs.Histories.{AreCovered, must_history, with_derived_t
 use Rattle.model_logic.specs.Names.{Names, IsLocal}
 use Rattle.model_logic.specs.Mean.{Signals, mean}
 use Rattle.model_logic.specs.Logic.{key_tree, trip_tree}
-use Rattle.model_logic.specs.Rule.{Held, Broken, Unknown, IsHeld, IsBroken, is_held, is_broken}
-use Rattle.model_logic.specs.Rule.{rule_of}
+use Rattle.model_logic.specs.Rule.{Held, Broken, Unknown, HeldBy, BrokenBy, held_by, broken_by}
+use Rattle.model_logic.specs.Rule.{IsHeld, IsBroken, rule_of}
 use Rattle.model_logic.specs.Tree.{Tree}
 
 -- the logic of each line names only terminals, channels and parameters of the line
@@ -126,54 +128,54 @@ CoveredClaimsCover =
 
 -- the tests of a rule are what is held and what is broken
 pub record TheRuleIsTested : Type 0 where
-  pub held : (kind : Kind) (deadline horizon : ℕ) (trip : ℕ → Rails)
-      → Decides (is_held kind deadline horizon trip) (IsHeld kind deadline horizon trip)
-  pub broken : (kind : Kind) (deadline horizon : ℕ) (trip : ℕ → Rails)
-      → Decides (is_broken kind deadline horizon trip) (IsBroken kind deadline horizon trip)
+  pub held : (kind : Kind) (deadline end : ℕ) (trip : ℕ → Rails)
+      → Decides (held_by kind deadline end trip) (HeldBy kind deadline end trip)
+  pub broken : (kind : Kind) (deadline end : ℕ) (trip : ℕ → Rails)
+      → Decides (broken_by kind deadline end trip) (BrokenBy kind deadline end trip)
 
 -- the rule of an obligation is held exactly where it is held, broken exactly where it is broken
 -- and not held, and unknown exactly where it is neither
 pub record TheRuleIsExact : Type 0 where
-  pub held : (line : Line) (script : Script) (trip : ℕ → Rails)
-      → (rule_of line script trip ≡ Held) ↔ IsHeld script.kind script.deadline line.horizon trip
-  pub broken : (line : Line) (script : Script) (trip : ℕ → Rails)
-      → (rule_of line script trip ≡ Broken)
-      ↔ (IsBroken script.kind script.deadline line.horizon trip
-      × (¬ (IsHeld script.kind script.deadline line.horizon trip)))
-  pub unknown : (line : Line) (script : Script) (trip : ℕ → Rails)
-      → (rule_of line script trip ≡ Unknown)
-      ↔ ((¬ (IsHeld script.kind script.deadline line.horizon trip))
-      × (¬ (IsBroken script.kind script.deadline line.horizon trip)))
+  pub held : (line : Line) (script : Script) (k : ℕ) (trip : ℕ → Rails)
+      → (rule_of line script k trip ≡ Held) ↔ IsHeld (obligation_of line script k) trip
+  pub broken : (line : Line) (script : Script) (k : ℕ) (trip : ℕ → Rails)
+      → (rule_of line script k trip ≡ Broken)
+      ↔ (IsBroken (obligation_of line script k) trip
+      × (¬ (IsHeld (obligation_of line script k) trip)))
+  pub unknown : (line : Line) (script : Script) (k : ℕ) (trip : ℕ → Rails)
+      → (rule_of line script k trip ≡ Unknown)
+      ↔ ((¬ (IsHeld (obligation_of line script k) trip))
+      × (¬ (IsBroken (obligation_of line script k) trip)))
 
 -- where what must be may be, as in an interval history, what is broken is never held: the rule is
 -- broken exactly where it is broken
 abbrev pub ASoundRuleIsBrokenWhereItIsBroken : Type 0
 ASoundRuleIsBrokenWhereItIsBroken = (line : Line) (script : Script) (w : PairHistory) (k : ℕ)
-    → script.deadline < line.horizon → IsSoundHistory line w → k < terminal_count line
-    → (rule_of line script (w.trip k) ≡ Broken)
-    ↔ IsBroken script.kind script.deadline line.horizon (w.trip k)
+    → AllEndInRun line.horizon script → IsSoundHistory line w → k < terminal_count line
+    → (rule_of line script k (w.trip k) ≡ Broken)
+    ↔ IsBroken (obligation_of line script k) (w.trip k)
 
 -- where pairs cover a history, a rule that is held says that the obligation is met, and one that
 -- is broken that it is not
 pub record TheRuleSpeaksForWhatIsCovered : Type 0 where
   pub held : (line : Line) (script : Script) (w : PairHistory) (h : History) (k : ℕ)
-      → script.deadline < line.horizon → CoversHistory line w h → k < terminal_count line
-      → rule_of line script (w.trip k) ≡ Held → Meets line script k h
+      → AllEndInRun line.horizon script → CoversHistory line w h → k < terminal_count line
+      → rule_of line script k (w.trip k) ≡ Held → Meets line script k h
   pub broken : (line : Line) (script : Script) (w : PairHistory) (h : History) (k : ℕ)
-      → script.deadline < line.horizon → CoversHistory line w h → k < terminal_count line
-      → rule_of line script (w.trip k) ≡ Broken → ¬ (Meets line script k h)
+      → AllEndInRun line.horizon script → CoversHistory line w h → k < terminal_count line
+      → rule_of line script k (w.trip k) ≡ Broken → ¬ (Meets line script k h)
 
 -- over a box a rule that is held says that every choice within meets the obligation, and one that
 -- is broken that every choice within fails it
 pub record TheRuleSpeaksForEveryChoice : Type 0 where
   pub held : (line : Line) (script : Script) (box : Box) (w : PairHistory) (k : ℕ)
-      → script.deadline < line.horizon → LeastFromOne line box → IsPairHistory line script box w
-      → k < terminal_count line → rule_of line script (w.trip k) ≡ Held
+      → AllEndInRun line.horizon script → LeastFromOne line box → IsPairHistory line script box w
+      → k < terminal_count line → rule_of line script k (w.trip k) ≡ Held
       → (choice : Choice) (h : History) → IsWithin line choice box
       → IsLineHistory line script choice h → Meets line script k h
   pub broken : (line : Line) (script : Script) (box : Box) (w : PairHistory) (k : ℕ)
-      → script.deadline < line.horizon → LeastFromOne line box → IsPairHistory line script box w
-      → k < terminal_count line → rule_of line script (w.trip k) ≡ Broken
+      → AllEndInRun line.horizon script → LeastFromOne line box → IsPairHistory line script box w
+      → k < terminal_count line → rule_of line script k (w.trip k) ≡ Broken
       → (choice : Choice) (h : History) → IsWithin line choice box
       → IsLineHistory line script choice h → ¬ (Meets line script k h)
 
@@ -194,6 +196,8 @@ pub record LineLaws : Type 0 where
   pub sound : IntervalHistoriesAreSound
   pub claims : CoveredClaimsCover
   pub deadlines : DeadlinesAreBelowTheHorizon
+  pub ends : ObligationsEndInTheRun
+  pub alike : AlikeIsWhatTheScriptSays
   pub rule_tests : TheRuleIsTested
   pub rule : TheRuleIsExact
   pub sound_rule : ASoundRuleIsBrokenWhereItIsBroken

@@ -4,6 +4,7 @@ use Rattle.model_history.specs.{Rails.Rails, Elements.some_below}
 use Rattle.model_line.specs.declared.script.Kind.TheVariants.{Internal, External}
 use Rattle.model_line.specs.declared.script.Script.{Script}
 use Rattle.model_line.specs.{declared.line.Line.Line, declared.script.Kind.Kind}
+use Rattle.model_line.specs.{declared.asks.Obligation.Obligation, Asks.obligation_over}
 
 pub data Rule : Type 0 where
   Held : Rule
@@ -11,32 +12,52 @@ pub data Rule : Type 0 where
   Unknown : Rule
 
 -- held. Internal: the must trip is true at some tick up to the deadline. External: the may trip is
--- true at no tick.
-abbrev pub IsHeld : Kind → ℕ → ℕ → (ℕ → Rails) → Type 0
-IsHeld Internal deadline horizon trip = (t : ℕ) × (t ≤ deadline) × IsTrue (trip t).must
-IsHeld External deadline horizon trip = (t : ℕ) → t < horizon → IsFalse (trip t).may
+-- true at no tick before the end.
+abbrev pub HeldBy : Kind → ℕ → ℕ → (ℕ → Rails) → Type 0
+HeldBy Internal deadline end trip = (t : ℕ) × (t ≤ deadline) × IsTrue (trip t).must
+HeldBy External deadline end trip = (t : ℕ) → t < end → IsFalse (trip t).may
 
 -- broken. Internal: the may trip is true at no tick up to the deadline. External: the must trip is
--- true at some tick.
-abbrev pub IsBroken : Kind → ℕ → ℕ → (ℕ → Rails) → Type 0
-IsBroken Internal deadline horizon trip = (t : ℕ) → t ≤ deadline → IsFalse (trip t).may
-IsBroken External deadline horizon trip = (t : ℕ) × (t < horizon) × IsTrue (trip t).must
+-- true at some tick before the end.
+abbrev pub BrokenBy : Kind → ℕ → ℕ → (ℕ → Rails) → Type 0
+BrokenBy Internal deadline end trip = (t : ℕ) → t ≤ deadline → IsFalse (trip t).may
+BrokenBy External deadline end trip = (t : ℕ) × (t < end) × IsTrue (trip t).must
 
 -- whether it is held, and whether it is broken
-abbrev pub is_held : Kind → ℕ → ℕ → (ℕ → Rails) → Bool
-is_held Internal deadline horizon trip = some_below (λ t. (trip t).must) (suc deadline)
-is_held External deadline horizon trip = not (some_below (λ t. (trip t).may) horizon)
+abbrev pub held_by : Kind → ℕ → ℕ → (ℕ → Rails) → Bool
+held_by Internal deadline end trip = some_below (λ t. (trip t).must) (suc deadline)
+held_by External deadline end trip = not (some_below (λ t. (trip t).may) end)
 
-abbrev pub is_broken : Kind → ℕ → ℕ → (ℕ → Rails) → Bool
-is_broken Internal deadline horizon trip = not (some_below (λ t. (trip t).may) (suc deadline))
-is_broken External deadline horizon trip = some_below (λ t. (trip t).must) horizon
+abbrev pub broken_by : Kind → ℕ → ℕ → (ℕ → Rails) → Bool
+broken_by Internal deadline end trip = not (some_below (λ t. (trip t).may) (suc deadline))
+broken_by External deadline end trip = some_below (λ t. (trip t).must) end
 
 -- unknown where it is neither
 unfoldable pub rule_by : Kind → ℕ → ℕ → (ℕ → Rails) → Rule
-rule_by kind deadline horizon trip =
-    if is_held kind deadline horizon trip then Held
-    else (if is_broken kind deadline horizon trip then Broken else Unknown)
+rule_by kind deadline end trip =
+    if held_by kind deadline end trip then Held
+    else (if broken_by kind deadline end trip then Broken else Unknown)
 
--- the rule of a script's obligation at a terminal whose trip has these pairs
-abbrev pub rule_of : Line → Script → (ℕ → Rails) → Rule
-rule_of line script trip = rule_by script.kind script.deadline line.horizon trip
+-- the same of an obligation
+abbrev pub IsHeld : Obligation → (ℕ → Rails) → Type 0
+IsHeld asked trip = HeldBy asked.kind asked.deadline asked.end trip
+
+abbrev pub IsBroken : Obligation → (ℕ → Rails) → Type 0
+IsBroken asked trip = BrokenBy asked.kind asked.deadline asked.end trip
+
+abbrev pub is_held : Obligation → (ℕ → Rails) → Bool
+is_held asked trip = held_by asked.kind asked.deadline asked.end trip
+
+abbrev pub is_broken : Obligation → (ℕ → Rails) → Bool
+is_broken asked trip = broken_by asked.kind asked.deadline asked.end trip
+
+abbrev pub rule_for : Obligation → (ℕ → Rails) → Rule
+rule_for asked trip = rule_by asked.kind asked.deadline asked.end trip
+
+-- the rule of a script's obligation at terminal k, whose trip has these pairs, in a run to the horizon
+-- and in one of the line
+abbrev pub rule_over : ℕ → Script → ℕ → (ℕ → Rails) → Rule
+rule_over horizon script k trip = rule_for (obligation_over horizon script k) trip
+
+abbrev pub rule_of : Line → Script → ℕ → (ℕ → Rails) → Rule
+rule_of line script k trip = rule_over line.horizon script k trip

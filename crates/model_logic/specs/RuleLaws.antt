@@ -5,35 +5,48 @@ use Rattle.model_history.specs.Rails.{Rails}
 use Rattle.model_line.specs.declared.script.Kind.TheVariants.{Internal, External}
 use Rattle.model_line.specs.{declared.script.Kind.Kind, Parameters.terminal_count}
 use Rattle.model_line.specs.{declared.line.Line.Line, declared.script.Script.Script}
-use Rattle.model_logic.specs.Histories.{History, IsSameHistory, Meets, MeetsBy}
-use Rattle.model_logic.specs.Rule.{Rule, Held, Broken, Unknown, IsHeld}
+use Rattle.model_line.specs.Asks.{obligation_of, EndsInRun, AllEndInRun}
+use Rattle.model_line.specs.declared.asks.Obligation.{Obligation}
+use Rattle.model_logic.specs.Histories.{History, IsSameHistory, Meets, MeetsBy, MetBy}
+use Rattle.model_logic.specs.Rule.{Rule, Held, Broken, Unknown, HeldBy, IsHeld}
 
 -- trips that are the same at the ticks of the run meet the same obligations
-pub meets_same : (kind : Kind) (deadline horizon : ℕ) (f g : ℕ → Bool) → deadline < horizon
-    → ((t : ℕ) → t < horizon → f t ≡ g t) → MeetsBy kind deadline horizon f
-    → MeetsBy kind deadline horizon g
-meets_same Internal deadline horizon f g early same met =
+same_met : (kind : Kind) (deadline end horizon : ℕ) (f g : ℕ → Bool) → deadline < horizon
+    → end ≤ horizon → ((t : ℕ) → t < horizon → f t ≡ g t) → MetBy kind deadline end f
+    → MetBy kind deadline end g
+same_met Internal deadline end horizon f g early last same met =
     let le : met.0 ≤ deadline = met.1 in
     (met.0, met.1, sym (same met.0 (omega arith)) ∙ met.2)
-meets_same External deadline horizon f g early same met = λ t lt. sym (same t lt) ∙ met t lt
+same_met External deadline end horizon f g early last same met =
+    λ t lt. sym (same t (omega arith)) ∙ met t lt
+
+pub meets_same : (asked : Obligation) (horizon : ℕ) (f g : ℕ → Bool) → EndsInRun horizon asked
+    → ((t : ℕ) → t < horizon → f t ≡ g t) → MeetsBy asked f → MeetsBy asked g
+meets_same asked horizon f g ends same met =
+    same_met asked.kind asked.deadline asked.end horizon f g ends.deadline ends.end same met
 
 -- and so do histories that are the same
 pub same_meets : (line : Line) (script : Script) (k : ℕ) (g h : History)
-    → script.deadline < line.horizon → k < terminal_count line → IsSameHistory line g h
+    → AllEndInRun line.horizon script → k < terminal_count line → IsSameHistory line g h
     → Meets line script k g → Meets line script k h
 same_meets line script k g h early there same met =
-    meets_same script.kind script.deadline line.horizon (g.trip k) (h.trip k) early
+    meets_same (obligation_of line script k) line.horizon (g.trip k) (h.trip k) (early.each k)
     (λ t lt. same.trips k t there lt) met
 
 -- pairs that are the same at the ticks of the run hold the same obligations
-pub held_same : (kind : Kind) (deadline horizon : ℕ) (u v : ℕ → Rails) → deadline < horizon
-    → ((t : ℕ) → t < horizon → u t ≡ v t) → IsHeld kind deadline horizon u
-    → IsHeld kind deadline horizon v
-held_same Internal deadline horizon u v early same held =
+same_held : (kind : Kind) (deadline end horizon : ℕ) (u v : ℕ → Rails) → deadline < horizon
+    → end ≤ horizon → ((t : ℕ) → t < horizon → u t ≡ v t) → HeldBy kind deadline end u
+    → HeldBy kind deadline end v
+same_held Internal deadline end horizon u v early last same held =
     let le : held.0 ≤ deadline = held.1 in
     (held.0, held.1, subst (λ (x : Rails). IsTrue x.must) (same held.0 (omega arith)) held.2)
-held_same External deadline horizon u v early same held =
-    λ t lt. subst (λ (x : Rails). IsFalse x.may) (same t lt) (held t lt)
+same_held External deadline end horizon u v early last same held =
+    λ t lt. subst (λ (x : Rails). IsFalse x.may) (same t (omega arith)) (held t lt)
+
+pub held_same : (asked : Obligation) (horizon : ℕ) (u v : ℕ → Rails) → EndsInRun horizon asked
+    → ((t : ℕ) → t < horizon → u t ≡ v t) → IsHeld asked u → IsHeld asked v
+held_same asked horizon u v ends same held =
+    same_held asked.kind asked.deadline asked.end horizon u v ends.deadline ends.end same held
 
 -- a rule is held or not, and unknown where it is neither of the others
 pub rule_told : (rule : Rule) → (rule ≡ Held) ⊎ (¬ (rule ≡ Held))

@@ -4,7 +4,7 @@
 ghost use Rattle.std.specs.Prelude.{◌≡◌, ◌<◌, ℕ};
 ghost use Rattle.model_line.specs.{Parameters.terminal_count, declared.line.Line.Line};
 ghost use Rattle.model_line.specs.{declared.script.Script.Script, Fits.Fits};
-ghost use Rattle.model_line.specs.SetBounds.{SameButParams};
+ghost use Rattle.model_line.specs.{SetBounds.SameButParams, Asks.AllEndInRun};
 ghost use Rattle.model_logic.specs.Choice.{Box, IsBoxWithin, LeastFromOne, declared_box};
 ghost use Rattle.model_logic.specs.Histories.{PairHistory, IsPairHistory};
 ghost use Rattle.model_logic.specs.IntervalLaws.{TreesRestOnNoInterval, HistoriesRestOnNoInterval};
@@ -52,10 +52,10 @@ pub fn a_box_with_another_interval()
 /// A rule that is held over a box is held over each narrower box.
 pub fn what_is_held_is_held_over_a_narrower_box()
     ensures { (line : Line) (script : Script) (inner outer : Box) (narrow wide : PairHistory)
-        (k : ℕ) → script.deadline < line.horizon → LeastFromOne line outer →
+        (k : ℕ) → AllEndInRun line.horizon script → LeastFromOne line outer →
         IsBoxWithin line inner outer → IsPairHistory line script inner narrow →
         IsPairHistory line script outer wide → k < terminal_count line →
-        rule_of line script (wide.trip k) ≡ Held → rule_of line script (narrow.trip k) ≡ Held }
+        rule_of line script k (wide.trip k) ≡ Held → rule_of line script k (narrow.trip k) ≡ Held }
 {
     history_laws();
 }
@@ -73,7 +73,7 @@ pub fn the_rule_over_a_box()
 /// the first is held over those of the second where these are part of them.
 pub fn what_is_held_is_held_of_narrower_lines()
     ensures { (line other : Line) (script : Script) (k : ℕ) →
-        script.deadline < line.horizon → k < terminal_count line → SameButParams line other →
+        AllEndInRun line.horizon script → k < terminal_count line → SameButParams line other →
         IsBoxWithin line (declared_box other) (declared_box line) →
         IsHeldOver line script k (declared_box line) →
         IsHeldOver other script k (declared_box other) }

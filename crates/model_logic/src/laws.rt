@@ -12,8 +12,8 @@ ghost use Rattle.model_logic.specs.Laws.{TheRuleSpeaksForEveryChoice, LineLaws};
 
 use model_history::laws::history_laws;
 use model_line::laws::{
-    deadlines_are_below_the_horizon, delays_are_parameters, parameters_are_numbered,
-    settings_are_counted,
+    alike_is_what_the_script_says, deadlines_are_below_the_horizon, delays_are_parameters,
+    obligations_end_in_the_run, parameters_are_numbered, settings_are_counted,
 };
 
 /// The logic of each line names only terminals, channels and parameters of the line.
@@ -151,6 +151,8 @@ pub fn line_laws()
     interval_histories_are_sound();
     covered_claims_cover();
     deadlines_are_below_the_horizon();
+    obligations_end_in_the_run();
+    alike_is_what_the_script_says();
     the_rule_is_tested();
     the_rule_is_exact();
     a_sound_rule_is_broken_where_it_is_broken();
