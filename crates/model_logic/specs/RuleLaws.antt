@@ -5,10 +5,10 @@ use Rattle.model_history.specs.Rails.{Rails}
 use Rattle.model_line.specs.declared.script.Kind.TheVariants.{Internal, External}
 use Rattle.model_line.specs.{declared.script.Kind.Kind, Parameters.terminal_count}
 use Rattle.model_line.specs.{declared.line.Line.Line, declared.script.Script.Script}
-use Rattle.model_line.specs.Asks.{obligation_of, EndsInRun, AllEndInRun}
+use Rattle.model_line.specs.Asks.{obligation_of, EndsInRun, AllEndInRun, AsksNothing}
 use Rattle.model_line.specs.declared.asks.Obligation.{Obligation}
 use Rattle.model_logic.specs.Histories.{History, IsSameHistory, Meets, MeetsBy, MetBy}
-use Rattle.model_logic.specs.Rule.{Rule, Held, Broken, Unknown, HeldBy, IsHeld}
+use Rattle.model_logic.specs.Rule.{Rule, Held, Broken, Unknown, HeldBy, BrokenBy, IsHeld, IsBroken}
 
 -- trips that are the same at the ticks of the run meet the same obligations
 same_met : (kind : Kind) (deadline end horizon : ℕ) (f g : ℕ → Bool) → deadline < horizon
@@ -47,6 +47,36 @@ pub held_same : (asked : Obligation) (horizon : ℕ) (u v : ℕ → Rails) → E
     → ((t : ℕ) → t < horizon → u t ≡ v t) → IsHeld asked u → IsHeld asked v
 held_same asked horizon u v ends same held =
     same_held asked.kind asked.deadline asked.end horizon u v ends.deadline ends.end same held
+
+-- where nothing is asked it is met, held and never broken
+none_met : (kind : Kind) (deadline end : ℕ) (f : ℕ → Bool) → kind ≡ External → end ≡ 0
+    → MetBy kind deadline end f
+none_met Internal deadline end f is none = absurd (cc)
+none_met External deadline end f is none = λ t lt. absurd (omega arith)
+
+none_held : (kind : Kind) (deadline end : ℕ) (u : ℕ → Rails) → kind ≡ External → end ≡ 0
+    → HeldBy kind deadline end u
+none_held Internal deadline end u is none = absurd (cc)
+none_held External deadline end u is none = λ t lt. absurd (omega arith)
+
+none_broken : (kind : Kind) (deadline end : ℕ) (u : ℕ → Rails) → kind ≡ External → end ≡ 0
+    → BrokenBy kind deadline end u → ⊥
+none_broken Internal deadline end u is none broken = absurd (cc)
+none_broken External deadline end u is none broken =
+    let lt : broken.0 < end = broken.1 in absurd (omega arith)
+
+pub nothing_met : (asked : Obligation) → AsksNothing asked → (f : ℕ → Bool) → MeetsBy asked f
+nothing_met asked nothing f =
+    none_met asked.kind asked.deadline asked.end f nothing.kind nothing.end
+
+pub nothing_held : (asked : Obligation) → AsksNothing asked → (u : ℕ → Rails) → IsHeld asked u
+nothing_held asked nothing u =
+    none_held asked.kind asked.deadline asked.end u nothing.kind nothing.end
+
+pub nothing_broken : (asked : Obligation) → AsksNothing asked → (u : ℕ → Rails)
+    → IsBroken asked u → ⊥
+nothing_broken asked nothing u broken =
+    none_broken asked.kind asked.deadline asked.end u nothing.kind nothing.end broken
 
 -- a rule is held or not, and unknown where it is neither of the others
 pub rule_told : (rule : Rule) → (rule ≡ Held) ⊎ (¬ (rule ≡ Held))

@@ -1,8 +1,8 @@
 -- Over worse numbers each tree is worse on the rail that reads it.
 use Rattle.std.proofs.Common.{◌≡◌, ◌&&◌, ◌||◌, ℕ, zero, suc, ◌<◌, ◌≤◌, ◌-◌, Bool, true, false, not}
-use Rattle.std.proofs.Common.{refl, sym, ap, subst, arith, ⊎_elim}
+use Rattle.std.proofs.Common.{refl, sym, ap, subst, arith, ⊎_elim, inl, inr}
 use Rattle.std.proofs.lemmas.Bool.{cases_lt, both_ways, false_from_ne_true}
-use Rattle.std.specs.Prelude.{IsTrue}
+use Rattle.std.specs.Prelude.{◌⊎◌, IsTrue}
 use Rattle.model_history.specs.{Laws.HistoryLaws, Elements.timed, Elements.sealed, Elements.delayed}
 use Rattle.model_history.specs.Comes.{Comes}
 use Rattle.model_history.specs.TruthLaws.{and_both, or_both}
@@ -10,7 +10,10 @@ use Rattle.model_logic.specs.Tree.{Tree, Const, Seen, Loss, Raw, Not, And, Or, T
 use Rattle.model_logic.specs.declared.time.Time.TheVariants.{Zero, Param}
 use Rattle.model_logic.specs.Names.{Names, HasTime}
 use Rattle.model_logic.specs.Choice.{Choice, DelaysFromOne, world_of, time_by}
-use Rattle.model_logic.specs.Histories.{History, IsLineHistory, MeetsBy, Meets}
+use Rattle.model_logic.specs.Histories.{History, IsLineHistory, MeetsBy, MetBy, Meets}
+use Rattle.model_logic.specs.RuleLaws.{nothing_met}
+use Rattle.model_line.specs.{declared.asks.Obligation.Obligation, AskLaws.asked_kind}
+use Rattle.model_line.specs.Asks.{obligation_of, EndsInRun, AllEndInRun, AsksNothing}
 use Rattle.model_logic.specs.Mean.{Signals, mean}
 use Rattle.model_logic.specs.Logic.{key_tree, trip_tree}
 use Rattle.model_logic.specs.{declared.time.Time.Time, Laws.LineLaws}
@@ -177,23 +180,34 @@ module _ (laws : HistoryLaws) where
           (λ j r jn lt in_cone q may. keys_lead line.horizon (omega arith) j r jn (omega arith) in_cone q
           may)))
 
-met_back : (kind : Kind) (deadline horizon : ℕ) (g h : ℕ → Bool) → deadline < horizon
-    → ((t : ℕ) → t < horizon → Leads (deciding kind) (g t) (h t))
-    → MeetsBy kind deadline horizon h → MeetsBy kind deadline horizon g
-met_back Internal deadline horizon g h early leads met =
+met_back : (kind : Kind) (deadline end horizon : ℕ) (g h : ℕ → Bool) → deadline < horizon
+    → end ≤ horizon → ((t : ℕ) → t < horizon → Leads (deciding kind) (g t) (h t))
+    → MetBy kind deadline end h → MetBy kind deadline end g
+met_back Internal deadline end horizon g h early last leads met =
     let le : met.0 ≤ deadline = met.1 in (met.0, met.1, leads met.0 (omega arith) met.2)
-met_back External deadline horizon g h early leads met = λ t lt.
-    false_from_ne_true (g t) (λ on. both_ways (h t) (met t lt) (leads t lt on))
+met_back External deadline end horizon g h early last leads met = λ t lt.
+    false_from_ne_true (g t) (λ on. both_ways (h t) (met t lt) (leads t (omega arith) on))
+
+-- the obligation is of the kind whose rail leads, or asks nothing
+meets_back : (kind : Kind) (asked : Obligation) (horizon : ℕ) (g h : ℕ → Bool)
+    → EndsInRun horizon asked → (asked.kind ≡ kind) ⊎ AsksNothing asked
+    → ((t : ℕ) → t < horizon → Leads (deciding kind) (g t) (h t)) → MeetsBy asked h
+    → MeetsBy asked g
+meets_back kind asked horizon g h ends (inl of_kind) leads met =
+    met_back asked.kind asked.deadline asked.end horizon g h ends.deadline ends.end
+    (λ t lt. subst (λ (x : Kind). Leads (deciding x) (g t) (h t)) (sym of_kind) (leads t lt)) met
+meets_back kind asked horizon g h ends (inr nothing) leads met = nothing_met asked nothing g
 
 pub worse_meets_less : HistoryLaws → LineLaws → (line : Line) (script : Script) (cone : ℕ → Bool)
     (sides : Sides) (f : Freedom) (k : ℕ) (a b : Choice) (g h : History)
-    → script.deadline < line.horizon → DelaysFromOne line a → IsMixed line cone sides f
+    → AllEndInRun line.horizon script → DelaysFromOne line a → IsMixed line cone sides f
     → k < terminal_count line
     → IsReadWith (from_of line.channels.items) cone sides f (deciding script.kind)
     (trip_tree line k)
     → IsWorse line sides f a b → IsLineHistory line script a g → IsLineHistory line script b h
     → Meets line script k h → Meets line script k g
 worse_meets_less laws line_laws line script cone sides f k a b g h early d mixed kn read worse is_g is_h =
-    met_back script.kind script.deadline line.horizon (g.trip k) (h.trip k) early
+    meets_back script.kind (obligation_of line script k) line.horizon (g.trip k) (h.trip k)
+    (early.each k) (asked_kind line.horizon script k)
     (λ t lt. trip_leads laws line script cone sides f a b d worse line_laws mixed g h is_g is_h
     (deciding script.kind) k t kn lt read)

@@ -1,7 +1,7 @@
 -- Over keys that are the rails of pairs, in a world that is the worst for these, the value of a tree
 -- that is read on a rail is that rail of the tree's pair.
 use Rattle.std.proofs.Common.{◌≡◌, ◌&&◌, ◌||◌, ℕ, ◌<◌, ◌≤◌, Bool, not, refl, ◌∙◌}
-use Rattle.std.proofs.Common.{ap, arith, ⊎_elim, inr}
+use Rattle.std.proofs.Common.{ap, arith, ⊎_elim}
 use Rattle.std.specs.Prelude.{◌⊎◌, IsTrue}
 use Rattle.std.specs.Cmp.{both_ways}
 use Rattle.model_history.specs.{Laws.HistoryLaws, Elements.timed, Elements.sealed, Elements.delayed}
@@ -17,7 +17,7 @@ use Rattle.model_line.specs.Parameters.{terminal_count, channel_count}
 use Rattle.model_line.specs.{declared.line.Line.Line, declared.script.Place.Place}
 use Rattle.model_settle.specs.Sides.{Rail, Must, May, turned, value_on, End, number_at}
 use Rattle.model_settle.specs.Sides.{pickup_end}
-use Rattle.model_settle.specs.Sides.{dropout_end, Sides, IsTakenAt, IsReadOn}
+use Rattle.model_settle.specs.Sides.{dropout_end, Sides, IsTakenAt}
 use Rattle.model_settle.specs.Known.{IsKnown, IsReadOver}
 
 -- ---- a rail of each operation

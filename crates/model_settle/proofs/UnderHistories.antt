@@ -23,6 +23,7 @@ use Rattle.model_settle.specs.CaseTrees.{IsShownUnder}
 use Rattle.model_settle.proofs.UnderPast.{pair_under-past, pair_under-nothing, solution_once}
 use Rattle.model_settle.proofs.UnderPast.{keys_under, keys_under-solve}
 use Rattle.model_settle.proofs.WantedNamed.{wanted_named}
+use Rattle.model_line.specs.Asks.{AllEndInRun, obligation_of}
 
 module _ (laws : HistoryLaws) (names : TreesNameTheLine) (line : Line) (script : Script) (box : Box)
     (assumed : List Assumption) (d : LeastFromOne line box) where
@@ -90,10 +91,10 @@ module _ (laws : HistoryLaws) (names : TreesNameTheLine) (line : Line) (script :
 
 -- what is shown over one interval history is shown over each
 pub shown_of : HistoryLaws → LineLaws → (line : Line) (script : Script) (k : ℕ) (box : Box)
-    (assumed : List Assumption) (w : PairHistory) → script.deadline < line.horizon
+    (assumed : List Assumption) (w : PairHistory) → AllEndInRun line.horizon script
     → LeastFromOne line box → k < terminal_count line
     → IsPairHistoryUnder line script box assumed w
-    → (rule_of line script (w.trip k) ≡ Held) ⊎ SomeIsExcluded line script box assumed w
+    → (rule_of line script k (w.trip k) ≡ Held) ⊎ SomeIsExcluded line script box assumed w
     → IsShownUnder line script k box assumed
 shown_of laws line_laws line script k box assumed w early d kn is_w said = record {
   shown = λ v is_v.
@@ -101,9 +102,9 @@ shown_of laws line_laws line script k box assumed w early d kn is_w said = recor
       (λ held.
       let same : IsSamePairHistory line w v =
       under_once laws line_laws.trees line script box assumed d w v is_w is_v in
-      inl ((line_laws.rule.held line script (v.trip k)).1
-      (held_same script.kind script.deadline line.horizon (w.trip k) (v.trip k) early
-      (λ t lt. same.trips k t kn lt) ((line_laws.rule.held line script (w.trip k)).0 held))))
+      inl ((line_laws.rule.held line script k (v.trip k)).1
+      (held_same (obligation_of line script k) line.horizon (w.trip k) (v.trip k) (early.each k)
+      (λ t lt. same.trips k t kn lt) ((line_laws.rule.held line script k (w.trip k)).0 held))))
       (λ excluded.
       inr (same_excluded laws line_laws.trees line script box assumed d w v is_w is_v excluded))
       said;

@@ -18,7 +18,7 @@ use Rattle.model_logic.specs.Choice.{Box, pair_world_of}
 use Rattle.model_logic.specs.{Boxes.IsSameBox, Covering.IsSameWorld, Names.Names, Names.HasTime}
 use Rattle.model_logic.specs.{Histories.PairHistory, IntervalLaws.TreesRestOnNoInterval}
 use Rattle.model_logic.specs.Logic.{key_tree, trip_tree}
-use Rattle.model_logic.specs.{Laws.TreesNameTheLine, Rule.rule_by}
+use Rattle.model_logic.specs.{Laws.TreesNameTheLine}
 use Rattle.model_logic.specs.BoxLaws.{turned, same_world}
 use Rattle.model_settle.specs.Assumed.{Assumption, wanted, assumed_level}
 use Rattle.model_settle.specs.Under.{assumed_or, pair_under, own_pair, IsPairHistoryUnder}
@@ -26,6 +26,7 @@ use Rattle.model_settle.specs.Under.{SomeIsExcluded}
 use Rattle.model_settle.specs.CaseTrees.{IsShownUnder}
 use Rattle.model_settle.proofs.WantedNamed.{wanted_named}
 use Rattle.model_settle.proofs.WantedSame.{wanted_same, level_same, level_same_box}
+use Rattle.model_logic.specs.Rule.{rule_over}
 
 module _ (laws : HistoryLaws) (line : Line) (level other : Tree → ℕ → Option Bool)
     (told : (x : Tree) (t : ℕ) → Names line x → level x t ≡ other x t) (w v : PairWorld)
@@ -197,7 +198,7 @@ pub shown_same_line : HistoryLaws → TreesNameTheLine → TreesRestOnNoInterval
 shown_same_line laws names trees line other script k box assumed same shown = record {
   shown = λ w is_w.
       ⊎_elim
-      (λ held. inl (ap (λ (n : ℕ). rule_by script.kind script.deadline n (w.trip k)) same.horizon
+      (λ held. inl (ap (λ (n : ℕ). rule_over n script k (w.trip k)) same.horizon
       ∙ held))
       (λ x. inr (excluded_same_line laws names trees line other same script box assumed w x))
       (shown.shown w (under_same_line laws names trees other line (exchanged line other same) script

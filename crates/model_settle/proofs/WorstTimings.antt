@@ -14,6 +14,7 @@ use Rattle.model_settle.proofs.WorstHistories.{choice_within}
 use Rattle.model_settle.proofs.WorstRules.{worst_meets, declared_ordered}
 use Rattle.model_settle.specs.KnownLaws.{read_stays}
 use Rattle.model_settle.proofs.SchemeSides.{reads_key_tree, reads_trip_tree}
+use Rattle.model_line.specs.Asks.{AllEndInRun, obligation_of}
 
 module _ (laws : HistoryLaws) (line_laws : LineLaws) (in_order : DeclaredIntervalsAreInOrder)
     (line : Line) where
@@ -22,7 +23,7 @@ module _ (laws : HistoryLaws) (line_laws : LineLaws) (in_order : DeclaredInterva
   worst_inside sides w =
       choice_within line (declared_box line) sides w (declared_ordered laws line_laws in_order line)
 
-  module _ (script : Script) (early : script.deadline < line.horizon)
+  module _ (script : Script) (early : AllEndInRun line.horizon script)
       (by_scheme : IsOneRailedBy line.scheme line) where
     abbrev sides : Sides
     sides = scheme_sides line (deciding script.kind)
@@ -31,7 +32,7 @@ module _ (laws : HistoryLaws) (line_laws : LineLaws) (in_order : DeclaredInterva
         → IsPairHistory line script (declared_box line) w
         → IsLineHistory line script (worst_choice line sides (declared_box line) w.key) h → (k : ℕ)
         → k < terminal_count line
-        → Meets line script k h ↔ IsHeld script.kind script.deadline line.horizon (w.trip k)
+        → Meets line script k h ↔ IsHeld (obligation_of line script k) (w.trip k)
     worst_decides w h is_w is_h k kn =
         worst_meets laws line_laws line script (declared_box line) all_terminals sides k w h
         (declared_ordered laws line_laws in_order line) (line_laws.inside.declared line) early
@@ -54,6 +55,6 @@ module _ (laws : HistoryLaws) (line_laws : LineLaws) (in_order : DeclaredInterva
           is = is_h;
           worst = λ k kn met other g within is_g.
               line_laws.every_choice.held line script (declared_box line) w k early d is_w kn
-              ((line_laws.rule.held line script (w.trip k)).1
+              ((line_laws.rule.held line script k (w.trip k)).1
               ((worst_decides w h is_w is_h k kn).0 met)) other g within is_g;
         }

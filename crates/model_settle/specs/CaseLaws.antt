@@ -9,6 +9,7 @@ use Rattle.model_logic.specs.{HeldOver.IsHeldOver, Boxes.IsSameBox, SameTree.sam
 use Rattle.model_settle.specs.Assumed.{Assumption}
 use Rattle.model_settle.specs.Under.{IsPairHistoryUnder, SomeIsExcluded}
 use Rattle.model_settle.specs.CaseTrees.{IsShownUnder}
+use Rattle.model_line.specs.Asks.{AllEndInRun}
 
 -- the test of trees is equality
 abbrev pub SameTreesAreEqual : Type 0
@@ -31,9 +32,9 @@ pub record EachBoxHasOneHistoryUnder : Type 0 where
 abbrev pub WhatIsShownOfOneIsShown : Type 0
 WhatIsShownOfOneIsShown =
     (line : Line) (script : Script) (k : ℕ) (box : Box) (assumed : List Assumption)
-    (w : PairHistory) → script.deadline < line.horizon → LeastFromOne line box
+    (w : PairHistory) → AllEndInRun line.horizon script → LeastFromOne line box
     → k < terminal_count line → IsPairHistoryUnder line script box assumed w
-    → (rule_of line script (w.trip k) ≡ Held) ⊎ SomeIsExcluded line script box assumed w
+    → (rule_of line script k (w.trip k) ≡ Held) ⊎ SomeIsExcluded line script box assumed w
     → IsShownUnder line script k box assumed
 
 -- boxes that are the same in each interval of the line's, and lines that differ in their intervals

@@ -29,7 +29,7 @@ are_yes (Wanted span throughout interrupted) = are_yes throughout && are_yes int
 pub record IsShownUnder (line : Line) (script : Script) (k : ℕ) (box : Box)
     (assumed : List Assumption) : Type 0 where
   pub shown : (w : PairHistory) → IsPairHistoryUnder line script box assumed w
-      → (rule_of line script (w.trip k) ≡ Held) ⊎ SomeIsExcluded line script box assumed w
+      → (rule_of line script k (w.trip k) ≡ Held) ⊎ SomeIsExcluded line script box assumed w
 
 -- each part can be made, each pair of cases can be told apart, and each yes leaf is shown over its
 -- part of the box under what is assumed there

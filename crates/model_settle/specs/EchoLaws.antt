@@ -1,7 +1,7 @@
 -- Where a terminal may be a weak infeed: what a scheme sends that allows it has the echo of its
 -- permission, and in the others no terminal is weak. Whoever looks for the echo in a key cites this,
 -- and no scheme.
-use Rattle.std.specs.Prelude.{◌≡◌, ◌⊎◌, ℕ, Bool, false, IsTrue}
+use Rattle.std.specs.Prelude.{◌≡◌, ◌⊎◌, ℕ, false, IsTrue}
 use Rattle.std.proofs.Common.{refl, inl, inr}
 use Rattle.model_line.specs.declared.line.Scheme.TheVariants.{Pott, Putt, Dcb, Dcub, Dtt}
 use Rattle.model_line.specs.{declared.line.Line.Line, declared.line.Scheme.Scheme}

@@ -13,6 +13,7 @@ use Rattle.model_line.specs.{declared.line.Line.Line, declared.script.Script.Scr
 use Rattle.model_settle.specs.Sides.{Rail, turned, End, Least, Greatest, pickup_end}
 use Rattle.model_settle.specs.Sides.{dropout_end, Sides}
 use Rattle.model_settle.specs.Worst.{deciding}
+use Rattle.model_line.specs.Asks.{AllEndInRun}
 
 -- the parameters that may be asked for at both ends, and the keys that may be read on both rails
 pub record Freedom : Type 0 where
@@ -64,7 +65,7 @@ pub record IsWorse (line : Line) (sides : Sides) (f : Freedom) (a b : Choice) : 
 abbrev pub AWorseChoiceMeetsLess : Type 0
 AWorseChoiceMeetsLess =
     (line : Line) (script : Script) (cone : ℕ → Bool) (sides : Sides) (f : Freedom) (k : ℕ)
-    (a b : Choice) (g h : History) → script.deadline < line.horizon → DelaysFromOne line a
+    (a b : Choice) (g h : History) → AllEndInRun line.horizon script → DelaysFromOne line a
     → IsMixed line cone sides f → k < terminal_count line
     → IsReadWith (from_of line.channels.items) cone sides f (deciding script.kind)
     (trip_tree line k)

@@ -12,6 +12,7 @@ use Rattle.model_settle.specs.Known.{IsReadIn, IsOneRailedIn}
 use Rattle.model_settle.specs.Worst.{worst_delay, worst_choice, IsOrdered, deciding}
 use Rattle.model_logic.specs.Obligations.{EveryChoiceMeets}
 use Rattle.model_settle.specs.Choices.{SomeChoiceFails}
+use Rattle.model_line.specs.Asks.{AllEndInRun, obligation_of}
 
 -- the worst delay lies within the ends, and what arrives after it is the rail of what is received
 pub record WorstDelaysAreRails : Type 0 where
@@ -47,17 +48,17 @@ abbrev pub TheWorstChoiceFails : Type 0
 TheWorstChoiceFails =
     (line : Line) (script : Script) (box : Box) (cone : ℕ → Bool) (sides : Sides) (k : ℕ)
     (w : PairHistory) (h : History) → IsOrdered line box → LeastFromOne line box
-    → script.deadline < line.horizon → IsOneRailedIn line script box w cone sides → k < terminal_count line
+    → AllEndInRun line.horizon script → IsOneRailedIn line script box w cone sides → k < terminal_count line
     → IsReadIn line script box w cone sides (deciding script.kind) (trip_tree line k)
     → IsPairHistory line script box w
     → IsLineHistory line script (worst_choice line sides box w.key) h
-    → Meets line script k h ↔ IsHeld script.kind script.deadline line.horizon (w.trip k)
+    → Meets line script k h ↔ IsHeld (obligation_of line script k) (w.trip k)
 
 -- an obligation whose trip is read on the rail that decides over a cone that is one-railed over the
 -- declared intervals is decided
 abbrev pub OneRailedObligationsAreDecided : Type 0
 OneRailedObligationsAreDecided = (line : Line) (script : Script) (cone : ℕ → Bool) (sides : Sides)
-    (k : ℕ) (w : PairHistory) → script.deadline < line.horizon
+    (k : ℕ) (w : PairHistory) → AllEndInRun line.horizon script
     → IsPairHistory line script (declared_box line) w
     → IsOneRailedIn line script (declared_box line) w cone sides → k < terminal_count line
     → IsReadIn line script (declared_box line) w cone sides (deciding script.kind) (trip_tree line k)

@@ -20,6 +20,7 @@ use Rattle.model_settle.specs.Sides.{Rail, turned, End, Least, pickup_end, dropo
 use Rattle.model_settle.specs.Sides.{IsReadOn, IsOneRailed}
 use Rattle.model_logic.specs.Obligations.{EveryChoiceMeets}
 use Rattle.model_settle.specs.{Choices.SomeChoiceMeets, Worst.worst_choice, Worst.deciding}
+use Rattle.model_line.specs.Asks.{AllEndInRun, obligation_of}
 
 -- no terminal is a weak infeed
 abbrev pub HasNoWeakEnd : Line → Type 0
@@ -103,7 +104,7 @@ pub record WorstTiming (line : Line) (script : Script) : Type 0 where
 
 -- such a line has for each script one worst timing
 abbrev pub OneTimingDecidesTheScript : Type 0
-OneTimingDecidesTheScript = (line : Line) (script : Script) → script.deadline < line.horizon
+OneTimingDecidesTheScript = (line : Line) (script : Script) → AllEndInRun line.horizon script
     → IsOneRailedBy line.scheme line → WorstTiming line script
 
 -- the worst choice over the declared intervals lies inside them, whatever the sides; of such a line,
@@ -113,18 +114,18 @@ pub record TheWorstChoiceDecides : Type 0 where
   pub inside : (line : Line) (sides : Sides) (w : PairHistory)
       → IsInside line (worst_choice line sides (declared_box line) w.key)
   pub meets : (line : Line) (script : Script) (w : PairHistory) (h : History) (k : ℕ)
-      → script.deadline < line.horizon → IsOneRailedBy line.scheme line
+      → AllEndInRun line.horizon script → IsOneRailedBy line.scheme line
       → IsPairHistory line script (declared_box line) w
       → IsLineHistory line script
       (worst_choice line (scheme_sides line (deciding script.kind)) (declared_box line) w.key) h
       → k < terminal_count line
-      → Meets line script k h ↔ IsHeld script.kind script.deadline line.horizon (w.trip k)
+      → Meets line script k h ↔ IsHeld (obligation_of line script k) (w.trip k)
 
 -- where the rule of such a line is not broken, some choice meets the obligation: the one whose numbers
 -- and delays favour it, where the worst one is read on the other rail
 abbrev pub TheBestChoiceMeets : Type 0
 TheBestChoiceMeets = (line : Line) (script : Script) (w : PairHistory) (k : ℕ)
-    → script.deadline < line.horizon → IsOneRailedBy line.scheme line
+    → AllEndInRun line.horizon script → IsOneRailedBy line.scheme line
     → IsPairHistory line script (declared_box line) w → k < terminal_count line
-    → ¬ (IsBroken script.kind script.deadline line.horizon (w.trip k))
+    → ¬ (IsBroken (obligation_of line script k) (w.trip k))
     → SomeChoiceMeets line script k
