@@ -5,7 +5,7 @@ ghost use Rattle.model_borders.specs.{Between.AreTwoScripts, Borders.part_span};
 
 use crate::borders::{earliest_at, latest_at};
 use crate::script::{LooseScript, LooseSpan};
-use model_line::{Kind, Memory, Script, SeenSpan};
+use model_line::{ALIKE, Kind, Memory, Script, SeenSpan};
 use run_signal::Within;
 use std::alloc::Global;
 
@@ -46,6 +46,7 @@ fn with_spans(script: &LooseScript, spans: Vec<SeenSpan>) -> Script
         name: script.name,
         kind: Kind::External,
         deadline: 0,
+        asks: ALIKE,
         spans,
     }
 }

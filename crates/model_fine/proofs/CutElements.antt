@@ -1,9 +1,8 @@
 -- Each element has at a fine tick the value that it has at the tick.
-use Rattle.std.proofs.Common.{◌≡◌, ◌+◌, ◌-◌, ◌*◌, ◌/◌, ◌<◌, ◌≤◌, ℕ, Bool, arith, sym, subst}
+use Rattle.std.proofs.Common.{◌≡◌, ◌+◌, ◌-◌, ◌*◌, ◌/◌, ◌<◌, ◌≤◌, ℕ, Bool, arith, sym}
 use Rattle.std.proofs.Common.{⊎_elim}
 use Rattle.std.proofs.lemmas.Bool.{cases_lt}
 use Rattle.std.proofs.lemmas.Bool.Decides.{Decides-like, same_from_decides}
-use Rattle.std.specs.Prelude.{IsTrue}
 use Rattle.model_history.specs.{Laws.HistoryLaws, Comes.Comes, TruthLaws.on_at}
 use Rattle.model_history.specs.Elements.{timed, sealed, delayed, Holds, IsTimed, IsSealed}
 use Rattle.model_fine.specs.Cut.{cut}

@@ -10,7 +10,7 @@ use Rattle.model_line.specs.Seen.{is_seen, is_lost}
 use Rattle.model_logic.specs.declared.time.Time.{Time}
 use Rattle.model_logic.specs.declared.time.Time.TheVariants.{Zero, Param}
 use Rattle.model_logic.specs.Choice.{Choice, Box, IsIn, IsWithin, time_by, world_of}
-use Rattle.model_logic.specs.Histories.{History, IsLineHistory, MeetsBy}
+use Rattle.model_logic.specs.Histories.{History, IsLineHistory, MetBy}
 use Rattle.model_logic.specs.Logic.{key_tree, trip_tree}
 use Rattle.model_logic.specs.{Mean.World, Mean.mean, Tree.Tree}
 use Rattle.model_fine.specs.Cut.{cut_ends, cut_choice, cut_history, cut_world, cut_each}
@@ -34,10 +34,9 @@ module _ (n : ℕ) (some : 1 ≤ n) where
         (within.delays c (t / n) lt (before n some line.horizon t early));
   }
 
-  pub cut_meets : (kind : Kind) (deadline horizon : ℕ) (trip : ℕ → Bool)
-      → MeetsBy kind (deadline * n) (horizon * n) (λ t. trip (t / n))
-      ↔ MeetsBy kind deadline horizon trip
-  cut_meets Internal deadline horizon trip = (
+  pub cut_meets : (kind : Kind) (deadline end : ℕ) (trip : ℕ → Bool)
+      → MetBy kind (deadline * n) (end * n) (λ t. trip (t / n)) ↔ MetBy kind deadline end trip
+  cut_meets Internal deadline end trip = (
     λ met. (met.0 / n, by_deadline n some met.0 deadline met.1, met.2),
     λ met. (
       met.0 * n,
@@ -45,10 +44,10 @@ module _ (n : ℕ) (some : 1 ≤ n) where
       subst (λ (t : ℕ). IsTrue (trip t)) (sym (first n some met.0)) met.2,
     ),
   )
-  cut_meets External deadline horizon trip = (
+  cut_meets External deadline end trip = (
     λ met t lt. subst (λ (s : ℕ). IsFalse (trip s)) (first n some t)
-        (met (t * n) (inside n some t horizon lt)),
-    λ met t lt. met (t / n) (before n some horizon t lt),
+        (met (t * n) (inside n some t end lt)),
+    λ met t lt. met (t / n) (before n some end t lt),
   )
 
   -- ---- its world, and its history

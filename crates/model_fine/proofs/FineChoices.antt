@@ -10,27 +10,32 @@ use Rattle.model_logic.specs.Rule.{rule_of}
 use Rattle.model_fine.specs.Fine.{IsFineWithin, IsFineHistory, FineMeets, CoversFineHistory}
 use Rattle.model_fine.specs.Fine.{EachFineChoiceMeets}
 use Rattle.model_fine.proofs.{FineRules.held_met, FineRules.broken_failed, FineCovers.fine_covered}
+use Rattle.model_line.specs.Asks.{AllEndInRun, obligation_of}
+use Rattle.model_line.specs.declared.asks.Obligation.{Obligation}
 
 module _ (laws : HistoryLaws) (line_laws : LineLaws) where
   -- over pairs that cover a fine history
   module _ (n : ℕ) (some : 1 ≤ n) (line : Line) (script : Script) (w : PairHistory) (h : History)
-      (k : ℕ) (early : script.deadline < line.horizon) (cover : CoversFineHistory n line w h)
+      (k : ℕ) (early : AllEndInRun line.horizon script) (cover : CoversFineHistory n line w h)
       (kn : k < terminal_count line) where
-    pub held_covered : rule_of line script (w.trip k) ≡ Held → FineMeets n line script k h
-    held_covered rule =
-        held_met n some script.deadline line.horizon early (w.trip k) (h.trip k)
-        (λ t lt. cover.trips k t kn lt) script.kind
-        ((line_laws.rule.held line script (w.trip k)).0 rule)
+    abbrev asked : Obligation
+    asked = obligation_of line script k
 
-    pub broken_covered : rule_of line script (w.trip k) ≡ Broken → FineMeets n line script k h → ⊥
+    pub held_covered : rule_of line script k (w.trip k) ≡ Held → FineMeets n line script k h
+    held_covered rule =
+        held_met n some asked.deadline asked.end line.horizon (early.each k).deadline
+        (early.each k).end (w.trip k) (h.trip k) (λ t lt. cover.trips k t kn lt) asked.kind
+        ((line_laws.rule.held line script k (w.trip k)).0 rule)
+
+    pub broken_covered : rule_of line script k (w.trip k) ≡ Broken → FineMeets n line script k h → ⊥
     broken_covered rule =
-        broken_failed n some script.deadline line.horizon early (w.trip k) (h.trip k)
-        (λ t lt. cover.trips k t kn lt) script.kind
-        ((line_laws.rule.broken line script (w.trip k)).0 rule).0
+        broken_failed n some asked.deadline asked.end line.horizon (early.each k).deadline
+        (early.each k).end (w.trip k) (h.trip k) (λ t lt. cover.trips k t kn lt) asked.kind
+        ((line_laws.rule.broken line script k (w.trip k)).0 rule).0
 
   -- over the interval history of a box
   module _ (n : ℕ) (some : 1 ≤ n) (line : Line) (script : Script) (box : Box) (w : PairHistory)
-      (k : ℕ) (early : script.deadline < line.horizon) (d : LeastFromOne line box)
+      (k : ℕ) (early : AllEndInRun line.horizon script) (d : LeastFromOne line box)
       (is_w : IsPairHistory line script box w) (kn : k < terminal_count line) (choice : Choice)
       (h : History) (within : IsFineWithin n line choice box)
       (is_h : IsFineHistory n line script choice h) where
@@ -38,14 +43,14 @@ module _ (laws : HistoryLaws) (line_laws : LineLaws) where
     covered =
         fine_covered laws n some line script box choice d within line_laws.trees h is_h w is_w
 
-    pub held_fine : rule_of line script (w.trip k) ≡ Held → FineMeets n line script k h
+    pub held_fine : rule_of line script k (w.trip k) ≡ Held → FineMeets n line script k h
     held_fine rule = held_covered n some line script w h k early covered kn rule
 
-    pub broken_fine : rule_of line script (w.trip k) ≡ Broken → FineMeets n line script k h → ⊥
+    pub broken_fine : rule_of line script k (w.trip k) ≡ Broken → FineMeets n line script k h → ⊥
     broken_fine rule = broken_covered n some line script w h k early covered kn rule
 
   pub held_between : (line : Line) (script : Script) (k : ℕ) (box : Box)
-      → script.deadline < line.horizon → LeastFromOne line box → k < terminal_count line
+      → AllEndInRun line.horizon script → LeastFromOne line box → k < terminal_count line
       → IsHeldOver line script k box → EachFineChoiceMeets line script k box
   held_between line script k box early d kn held n choice h some within is_h =
       let (w, is_w) = line_laws.interval_histories.exists line script box d in

@@ -12,15 +12,29 @@ use Rattle.model_line.specs.Laws.{CountsRestOnNoInterval, DelaysAreParameters}
 use Rattle.model_line.specs.Seen.{is_lost, is_seen}
 use Rattle.model_line.specs.Parameters.{declared_ends, delay_param}
 use Rattle.model_logic.specs.Choice.{Choice, IsIn, declared_box, time_by}
-use Rattle.model_logic.specs.Histories.{History, MeetsBy}
+use Rattle.model_logic.specs.Histories.{History, MeetsBy, MetBy}
 use Rattle.model_logic.specs.IntervalLaws.{TreesRestOnNoInterval}
 use Rattle.model_logic.specs.{Mean.World, Mean.mean, Tree.Tree}
 use Rattle.model_logic.specs.Logic.{key_tree, trip_tree}
-use Rattle.model_fine.specs.Cut.{cut_ends}
+use Rattle.model_line.specs.declared.asks.Ask.TheVariants.{OfTheLine, By, Nothing}
+use Rattle.model_line.specs.{declared.asks.Ask.Ask, declared.script.Kind.TheVariants.External}
+use Rattle.model_line.specs.Asks.{ask_of, obligation_in, obligation_over, obligation_of}
+use Rattle.model_fine.specs.Cut.{cut_ends, cut_obligation}
 use Rattle.model_fine.specs.Fine.{EveryFineChoiceMeets, FineMeets, IsFineHistory, IsFineInside}
 use Rattle.model_fine.specs.Fine.{fine_world_of}
-use Rattle.model_fine.specs.Finer.{IsLineInFinerTicks, IsScriptInFinerTicks}
+use Rattle.model_fine.specs.Finer.{IsLineInFinerTicks, IsScriptInFinerTicks, cut_ask}
 use Rattle.model_fine.proofs.TimelessTrees.{in_ticks_of, same_key, same_trip}
+use Rattle.model_line.specs.declared.asks.Obligation.{Obligation}
+
+asked_in_parts : (n horizon : ℕ) (kind : Kind) (deadline : ℕ) (ask : Ask)
+    → obligation_in (horizon * n) kind (deadline * n) (cut_ask n ask)
+    ≡ cut_obligation n (obligation_in horizon kind deadline ask)
+unfolding obligation_in
+asked_in_parts n horizon kind deadline OfTheLine = refl
+asked_in_parts n horizon kind deadline (By tick) = refl
+asked_in_parts n horizon kind deadline Nothing =
+    let none : 0 ≡ 0 * n = omega arith in
+    ap (λ (x : ℕ). record { kind = External; deadline = x; end = x }) none
 
 module _ (counts : CountsRestOnNoInterval) (logic : TreesRestOnNoInterval)
     (delays : DelaysAreParameters) (n : ℕ) (line finer : Line)
@@ -118,15 +132,29 @@ module _ (counts : CountsRestOnNoInterval) (logic : TreesRestOnNoInterval)
             ∙ ap (λ (x : Tree). mean (fine_world_of (m * n) line script choice) h.key x t) (same_trip logic line finer same k);
       }
 
+      same_asked : (k : ℕ)
+          → obligation_of finer other k ≡ cut_obligation n (obligation_of line script k)
+      unfolding obligation_over
+      same_asked k =
+          ap (λ (x : Kind). obligation_in finer.horizon x other.deadline (ask_of other.asks k))
+          cut_script.kind
+          ∙ ap (λ (d : ℕ). obligation_in finer.horizon script.kind d (ask_of other.asks k))
+          cut_script.deadline
+          ∙ ap (obligation_in finer.horizon script.kind (script.deadline * n)) (cut_script.asks k)
+          ∙ ap (λ (end : ℕ). obligation_in end script.kind (script.deadline * n)
+          (cut_ask n (ask_of script.asks k))) cut.horizon
+          ∙ asked_in_parts n line.horizon script.kind script.deadline (ask_of script.asks k)
+
       same_meets : (k : ℕ) (h : History)
           → FineMeets (m * n) line script k h ≡ FineMeets m finer other k h
       same_meets k h =
-          ap (λ (end : ℕ). MeetsBy script.kind (script.deadline * (m * n)) end (h.trip k))
-          (sym (same_end line.horizon finer.horizon cut.horizon))
-          ∙ ap (λ (end : ℕ). MeetsBy script.kind end (finer.horizon * m) (h.trip k))
-          (sym (same_end script.deadline other.deadline cut_script.deadline))
-          ∙ ap (λ (kind : Kind). MeetsBy kind (other.deadline * m) (finer.horizon * m) (h.trip k))
-          (sym cut_script.kind)
+          let asked : Obligation = obligation_of line script k in
+          ap (λ (end : ℕ). MetBy asked.kind (asked.deadline * (m * n)) end (h.trip k))
+          (sym (same_end asked.end (asked.end * n) refl))
+          ∙ ap (λ (end : ℕ). MetBy asked.kind end (asked.end * n * m) (h.trip k))
+          (sym (same_end asked.deadline (asked.deadline * n) refl))
+          ∙ ap (λ (o : Obligation). MeetsBy (cut_obligation m o) (h.trip k))
+          (sym (same_asked k))
 
   pub finer_meets : (script other : Script) (k : ℕ) → 1 ≤ n → IsScriptInFinerTicks n script other
       → EveryFineChoiceMeets line script k → EveryFineChoiceMeets finer other k

@@ -23,6 +23,7 @@ use Rattle.model_fine.proofs.Floors.{times, first}
 use Rattle.model_fine.proofs.{FineChoices.held_covered, SharedEnds.shared_halves}
 use Rattle.model_fine.proofs.SpanCovers.{history_covered, tree_covered}
 use Rattle.model_fine.proofs.PulseNamed.{wanted_named}
+use Rattle.model_line.specs.Asks.{AllEndInRun}
 
 -- ---- one case
 
@@ -96,7 +97,7 @@ module _ (laws : HistoryLaws) (line_laws : LineLaws) (n : ℕ) (some : 1 ≤ n) 
 -- ---- sound trees
 
 module _ (laws : HistoryLaws) (line_laws : LineLaws) (one_each : EachBoxHasOneHistoryUnder) (n : ℕ)
-    (some : 1 ≤ n) (line : Line) (script : Script) (k : ℕ) (early : script.deadline < line.horizon)
+    (some : 1 ≤ n) (line : Line) (script : Script) (k : ℕ) (early : AllEndInRun line.horizon script)
     (kn : k < terminal_count line) (choice : Choice) (h : History)
     (is_h : IsFineHistory n line script choice h) where
   pub sound_meets : (tree : CaseTree) (box : Box) (assumed : List Assumption)

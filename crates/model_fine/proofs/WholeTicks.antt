@@ -7,13 +7,15 @@ use Rattle.model_history.specs.Rails.{Ends}
 use Rattle.model_line.specs.{declared.line.Line.Line, declared.script.Script.Script}
 use Rattle.model_line.specs.{Seen.is_seen, Seen.is_lost, Channels.from_of}
 use Rattle.model_logic.specs.Choice.{Choice, Box, IsIn, IsWithin, time_by, world_of, declared_box}
-use Rattle.model_logic.specs.Histories.{History, IsLineHistory, MeetsBy, Meets}
+use Rattle.model_logic.specs.Histories.{History, IsLineHistory, MetBy, Meets}
 use Rattle.model_logic.specs.Logic.{key_tree, trip_tree}
 use Rattle.model_logic.specs.{Mean.World, Mean.mean, Obligations.EveryChoiceMeets}
 use Rattle.model_settle.specs.Choices.{SomeChoiceFails}
 use Rattle.model_fine.specs.Cut.{cut_ends}
 use Rattle.model_fine.specs.Fine.{IsFineWithin, IsFineHistory, FineMeets, EveryFineChoiceMeets}
 use Rattle.model_fine.specs.Fine.{fine_world_of}
+use Rattle.model_line.specs.Asks.{obligation_of}
+use Rattle.model_line.specs.declared.asks.Obligation.{Obligation}
 
 -- what is so at each fine tick is so at each tick, and the other way round
 by_one : (q t : ℕ) → t < q * 1 → t < q
@@ -85,11 +87,12 @@ history_one line script choice h = (
 pub meets_one : (line : Line) (script : Script) (k : ℕ) (h : History)
     → FineMeets 1 line script k h ↔ Meets line script k h
 meets_one line script k h =
-    let deadline : script.deadline * 1 ≡ script.deadline = omega arith in
-    let horizon : line.horizon * 1 ≡ line.horizon = omega arith in
+    let asked : Obligation = obligation_of line script k in
+    let deadline : asked.deadline * 1 ≡ asked.deadline = omega arith in
+    let end : asked.end * 1 ≡ asked.end = omega arith in
     let same : FineMeets 1 line script k h ≡ Meets line script k h =
-    ap (λ (d : ℕ). MeetsBy script.kind d (line.horizon * 1) (h.trip k)) deadline
-    ∙ ap (λ (d : ℕ). MeetsBy script.kind script.deadline d (h.trip k)) horizon in
+    ap (λ (d : ℕ). MetBy asked.kind d (asked.end * 1) (h.trip k)) deadline
+    ∙ ap (λ (d : ℕ). MetBy asked.kind asked.deadline d (h.trip k)) end in
     (subst (λ (X : Type 0). X) same, subst (λ (X : Type 0). X) (sym same))
 
 pub every_whole : (line : Line) (script : Script) (k : ℕ) → EveryFineChoiceMeets line script k

@@ -12,13 +12,14 @@ use Rattle.model_settle.specs.Schemes.{IsOneRailedBy, TheWorstChoiceDecides, sch
 use Rattle.model_settle.specs.Worst.{worst_choice, deciding}
 use Rattle.model_fine.specs.Fine.{EveryFineChoiceMeets}
 use Rattle.model_fine.proofs.{FineChoices.held_fine, WholeTicks.every_whole}
+use Rattle.model_line.specs.Asks.{AllEndInRun, obligation_of}
 
 module _ (laws : HistoryLaws) (line_laws : LineLaws) (worst : TheWorstChoiceDecides) (line : Line)
-    (script : Script) (k : ℕ) (early : script.deadline < line.horizon)
+    (script : Script) (k : ℕ) (early : AllEndInRun line.horizon script)
     (by_scheme : IsOneRailedBy line.scheme line) (kn : k < terminal_count line) where
   -- the worst choice meets the obligation as each does, so the rule is held
   rule_held : EveryChoiceMeets line script k → (w : PairHistory)
-      → IsPairHistory line script (declared_box line) w → rule_of line script (w.trip k) ≡ Held
+      → IsPairHistory line script (declared_box line) w → rule_of line script k (w.trip k) ≡ Held
   rule_held every w is_w =
       let choice : Choice =
       worst_choice line (scheme_sides line (deciding script.kind)) (declared_box line) w.key in
@@ -26,9 +27,9 @@ module _ (laws : HistoryLaws) (line_laws : LineLaws) (worst : TheWorstChoiceDeci
       worst.inside line (scheme_sides line (deciding script.kind)) w in
       let (h, is_h) =
       line_laws.histories.exists line script choice (line_laws.inside.choices line choice inside) in
-      let held : IsHeld script.kind script.deadline line.horizon (w.trip k) =
+      let held : IsHeld (obligation_of line script k) (w.trip k) =
       (worst.meets line script w h k early by_scheme is_w is_h kn).0 (every choice h inside is_h) in
-      (line_laws.rule.held line script (w.trip k)).1 held
+      (line_laws.rule.held line script k (w.trip k)).1 held
 
   pub whole_decide : EveryChoiceMeets line script k ↔ EveryFineChoiceMeets line script k
   whole_decide = (

@@ -2,6 +2,7 @@
 -- is so at each of its fine ticks.
 use Rattle.std.specs.Prelude.{◌*◌, ◌/◌, ℕ}
 use Rattle.model_history.specs.Rails.{Ends}
+use Rattle.model_line.specs.declared.asks.Obligation.{Obligation}
 use Rattle.model_logic.specs.{Choice.Choice, Histories.History, Mean.World, PairMean.PairWorld}
 
 -- a history of anything, fine tick by fine tick
@@ -15,6 +16,11 @@ cut_each n u k t = u k (t / n)
 -- the span, counted in fine ticks
 abbrev pub cut_ends : ℕ → Ends → Ends
 cut_ends n ends = record { least = ends.least * n; greatest = ends.greatest * n }
+
+-- the obligation, counted in fine ticks: the deadline is the instant at which its tick begins
+abbrev pub cut_obligation : ℕ → Obligation → Obligation
+cut_obligation n asked =
+    record { kind = asked.kind; deadline = asked.deadline * n; end = asked.end * n }
 
 -- the world that sees and loses the same, its numbers and delays counted in fine ticks
 abbrev pub cut_world : ℕ → World → World

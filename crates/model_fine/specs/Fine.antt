@@ -11,7 +11,8 @@ use Rattle.model_logic.specs.Choice.{Choice, Box, IsIn, declared_box, time_by}
 use Rattle.model_logic.specs.Histories.{History, PairHistory, MeetsBy}
 use Rattle.model_logic.specs.Logic.{key_tree, trip_tree}
 use Rattle.model_logic.specs.Mean.{World, mean}
-use Rattle.model_fine.specs.Cut.{cut_ends}
+use Rattle.model_fine.specs.Cut.{cut_ends, cut_obligation}
+use Rattle.model_line.specs.Asks.{obligation_of}
 
 -- at each terminal and each fine tick of the line
 abbrev pub AtFineTicks : ℕ → Line → (ℕ → ℕ → Type 0) → Type 0
@@ -59,12 +60,12 @@ pub record IsSameFineHistory (n : ℕ) (line : Line) (g h : History) : Type 0 wh
   pub keys : AtFineTicks n line (λ k t. g.key k t ≡ h.key k t)
   pub trips : AtFineTicks n line (λ k t. g.trip k t ≡ h.trip k t)
 
--- the obligation of a script at terminal k is met by a fine history. Internal fault: it trips at some
--- fine tick up to the instant at which the deadline's tick begins. External fault: it trips at no fine
--- tick.
+-- the obligation of a script at terminal k is met by a fine history. Internal: it trips at some fine
+-- tick up to the instant at which the deadline's tick begins. External: it trips at no fine tick before
+-- the end.
 abbrev pub FineMeets : ℕ → Line → Script → ℕ → History → Type 0
 FineMeets n line script k h =
-    MeetsBy script.kind (script.deadline * n) (line.horizon * n) (h.trip k)
+    MeetsBy (cut_obligation n (obligation_of line script k)) (h.trip k)
 
 -- the interval history in whole ticks covers a fine history
 pub record CoversFineHistory (n : ℕ) (line : Line) (w : PairHistory) (h : History) : Type 0 where

@@ -21,6 +21,7 @@ use Rattle.model_fine.specs.Cut.{cut_history}
 use Rattle.model_fine.specs.Fine.{IsFineWithin, FineDelaysFromOne, IsFineHistory}
 use Rattle.model_fine.specs.Fine.{IsSameFineHistory, FineMeets, CoversFineHistory, fine_world_of}
 use Rattle.model_fine.specs.Fine.{EachFineChoiceMeets, EveryFineChoiceMeets}
+use Rattle.model_line.specs.Asks.{AllEndInRun}
 
 -- ---- what is cut
 
@@ -99,34 +100,34 @@ pub record FineHistoriesAreCovered : Type 0 where
 -- and one that is broken that it is not
 pub record TheRuleSpeaksForCoveredFineHistories : Type 0 where
   pub held : (n : ℕ) (line : Line) (script : Script) (w : PairHistory) (h : History) (k : ℕ) → 1 ≤ n
-      → script.deadline < line.horizon → CoversFineHistory n line w h → k < terminal_count line
-      → rule_of line script (w.trip k) ≡ Held → FineMeets n line script k h
+      → AllEndInRun line.horizon script → CoversFineHistory n line w h → k < terminal_count line
+      → rule_of line script k (w.trip k) ≡ Held → FineMeets n line script k h
   pub broken : (n : ℕ) (line : Line) (script : Script) (w : PairHistory) (h : History) (k : ℕ)
-      → 1 ≤ n → script.deadline < line.horizon → CoversFineHistory n line w h
-      → k < terminal_count line → rule_of line script (w.trip k) ≡ Broken
+      → 1 ≤ n → AllEndInRun line.horizon script → CoversFineHistory n line w h
+      → k < terminal_count line → rule_of line script k (w.trip k) ≡ Broken
       → ¬ (FineMeets n line script k h)
 
 -- over a box a rule that is held says that every fine choice within meets the obligation, and one that
 -- is broken that every fine choice within fails it
 pub record TheRuleSpeaksForEveryFineChoice : Type 0 where
   pub held : (n : ℕ) (line : Line) (script : Script) (box : Box) (w : PairHistory) (k : ℕ) → 1 ≤ n
-      → script.deadline < line.horizon → LeastFromOne line box → IsPairHistory line script box w
-      → k < terminal_count line → rule_of line script (w.trip k) ≡ Held
+      → AllEndInRun line.horizon script → LeastFromOne line box → IsPairHistory line script box w
+      → k < terminal_count line → rule_of line script k (w.trip k) ≡ Held
       → (choice : Choice) (h : History) → IsFineWithin n line choice box
       → IsFineHistory n line script choice h → FineMeets n line script k h
   pub broken : (n : ℕ) (line : Line) (script : Script) (box : Box) (w : PairHistory) (k : ℕ) → 1 ≤ n
-      → script.deadline < line.horizon → LeastFromOne line box → IsPairHistory line script box w
-      → k < terminal_count line → rule_of line script (w.trip k) ≡ Broken
+      → AllEndInRun line.horizon script → LeastFromOne line box → IsPairHistory line script box w
+      → k < terminal_count line → rule_of line script k (w.trip k) ≡ Broken
       → (choice : Choice) (h : History) → IsFineWithin n line choice box
       → IsFineHistory n line script choice h → ¬ (FineMeets n line script k h)
 
 -- what is held over a box in whole ticks is met by every choice of fractions within, and so what is held
 -- over the declared intervals by every one inside
 pub record WhatIsHeldIsMetBetweenTicks : Type 0 where
-  pub over : (line : Line) (script : Script) (k : ℕ) (box : Box) → script.deadline < line.horizon
+  pub over : (line : Line) (script : Script) (k : ℕ) (box : Box) → AllEndInRun line.horizon script
       → LeastFromOne line box → k < terminal_count line → IsHeldOver line script k box
       → EachFineChoiceMeets line script k box
-  pub declared : (line : Line) (script : Script) (k : ℕ) → script.deadline < line.horizon
+  pub declared : (line : Line) (script : Script) (k : ℕ) → AllEndInRun line.horizon script
       → k < terminal_count line → IsHeldOver line script k (declared_box line)
       → EveryFineChoiceMeets line script k
 
@@ -150,7 +151,7 @@ pub record WholeTicksAreTheCaseOfOne : Type 0 where
 -- of a line whose trips are one-railed by its scheme, whole ticks are no approximation at all: an
 -- obligation is met by every choice of fractions exactly where it is met by every choice of whole ticks
 abbrev pub WholeTicksDecide : Type 0
-WholeTicksDecide = (line : Line) (script : Script) (k : ℕ) → script.deadline < line.horizon
+WholeTicksDecide = (line : Line) (script : Script) (k : ℕ) → AllEndInRun line.horizon script
     → IsOneRailedBy line.scheme line → k < terminal_count line
     → EveryChoiceMeets line script k ↔ EveryFineChoiceMeets line script k
 

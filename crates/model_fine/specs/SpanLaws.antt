@@ -12,6 +12,7 @@ use Rattle.model_settle.specs.Under.{own_pair, IsPairHistoryUnder, SomeIsExclude
 use Rattle.model_fine.specs.Fine.{IsFineWithin, IsFineHistory, FineMeets, CoversFineHistory}
 use Rattle.model_fine.specs.Fine.{fine_world_of, EveryFineChoiceMeets}
 use Rattle.model_fine.specs.Spans.{IsThroughout, IsInterrupted, AgreesWithAll}
+use Rattle.model_line.specs.Asks.{AllEndInRun}
 
 -- each fine history wants an echo throughout a span, or is interrupted in it
 abbrev pub EachHistoryIsOfOneCase : Type 0
@@ -61,13 +62,13 @@ NoHistoryAgreesWithWhatIsExcluded =
 -- nothing is assumed, every choice of fractions meets it
 pub record SoundTreesMeet : Type 0 where
   pub agreeing : (line : Line) (script : Script) (k : ℕ) (box : Box) (assumed : List Assumption)
-      (tree : CaseTree) → script.deadline < line.horizon → LeastFromOne line box
+      (tree : CaseTree) → AllEndInRun line.horizon script → LeastFromOne line box
       → k < terminal_count line → HaveSpans line assumed
       → AreSound line script k box assumed tree → IsTrue (are_yes tree)
       → (n : ℕ) (choice : Choice) (h : History) → 1 ≤ n → IsFineWithin n line choice box
       → IsFineHistory n line script choice h → AgreesWithAll n line script choice h assumed
       → FineMeets n line script k h
   pub declared : (line : Line) (script : Script) (k : ℕ) (tree : CaseTree)
-      → script.deadline < line.horizon → k < terminal_count line
+      → AllEndInRun line.horizon script → k < terminal_count line
       → AreSound line script k (declared_box line) [] tree → IsTrue (are_yes tree)
       → EveryFineChoiceMeets line script k
