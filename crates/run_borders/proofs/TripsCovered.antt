@@ -8,8 +8,8 @@ use Rattle.model_history.specs.Rails.{Rails, Covers}
 use Rattle.model_history.specs.TruthLaws.{not_both}
 use Rattle.model_line.specs.declared.script.Kind.TheVariants.{Internal, External}
 use Rattle.model_line.specs.{declared.script.Kind.Kind, Parameters.terminal_count}
-use Rattle.model_logic.specs.{Choice.Choice, Choice.LeastFromOne, Histories.History, Histories.MeetsBy}
-use Rattle.model_logic.specs.Rule.{IsHeld, IsBroken}
+use Rattle.model_logic.specs.{Choice.Choice, Choice.LeastFromOne, Histories.History, Histories.MetBy}
+use Rattle.model_logic.specs.Rule.{HeldBy, BrokenBy}
 use Rattle.model_fine.specs.{Fine.IsFineWithin, LooseLaws.LooseHistoriesCover}
 use Rattle.model_fine.specs.Loose.{Shown, IsBetween, IsShownHistory}
 use Rattle.run_signal.specs.declared.tern.Tern.{Tern}
@@ -54,7 +54,7 @@ module _ (n : ℕ) (some : 1 ≤ n) (deadline end horizon : ℕ) (early : deadli
   last : deadline * n < horizon * n
   last = before n some deadline horizon early
 
-  pub held_met : (kind : Kind) → IsHeld kind deadline end w → MeetsBy kind (deadline * n) (end * n) u
+  pub held_met : (kind : Kind) → HeldBy kind deadline end w → MetBy kind (deadline * n) (end * n) u
   held_met Internal held = (
     held.0 * n,
     mul-le-mul_right {m = held.0} {n = deadline} n held.1,
@@ -65,8 +65,8 @@ module _ (n : ℕ) (some : 1 ≤ n) (deadline end horizon : ℕ) (early : deadli
       not_both _ (held (t / n) (div_below t n end some lt))
       (may_there t (omega (arith, lt, all)) on))
 
-  pub broken_failed : (kind : Kind) → IsBroken kind deadline end w
-      → ¬ (MeetsBy kind (deadline * n) (end * n) u)
+  pub broken_failed : (kind : Kind) → BrokenBy kind deadline end w
+      → ¬ (MetBy kind (deadline * n) (end * n) u)
   broken_failed Internal broken met =
       not_both _ (broken (met.0 / n) (upto n some met.0 deadline met.1))
       (may_there met.0 (omega (arith, met.1, last)) met.2)

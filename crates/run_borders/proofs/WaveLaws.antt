@@ -1,12 +1,10 @@
 -- Waves that are made of stretches, and what is shown through a stretch.
-use Rattle.std.proofs.Common.{◌≡◌, ◌<◌, ◌++◌, ℕ, List, [], length, replicate, refl, ap, arith}
+use Rattle.std.proofs.Common.{◌≡◌, ℕ, ap}
 use Rattle.std.proofs.Common.{subst, ◌∙◌, Bool}
 use Rattle.model_history.specs.Rails.{Rails, IsSound}
 use Rattle.model_line.specs.declared.script.What.TheVariants.{Element, Loss}
 use Rattle.model_line.specs.declared.script.What.{What}
-use Rattle.run_signal.specs.{declared.tern.Tern.Tern, Terns.tern_rails}
 use Rattle.run_step.specs.Quiet.{Keeps, ScriptKeeps}
-use Rattle.run_waves.specs.{waves.Waves.IsWaveOf, waves.WaveLaws.WavesGrow}
 use Rattle.run_waves.specs.derived.Stretches.{holds}
 use Rattle.run_borders.specs.declared.run.LooseRun.{LooseRun}
 use Rattle.run_borders.specs.{LooseRuns.CanRun, LooseWaves.shown_rails}

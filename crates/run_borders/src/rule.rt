@@ -2,7 +2,7 @@
 
 ghost use Rattle.std.specs.Prelude.{◌≡◌, ◌<◌, ◌≤◌, ◌*◌, ◌↔◌, ℕ, Bool, length, IsTrue, IsFalse};
 ghost use Rattle.model_line.specs.Parameters.{terminal_count};
-ghost use Rattle.model_logic.specs.{Histories.MeetsBy, Rule.IsHeld, Rule.IsBroken};
+ghost use Rattle.model_logic.specs.{Histories.MetBy, Rule.HeldBy, Rule.BrokenBy};
 ghost use Rattle.run_waves.specs.waves.{FirstTick.first_on, Waves.wave_at};
 ghost use Rattle.run_borders.specs.LooseRuns.{CanRun, line_of};
 ghost use Rattle.run_borders.specs.LooseWaves.{AreLooseWaves, ForEachShownHistory, trip_wave};
@@ -29,9 +29,9 @@ pub fn is_held(
     requires terminal { terminal < terminal_count (line_of run.now) }
     requires deadline { deadline < (line_of run.now).horizon }
     requires end { end ≤ (line_of run.now).horizon }
-    ensures rule { IsTrue result ↔ IsHeld kind deadline end (trip_wave run.now waves.now terminal) }
+    ensures rule { IsTrue result ↔ HeldBy kind deadline end (trip_wave run.now waves.now terminal) }
     ensures met { IsTrue result → ForEachShownHistory run.now (λ n h.
-        MeetsBy kind (deadline * n) (end * n) (h.trip terminal)) }
+        MetBy kind (deadline * n) (end * n) (h.trip terminal)) }
 {
     loose_histories_cover();
     let gate = run.compiled.net.trip_gate(terminal);
@@ -54,9 +54,9 @@ pub fn is_broken(
     requires terminal { terminal < terminal_count (line_of run.now) }
     requires deadline { deadline < (line_of run.now).horizon }
     requires end { end ≤ (line_of run.now).horizon }
-    ensures rule { IsTrue result ↔ IsBroken kind deadline end (trip_wave run.now waves.now terminal) }
+    ensures rule { IsTrue result ↔ BrokenBy kind deadline end (trip_wave run.now waves.now terminal) }
     ensures not_met { IsTrue result → ForEachShownHistory run.now (λ n h.
-        ¬ (MeetsBy kind (deadline * n) (end * n) (h.trip terminal))) }
+        ¬ (MetBy kind (deadline * n) (end * n) (h.trip terminal))) }
 {
     loose_histories_cover();
     let gate = run.compiled.net.trip_gate(terminal);
@@ -68,7 +68,7 @@ pub fn is_broken(
 fn wave_is_held(trip: &Runs, kind: Kind, deadline: u32, end: u32) -> bool
     requires deadline { deadline < length trip.now }
     requires end { end ≤ length trip.now }
-    ensures { IsTrue result ↔ IsHeld kind deadline end (wave_at trip.now) }
+    ensures { IsTrue result ↔ HeldBy kind deadline end (wave_at trip.now) }
 {
     match kind {
         Kind::Internal => comes_by(first_must(trip), deadline),
@@ -80,7 +80,7 @@ fn wave_is_held(trip: &Runs, kind: Kind, deadline: u32, end: u32) -> bool
 fn wave_is_broken(trip: &Runs, kind: Kind, deadline: u32, end: u32) -> bool
     requires deadline { deadline < length trip.now }
     requires end { end ≤ length trip.now }
-    ensures { IsTrue result ↔ IsBroken kind deadline end (wave_at trip.now) }
+    ensures { IsTrue result ↔ BrokenBy kind deadline end (wave_at trip.now) }
 {
     match kind {
         Kind::Internal => !comes_by(first_may(trip), deadline),

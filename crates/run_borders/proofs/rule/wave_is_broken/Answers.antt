@@ -2,7 +2,7 @@ use Rattle.std.proofs.Common.{ℕ, Bool, not, sym, subst, length}
 use Rattle.std.specs.Prelude.{IsTrue}
 use Rattle.model_history.specs.{Rails.Rails, TruthLaws.not_both}
 use Rattle.model_line.specs.declared.script.Kind.{Kind}
-use Rattle.model_logic.specs.Rule.{IsBroken}
+use Rattle.model_logic.specs.Rule.{BrokenBy}
 use Rattle.run_waves.specs.waves.Waves.{wave_at}
 use Rattle.run_borders.proofs.Rules.{on_unless, off_by_denial}
 use Rattle.model_history.specs.TruthLaws.{denied_unless}
@@ -13,8 +13,8 @@ returns-in-Internal c =
     let trip : ℕ → Rails = wave_at c.args.trip.now in
     let long : ℕ = length c.args.trip.now in
     let answer : Bool = not c.comes_by.result in
-    subst (λ (kind : Kind). (IsTrue answer → IsBroken kind c.args.deadline c.args.end trip)
-    × (IsBroken kind c.args.deadline c.args.end trip → IsTrue answer))
+    subst (λ (kind : Kind). (IsTrue answer → BrokenBy kind c.args.deadline c.args.end trip)
+    × (BrokenBy kind c.args.deadline c.args.end trip → IsTrue answer))
     (sym c.in-Internal.is) (
       λ on. c.comes_by.ensures.never (λ t. (trip t).may) long c.requires.deadline c.first_may.ensures.first (off_by_denial c.comes_by.result on),
       λ broken. denied_unless c.comes_by.result (λ on.
@@ -27,8 +27,8 @@ returns-in-External c =
     let trip : ℕ → Rails = wave_at c.args.trip.now in
     let long : ℕ = length c.args.trip.now in
     let answer : Bool = c.comes_before.result in
-    subst (λ (kind : Kind). (IsTrue answer → IsBroken kind c.args.deadline c.args.end trip)
-    × (IsBroken kind c.args.deadline c.args.end trip → IsTrue answer))
+    subst (λ (kind : Kind). (IsTrue answer → BrokenBy kind c.args.deadline c.args.end trip)
+    × (BrokenBy kind c.args.deadline c.args.end trip → IsTrue answer))
     (sym c.in-External.is) (
       λ on. c.comes_before.ensures.comes (λ t. (trip t).must) long c.first_must.ensures.first on,
       λ broken. on_unless c.comes_before.result (λ off. not_both _ (c.comes_before.ensures.never (λ t. (trip t).must) long c.requires.end c.first_must.ensures.first off
