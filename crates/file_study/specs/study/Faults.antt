@@ -1,5 +1,5 @@
 -- The faults of a study, with their stages and their swept times.
-use Rattle.std.specs.Prelude.{◌+◌, ◌++◌, ℕ, Bool, true, false, List, [], ◌∷◌, Option, not}
+use Rattle.std.specs.Prelude.{◌+◌, ◌++◌, ℕ, Bool, false, List, [], ◌∷◌, Option, not}
 use Rattle.std.specs.Prelude.{None, Some, Result, Ok, Err, codes, map, if◌then◌else◌}
 use Rattle.std.specs.Str.{bytes_eq}
 use Rattle.std.specs.List.{list_any}

@@ -1,5 +1,5 @@
 -- The line of a study: the table that it comes to, and where the keys of this stand in the study.
-use Rattle.std.specs.Prelude.{◌==◌, ◌++◌, ◌+◌, ℕ, Bool, false, List, [], ◌∷◌, Option, None, Some}
+use Rattle.std.specs.Prelude.{◌==◌, ◌++◌, ◌+◌, ℕ, Bool, false, List, [], ◌∷◌, Option, Some}
 use Rattle.std.specs.Prelude.{Result, Ok, map, length, pos, codes, if◌then◌else◌, true}
 use Rattle.base_memory.specs.Gives.{◌>>=◌}
 use Rattle.toml.specs.Data.{Data, string, integer, boolean, array, table, Members, Items, no_items, no_members}

@@ -8,7 +8,7 @@ use Rattle.base_text.specs.store.Number.{number_of as decimal_of}
 use Rattle.model_line.specs.declared.line.Line.{Line}
 use Rattle.file_document.specs.declared.time_fault.TimeFault.{TimeFault}
 use Rattle.file_study.specs.declared.times.{fraction.Fraction.Fraction}
-use Rattle.file_study.specs.declared.times.{time.Interval.Interval, time.Time.Time}
+use Rattle.file_study.specs.declared.times.{time.Time.Time}
 use Rattle.file_study.specs.declared.times.time.Time.TheVariants as time
 use Rattle.file_study.specs.times.Times.{is_instant, time_of}
 use Rattle.file_study.specs.declared.times.{axis_fault.AxisFault.AxisFault, axis_fault.Part.Part, steps.Steps.Steps}

@@ -13,7 +13,7 @@ use crate::study::{Stage, SweptFault};
 use crate::sweeps::choice::Choice;
 use crate::sweeps::spans::push_stage;
 use itoa::Buffer;
-use model_line::{Kind, Memory, Name, Script, SeenSpan, is_plain};
+use model_line::{ALIKE, Kind, Memory, Name, Script, SeenSpan, is_plain};
 use std::alloc::Global;
 
 /// The name of choice k of several, counted from 0: the fault's, `-` and its place, counted from 1.
@@ -54,6 +54,7 @@ pub fn script(
         name,
         kind: fault.kind,
         deadline: deadline(fault.kind, choice),
+        asks: ALIKE,
         spans,
     })
 }
