@@ -215,5 +215,5 @@ fn way_in(scene: &Scene, ends: &[Within], lane: u32, channel: u32) -> Way
 }
 
 fn decides_on_may(scene: &Scene) -> bool {
-    scene.script.kind == Kind::External
+    scene.asked.kind == Kind::External
 }

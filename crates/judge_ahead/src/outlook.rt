@@ -12,8 +12,8 @@ use crate::span::Span;
 use model_line::{Kind, Memory};
 use std::alloc::Global;
 
-/// How far a view is from meeting the obligation: for an external fault at how many ticks what sets
-/// the trip may be on; for an internal one by how many ticks the first that must trip is late. Then
+/// How far a view is from meeting the obligation: where it is not to trip, at how many ticks what sets
+/// the trip may be on; where it is, by how many ticks the first that must trip is late. Then
 /// how many pairs that the trip rests on are not known.
 #[derive(Clone, Copy, PartialEq, Eq, PartialOrd, Ord)]
 pub struct Score {
@@ -92,7 +92,7 @@ impl Outlook64 {
         if let Some(set) = scene.set() {
             let mut on = Counter64::new();
             on.add(run.pair(set).may);
-            self.set.add_times(&on, ticks);
+            self.set.add_times(&on, counted);
         }
         self.unknown.add_times(run.unknown(), counted);
         self.note_seen(scene, run, t)
@@ -139,8 +139,8 @@ impl Outlook64 {
         if holds(self.excluded, lane) {
             return true;
         }
-        match scene.script.kind {
-            Kind::Internal => self.first[lane as usize] as u32 <= scene.script.deadline,
+        match scene.asked.kind {
+            Kind::Internal => self.first[lane as usize] as u32 <= scene.asked.deadline,
             Kind::External => !holds(self.may, lane),
         }
     }
@@ -152,14 +152,14 @@ impl Outlook64 {
         if self.is_met(scene, lane) {
             return Score::MET;
         }
-        let trip = match scene.script.kind {
+        let trip = match scene.asked.kind {
             Kind::External => self.set.value(lane),
             Kind::Internal => {
                 let first = self.first[lane as usize];
                 if first == NEVER {
                     scene.line.horizon.saturating_mul(2)
                 } else {
-                    (first as u32).saturating_sub(scene.script.deadline)
+                    (first as u32).saturating_sub(scene.asked.deadline)
                 }
             }
         };

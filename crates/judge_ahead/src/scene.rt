@@ -5,7 +5,7 @@ ghost use Rattle.std.specs.Prelude.{◌≡◌, IfOk};
 use crate::lists::{at, push};
 use crate::reads::Reads;
 use crate::turns::{Turn, turns_of};
-use model_line::{Kind, Line, Memory, Script};
+use model_line::{Kind, Line, Memory, Obligation, Script, obligation_at};
 use model_logic::Time;
 use net_gates::{Gate, GateId, Net};
 use std::alloc::Global;
@@ -17,6 +17,8 @@ pub struct Scene<'a> {
     pub net: &'a Net,
     pub script: &'a Script,
     pub terminal: u32,
+    /// What the terminal is to do.
+    pub asked: Obligation,
     /// On which rails the obligation reads what.
     pub reads: Reads,
     /// Where what the script shows turns, by tick.
@@ -51,14 +53,16 @@ impl<'a> Scene<'a> {
         ensures terminal { IfOk result (λ s. s.terminal ≡ terminal) }
     {
         let trip = net.trip_gates().get(terminal as usize).copied();
+        let asked = obligation_at(line, script, terminal);
         let turns = turns_of(alloc, line, net, script)?;
-        let reads = Reads::new(alloc, line, net, script.kind, trip)?;
+        let reads = Reads::new(alloc, line, net, asked.kind, trip)?;
         let echoes = echoes_of(alloc, net, &reads)?;
         Ok(Scene {
             line,
             net,
             script,
             terminal,
+            asked,
             reads,
             turns,
             echoes,
@@ -84,9 +88,9 @@ impl<'a> Scene<'a> {
 
     /// How many of the first ticks the obligation looks at.
     pub fn counted(&self) -> u32 {
-        match self.script.kind {
-            Kind::Internal => self.script.deadline.saturating_add(1),
-            Kind::External => self.line.horizon,
+        match self.asked.kind {
+            Kind::Internal => self.asked.deadline.saturating_add(1),
+            Kind::External => self.asked.end,
         }
     }
 }

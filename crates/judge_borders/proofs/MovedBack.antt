@@ -11,7 +11,7 @@ use Rattle.model_line.specs.Seen.{is_seen, is_lost}
 use Rattle.model_line.specs.declared.script.Kind.TheVariants.{Internal, External}
 use Rattle.model_line.specs.{declared.script.Kind.Kind, declared.script.Place.Place}
 use Rattle.model_line.specs.declared.script.Script.{Script}
-use Rattle.model_logic.specs.{Choice.Choice, Histories.History, Histories.MeetsBy}
+use Rattle.model_logic.specs.{Choice.Choice, Histories.History, Histories.MetBy}
 use Rattle.model_fine.specs.Fine.{IsFineWithin}
 use Rattle.model_fine.specs.Loose.{Shown, IsBetween, IsShownHistory, loose_world_of}
 use Rattle.model_borders.specs.Later.{HistoriesShift, IsChoiceLater, shown_later, history_later}
@@ -57,7 +57,7 @@ module _ (laws : HistoryLaws) (u : ℕ → Bool) (d : ℕ) where
 
   -- what is met d ticks later is met
   back_met : (kind : Kind) (D e F E : ℕ) → F ≤ d + D → d + e ≤ E
-      → MeetsBy kind F E (λ t. delayed u d t) → MeetsBy kind D e u
+      → MetBy kind F E (λ t. delayed u d t) → MetBy kind D e u
   back_met Internal D e F E le end met =
       let comes = (laws.delays.delayed u d met.0).0 met.2 in
       let first : met.0 ≤ F = met.1 in
@@ -67,8 +67,8 @@ module _ (laws : HistoryLaws) (u : ℕ → Bool) (d : ℕ) where
       λ t lt. sym (now_later t) ∙ met (t + d) (omega (arith, lt, end))
 
   -- and what is met is met d ticks later
-  forth_met : (kind : Kind) (D e L : ℕ) → d + D ≤ L → MeetsBy kind D e u
-      → MeetsBy kind L e (λ t. delayed u d t)
+  forth_met : (kind : Kind) (D e L : ℕ) → d + D ≤ L → MetBy kind D e u
+      → MetBy kind L e (λ t. delayed u d t)
   forth_met Internal D e L le met =
       let first : met.0 ≤ D = met.1 in
       (met.0 + d, omega arith, now_later met.0 ∙ met.2)
@@ -187,7 +187,7 @@ module _ (laws : HistoryLaws) (shift : HistoriesShift) (lies : WhatIsShownLiesBe
       + fault.asked.within)
       (is_end : end ≡ fault.asked.end
       + (place - earliest_alone fault.script.now.borders.items part still)) where
-    pub held_there : Told (λ n h. MeetsBy fault.asked.kind (first * n) (end * n) (h.trip k))
+    pub held_there : Told (λ n h. MetBy fault.asked.kind (first * n) (end * n) (h.trip k))
         → RuleSays fault part k Held
     unfolding history_later where_stands
     held_there told = λ n x choice h some are inside is_h.
@@ -205,17 +205,17 @@ module _ (laws : HistoryLaws) (shift : HistoriesShift) (lies : WhatIsShownLiesBe
         (earliest_alone fault.script.now.borders.items part still) fault.asked.end
         (place - earliest_alone fault.script.now.borders.items part still) (omega arith)
         (at_place n x are) (stand.from n fault.script.now part still x are)))
-        (moved (λ m g. MeetsBy fault.asked.kind (first * m) (end * m) (g.trip k)) told n x choice h some
+        (moved (λ m g. MetBy fault.asked.kind (first * m) (end * m) (g.trip k)) told n x choice h some
         are inside is_h)
 
     pub broken_there : Told (λ n h.
-        ¬ (MeetsBy fault.asked.kind (last * n) (fault.asked.end * n) (h.trip k)))
+        ¬ (MetBy fault.asked.kind (last * n) (fault.asked.end * n) (h.trip k)))
         → RuleSays fault part k Broken
     unfolding history_later where_stands
     broken_there told = λ n x choice h some are inside is_h met.
         let d : ℕ = shift_of n x in
         let counted : ℕ = stands n fault.script.now.borders.items (length part) x fault.asked.counted in
-        moved (λ m g. ¬ (MeetsBy fault.asked.kind (last * m) (fault.asked.end * m) (g.trip k))) told n x
+        moved (λ m g. ¬ (MetBy fault.asked.kind (last * m) (fault.asked.end * m) (g.trip k))) told n x
         choice h some are inside is_h
         (forth_met laws (h.trip k) d fault.asked.kind (counted + fault.asked.within * n)
         (fault.asked.end * n) (last * n)

@@ -10,7 +10,7 @@ use Rattle.model_line.specs.declared.script.Kind.{Kind}
 use Rattle.model_line.specs.declared.script.Kind.TheVariants.{Internal, External}
 use Rattle.model_line.specs.Parameters.{channel_count, param_count, terminal_count}
 use Rattle.model_logic.specs.Choice.{Choice, IsIn, LeastFromOne}
-use Rattle.model_logic.specs.Histories.{History, MeetsBy}
+use Rattle.model_logic.specs.Histories.{History, MetBy}
 use Rattle.model_fine.specs.Cut.{cut_ends}
 use Rattle.model_fine.specs.Fine.{FineDelaysFromOne, IsFineWithin, IsSameFineHistory}
 use Rattle.model_fine.specs.Laws.{EachFineChoiceHasOneHistory}
@@ -24,7 +24,7 @@ use Rattle.judge_borders.specs.Parts.{CanAsk, MeetsAt, box_of, line_of}
 
 -- trips that are the same before the deadline is over, and before the end, meet the same
 met_same : (kind : Kind) (D E H : ℕ) (f g : ℕ → Bool) → (kind ≡ Internal → D < H) → E ≤ H
-    → ((t : ℕ) → t < H → g t ≡ f t) → MeetsBy kind D E g → MeetsBy kind D E f
+    → ((t : ℕ) → t < H → g t ≡ f t) → MetBy kind D E g → MetBy kind D E f
 met_same Internal D E H f g early end same met =
     let late : met.0 ≤ D = met.1 in
     let before : D < H = early refl in

@@ -3,7 +3,7 @@ use Rattle.std.specs.Prelude.{◌≡◌, ◌≤◌, ◌<◌, ◌+◌, ◌*◌, �
 use Rattle.model_history.specs.Rails.{Ends, single}
 use Rattle.model_line.specs.declared.line.Line.{Line}
 use Rattle.model_line.specs.Parameters.{channel_count, param_count, delay_param, terminal_count}
-use Rattle.model_logic.specs.{Choice.Choice, Choice.Box, Histories.History, Histories.MeetsBy}
+use Rattle.model_logic.specs.{Choice.Choice, Choice.Box, Histories.History, Histories.MetBy}
 use Rattle.model_fine.specs.{Fine.IsFineWithin, Loose.IsShownHistory}
 use Rattle.model_borders.specs.Borders.{stands, AreLengthsIn, shown_at}
 use Rattle.run_borders.specs.LooseRuns.{steady_box}
@@ -36,7 +36,7 @@ pub record IsPart (part : List Ends) : Type 0 where
 -- at lengths x what is asked is met by a trip, where each tick is cut into n. Internal: it is on at some fine tick
 -- up to `within` ticks behind border `counted`. External: at none before the end.
 abbrev pub MeetsAt : ℕ → (ℕ → ℕ) → Fault → ℕ → (ℕ → Bool) → Type 0
-MeetsAt n x fault lengths trip = MeetsBy fault.asked.kind
+MeetsAt n x fault lengths trip = MetBy fault.asked.kind
     (stands n fault.script.now.borders.items lengths x fault.asked.counted + fault.asked.within * n)
     (fault.asked.end * n) trip
 

@@ -2,7 +2,7 @@
 
 ghost use Rattle.std.specs.Prelude.{◌≡◌, ◌≤◌, ◌<◌, ◌*◌};
 ghost use Rattle.model_line.specs.Parameters.{terminal_count};
-ghost use Rattle.model_logic.specs.Histories.{MeetsBy};
+ghost use Rattle.model_logic.specs.Histories.{MetBy};
 ghost use Rattle.run_borders.specs.LooseRuns.{CanRun, line_of};
 ghost use Rattle.run_borders.specs.LooseWaves.{AreLooseWaves, ForEachShownHistory};
 ghost use Rattle.judge_borders.specs.declared.fault.PartRule.{PartRule};
@@ -25,9 +25,9 @@ pub(crate) fn rule_at(
     requires terminal { terminal < terminal_count (line_of run.now) }
     requires end { asked.end ≤ view.end }
     ensures held { result ≡ PartRule.Held → ForEachShownHistory run.now (λ n h.
-        MeetsBy asked.kind (view.first * n) (view.end * n) (h.trip terminal)) }
+        MetBy asked.kind (view.first * n) (view.end * n) (h.trip terminal)) }
     ensures broken { result ≡ PartRule.Broken → ForEachShownHistory run.now (λ n h.
-        ¬ (MeetsBy asked.kind (view.last * n) (asked.end * n) (h.trip terminal))) }
+        ¬ (MetBy asked.kind (view.last * n) (asked.end * n) (h.trip terminal))) }
 {
     let horizon = run.compiled.line.horizon;
     if view.first >= horizon || view.last >= horizon || view.end > horizon {

@@ -16,10 +16,11 @@ use Rattle.run_ticks.specs.cases.UnderWaves.{wave_pair}
 use Rattle.judge_verdict.specs.boxes.Terns.{terns_rails}
 use Rattle.judge_cases.specs.{declared.view.View.View, Views.view_box}
 use Rattle.judge_cases.specs.Analyses.{AnalysisOf, IsAnalysis, IsHistoryOf}
+use Rattle.model_line.specs.Asks.{AllEndInRun, obligation_of}
 
 module _ (laws : LineLaws) (line : Line) (net : NetOf) (of_line : IsNetOf line net)
     (script : Script) (k : ℕ) (there : k < terminal_count line)
-    (early : script.deadline < line.horizon) (views : List View) (a : AnalysisOf)
+    (early : AllEndInRun line.horizon script) (views : List View) (a : AnalysisOf)
     (is : IsAnalysis line net script views a) (gate : ℕ) (trip : gate ≡ trip_of net k)
     (lane : ℕ) (view : View) (w : PairHistory) (at : slice_get views lane ≡ Some view)
     (history : IsHistoryOf line script view w) where
@@ -37,17 +38,17 @@ module _ (laws : LineLaws) (line : Line) (net : NetOf) (of_line : IsNetOf line n
       ∙ sym (history.trips k t there lt)
 
   -- a bit that says whether the rule is held by the trip's values tells it of the history
-  pub held_told : (bit : Bool) → bit ≡ is_held script.kind script.deadline line.horizon told_trip
-      → Decides bit (rule_of line script (w.trip k) ≡ Held)
+  pub held_told : (bit : Bool) → bit ≡ is_held (obligation_of line script k) told_trip
+      → Decides bit (rule_of line script k (w.trip k) ≡ Held)
   held_told bit told =
-      let tested = laws.rule_tests.held script.kind script.deadline line.horizon told_trip in
-      let exact = laws.rule.held line script (w.trip k) in (
+      let tested = laws.rule_tests.held (obligation_of line script k).kind (obligation_of line script k).deadline (obligation_of line script k).end told_trip in
+      let exact = laws.rule.held line script k (w.trip k) in (
         λ on.
-            exact.1 (held_same script.kind script.deadline line.horizon told_trip (w.trip k) early
-            trips (tested.0 (sym told ∙ on))),
+            exact.1 (held_same (obligation_of line script k) line.horizon told_trip (w.trip k)
+            (early.each k) trips (tested.0 (sym told ∙ on))),
         λ rule.
-            told ∙ tested.1 (held_same script.kind script.deadline line.horizon (w.trip k) told_trip
-            early (λ t lt. sym (trips t lt)) (exact.0 rule)),
+            told ∙ tested.1 (held_same (obligation_of line script k) line.horizon (w.trip k) told_trip
+            (early.each k) (λ t lt. sym (trips t lt)) (exact.0 rule)),
       )
 
 pub or_either : (a b : Bool) → (a || b) ≡ true → (a ≡ true) ⊎ (b ≡ true)

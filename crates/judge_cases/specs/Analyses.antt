@@ -62,7 +62,7 @@ pub record TellHeld (line : Line) (script : Script) (net : NetOf) (k : ℕ) (vie
     (bits : ℕ) : Type 0 where
   pub each : (lane : ℕ) (view : View) (w : PairHistory) → slice_get views lane ≡ Some view
       → IsHistoryOf line script view w
-      → Decides (bit_on bits lane) (rule_of line script (w.trip k) ≡ Held)
+      → Decides (bit_on bits lane) (rule_of line script k (w.trip k) ≡ Held)
 
 -- the bit of each lane tells whether the obligation is shown over the view
 pub record TellShown (line : Line) (script : Script) (k : ℕ) (views : List View) (bits : ℕ)

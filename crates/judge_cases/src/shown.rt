@@ -9,6 +9,7 @@ ghost use Rattle.model_settle.specs.CaseTrees.{IsShownUnder};
 ghost use Rattle.run_signal.specs.Bits.{bit_on};
 ghost use Rattle.judge_cases.specs.Views.{IsView, AreViews, Views};
 ghost use Rattle.judge_cases.specs.Analyses.{TellEach, IsShownOf};
+ghost use Rattle.model_line.specs.Asks.{AllEndInRun};
 
 use crate::analysis::analyse;
 use crate::laws::a_view_stands_for_its_box;
@@ -27,7 +28,7 @@ pub fn is_shown(
     terminal: u32,
     view: &View,
 ) -> Result<bool, Memory>
-    requires deadline { script.now.deadline < compiled.now.line.now.horizon }
+    requires deadline { AllEndInRun compiled.now.line.now.horizon script.now }
     requires terminal { terminal < terminal_count compiled.now.line.now }
     requires view { IsView compiled.now.line.now view.now }
     ensures shown { IfOk result (λ shown.
@@ -50,7 +51,7 @@ pub fn are_shown(
     terminal: u32,
     views: &[View],
 ) -> Result<Vec<bool>, Memory>
-    requires deadline { script.now.deadline < compiled.now.line.now.horizon }
+    requires deadline { AllEndInRun compiled.now.line.now.horizon script.now }
     requires terminal { terminal < terminal_count compiled.now.line.now }
     requires views { AreViews compiled.now.line.now views.now }
     ensures { IfOk result (λ shown.
@@ -75,7 +76,7 @@ fn block_shown(
     terminal: u32,
     views: &[View],
 ) -> Result<Vec<bool>, Memory>
-    requires deadline { script.now.deadline < compiled.now.line.now.horizon }
+    requires deadline { AllEndInRun compiled.now.line.now.horizon script.now }
     requires terminal { terminal < terminal_count compiled.now.line.now }
     requires some { 1 ≤ length views.now }
     requires few { length views.now ≤ 64 }

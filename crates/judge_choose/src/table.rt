@@ -63,7 +63,7 @@ fn tell_script(
     let steps: [Step<Spans64>; 0] = [];
     let tracks = run_tracks::<Terns64>(alloc, compiled, script, spans, &steps)?;
     for k in 0..compiled.line.terminals.len() {
-        told.push(held_lanes(compiled.line, script, &tracks.trips[k]))?;
+        told.push(held_lanes(compiled.line, script, k as u32, &tracks.trips[k]))?;
     }
     Ok(())
 }

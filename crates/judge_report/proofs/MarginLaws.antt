@@ -10,13 +10,14 @@ use Rattle.model_logic.specs.Histories.{History, IsLineHistory, Meets}
 use Rattle.judge_report.specs.Margin.{IsHeldTo, IsMargin, HasNoMargin, IsLostAt, IsBracket}
 use Rattle.judge_report.specs.{Known.Known, declared.upper_end.Lost.Lost, Raised.raised}
 use Rattle.judge_report.proofs.RaisedLaws.{raised_from_one, raised_within}
+use Rattle.model_line.specs.Asks.{AllEndInRun}
 
 module _ (known : Known) (line : Line) (scripts : List Script) (param : ℕ)
     (fit : All (Fits line) scripts) where
   early : (s : ℕ) (script : Script) → slice_get scripts s ≡ Some script
-      → script.deadline < line.horizon
+      → AllEndInRun line.horizon script
   early s script at =
-      known.lines.deadlines line script (all_at (Fits line) scripts s script fit at)
+      known.lines.ends line script (all_at (Fits line) scripts s script fit at)
 
   pub held_below : (u v : ℕ) → u ≤ v → IsHeldTo line scripts param v
       → IsHeldTo line scripts param u

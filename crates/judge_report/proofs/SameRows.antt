@@ -14,22 +14,23 @@ use Rattle.judge_verdict.specs.verdict.Rules.{counted_ticks}
 use Rattle.judge_verdict.specs.verdict.RuleLaws.{rule_by_rails}
 use Rattle.judge_report.specs.ReportText.{fields_text, rule_word, row_text, script_rows}
 use Rattle.run_waves.specs.waves.FirstTickLaws.{first_on-same}
+use Rattle.model_line.specs.Asks.{AllEndInRun, obligation_of}
 
-few_ticks : (kind : Kind) (deadline horizon : ℕ) → deadline < horizon
-    → counted_ticks kind deadline horizon ≤ horizon
-few_ticks Internal deadline horizon early = omega arith
-few_ticks External deadline horizon early = omega arith
+few_ticks : (kind : Kind) (deadline end horizon : ℕ) → deadline < horizon → end ≤ horizon
+    → counted_ticks kind deadline end ≤ horizon
+few_ticks Internal deadline end horizon early last = omega arith
+few_ticks External deadline end horizon early last = last
 
 module _ (horizon : ℕ) (v w : ℕ → Rails) (same : (t : ℕ) → t < horizon → v t ≡ w t) where
-  rule_by-same : (kind : Kind) (deadline : ℕ) → deadline < horizon
-      → rule_by kind deadline horizon v ≡ rule_by kind deadline horizon w
-  rule_by-same kind deadline early =
-      let n : ℕ = counted_ticks kind deadline horizon in
-      let few : n ≤ horizon = few_ticks kind deadline horizon early in
+  rule_by-same : (kind : Kind) (deadline end : ℕ) → deadline < horizon → end ≤ horizon
+      → rule_by kind deadline end v ≡ rule_by kind deadline end w
+  rule_by-same kind deadline end early last =
+      let n : ℕ = counted_ticks kind deadline end in
+      let few : n ≤ horizon = few_ticks kind deadline end horizon early last in
       let must : Bool = some_below (λ t. (v t).must) n in
       let may : Bool = some_below (λ t. (v t).may) n in
-      sym (rule_by_rails kind deadline horizon v must may refl refl)
-      ∙ rule_by_rails kind deadline horizon w must may
+      sym (rule_by_rails kind deadline end v must may refl refl)
+      ∙ rule_by_rails kind deadline end w must may
       (some_below-same (λ t. (v t).must) (λ t. (w t).must) n
       (λ t lt. ap must_of (same t (omega arith))))
       (some_below-same (λ t. (v t).may) (λ t. (w t).may) n
@@ -48,7 +49,7 @@ row_with-same line script k may may' must must' rule rule' a b r =
     ∙ ap (λ (o : Option ℕ). row_with line script k may' o rule) b
     ∙ ap (row_with line script k may' must') r
 
-row_text-same : (line : Line) (script : Script) → script.deadline < line.horizon
+row_text-same : (line : Line) (script : Script) → AllEndInRun line.horizon script
     → (k : ℕ) (v w : ℕ → Rails) → ((t : ℕ) → t < line.horizon → v t ≡ w t)
     → row_text line script k v ≡ row_text line script k w
 row_text-same line script early k v w same =
@@ -56,9 +57,11 @@ row_text-same line script early k v w same =
     (first_on-same (λ t. (v t).may) (λ t. (w t).may) line.horizon (λ t lt. ap may_of (same t lt)))
     (first_on-same (λ t. (v t).must) (λ t. (w t).must) line.horizon
     (λ t lt. ap must_of (same t lt)))
-    (rule_by-same line.horizon v w same script.kind script.deadline early)
+    (rule_by-same line.horizon v w same (obligation_of line script k).kind
+    (obligation_of line script k).deadline (obligation_of line script k).end
+    (early.each k).deadline (early.each k).end)
 
-pub script_rows-same : (line : Line) (script : Script) → script.deadline < line.horizon
+pub script_rows-same : (line : Line) (script : Script) → AllEndInRun line.horizon script
     → (v w : PairHistory) → IsSamePairHistory line v w
     → script_rows line script v ≡ script_rows line script w
 script_rows-same line script early v w same =

@@ -5,7 +5,7 @@ use Rattle.std.specs.List.{concat}
 use Rattle.model_history.specs.Each.{each_below}
 use Rattle.model_history.specs.Rails.{Rails}
 use Rattle.model_line.specs.{declared.script.Script.Script, declared.line.Line.Line}
-use Rattle.model_line.specs.Parameters.{terminal_count}
+use Rattle.model_line.specs.{Parameters.terminal_count, Asks.obligation_of}
 use Rattle.model_logic.specs.Rule.{Rule, Held, Broken, Unknown, rule_of}
 use Rattle.model_logic.specs.Histories.{PairHistory, IsPairHistory}
 use Rattle.model_logic.specs.Choice.{declared_box}
@@ -36,21 +36,23 @@ margin_text (Some margin) = signed_decimal margin
 abbrev pub field : List ℕ → List ℕ
 field bytes = bytes ++ codes ","
 
--- the first eight fields of a row whose trip may first come, and must have come, at these ticks
+-- the first eight fields of a row whose trip may first come, and must have come, at these ticks; its
+-- deadline is that of the terminal's obligation
 abbrev pub fields_text : Line → Script → ℕ → Option ℕ → Option ℕ → List ℕ
 fields_text line script k may must =
+    let asked = obligation_of line script k in
     field script.name ++ field (kind_text script.kind) ++ field (terminal_name line k)
     ++ field (tick_text may) ++ field (tick_text must)
-    ++ field (tick_text (deadline_of script.kind script.deadline))
-    ++ field (margin_text (margin_of script.kind script.deadline must))
-    ++ field (margin_text (margin_us_of script.kind script.deadline line.tick_us must))
+    ++ field (tick_text (deadline_of asked.kind asked.deadline))
+    ++ field (margin_text (margin_of asked.kind asked.deadline must))
+    ++ field (margin_text (margin_us_of asked.kind asked.deadline line.tick_us must))
 
 -- the row of a script and a terminal whose trip has these pairs
 abbrev pub row_text : Line → Script → ℕ → (ℕ → Rails) → List ℕ
 row_text line script k trip =
     fields_text line script k
     (first_on (λ t. (trip t).may) line.horizon) (first_on (λ t. (trip t).must) line.horizon)
-    ++ rule_word (rule_of line script trip) ++ codes "\n"
+    ++ rule_word (rule_of line script k trip) ++ codes "\n"
 
 -- the rows of a script over its interval history, terminals in line order
 abbrev pub script_rows : Line → Script → PairHistory → List ℕ

@@ -99,8 +99,8 @@ fn is_held(line: &Line, script: &Script, waves: &PairWaves, terminal: u32) -> bo
     requires terminal { terminal < waves.now.terminals }
     requires horizon { waves.now.horizon ≡ line.now.horizon }
     ensures held { IsTrue result →
-        rule_of line.now script.now ((pair_history waves.now).trip terminal) ≡ Held }
-    ensures not_held { rule_of line.now script.now ((pair_history waves.now).trip terminal) ≡ Held →
+        rule_of line.now script.now terminal ((pair_history waves.now).trip terminal) ≡ Held }
+    ensures not_held { rule_of line.now script.now terminal ((pair_history waves.now).trip terminal) ≡ Held →
         IsTrue result }
 {
     match judge(waves, script, terminal) {

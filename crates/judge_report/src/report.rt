@@ -9,10 +9,11 @@ ghost use Rattle.model_logic.specs.Choice.{declared_box};
 ghost use Rattle.judge_verdict.specs.verdict.PairWavesOf.{pair_history};
 ghost use Rattle.judge_report.specs.ReportText.{script_rows, report_text_of, AreHistories};
 ghost use Rattle.judge_report.specs.ReportText.{IsReportText};
+ghost use Rattle.model_line.specs.Asks.{AllEndInRun};
 
 use crate::rows::push_row;
 use judge_verdict::verdict::{PairWaves, analyse};
-use model_line::laws::deadlines_are_below_the_horizon;
+use model_line::laws::obligations_end_in_the_run;
 use model_line::{Line, Memory, Script};
 use model_logic::laws::{each_box_has_one_interval_history, each_line_has_a_choice_inside};
 use net_gates::Compiled;
@@ -61,7 +62,7 @@ pub fn report_rows(
         IsPairHistory compiled.now.line.now script.now (declared_box compiled.now.line.now) w →
         text.items ≡ script_rows compiled.now.line.now script.now w) }
 {
-    deadlines_are_below_the_horizon();
+    obligations_end_in_the_run();
     let waves = analyse(alloc, compiled, script)?;
     let mut text = Vec::new(alloc);
     push_rows(&mut text, compiled.line, script, &waves)?;
@@ -77,7 +78,7 @@ fn push_rows(
 ) -> Result<(), Memory>
     requires terminals { waves.now.terminals ≡ terminal_count line.now }
     requires horizon { waves.now.horizon ≡ line.now.horizon }
-    requires deadline { script.now.deadline < line.now.horizon }
+    requires deadline { AllEndInRun line.now.horizon script.now }
     ensures { OnOk result (text.new.items
         ≡ text.old.items ++ script_rows line.now script.now (pair_history waves.now)) }
 {

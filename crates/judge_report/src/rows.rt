@@ -5,11 +5,12 @@ ghost use Rattle.model_line.specs.Parameters.{terminal_count};
 ghost use Rattle.judge_verdict.specs.{verdict.PairWavesOf.pair_history, verdict.Rules.rule_named};
 ghost use Rattle.judge_report.specs.ReportText.{rule_word as word_of_rule, field, tick_text};
 ghost use Rattle.judge_report.specs.ReportText.{margin_text, fields_text, row_text};
+ghost use Rattle.model_line.specs.Asks.{AllEndInRun};
 
 use crate::margins::{deadline, margin, margin_us};
 use itoa::Buffer;
 use judge_verdict::verdict::{PairWaves, Rule, judge};
-use model_line::{Line, Memory, Script, kind_word};
+use model_line::{Line, Memory, Script, kind_word, obligation_at};
 
 /// `held`, `broken` or `unknown`.
 pub fn rule_word(rule: Rule) -> &'static [u8]
@@ -62,7 +63,7 @@ pub fn push_row(
     requires terminal { k < terminal_count line.now }
     requires terminals { waves.now.terminals ≡ terminal_count line.now }
     requires horizon { waves.now.horizon ≡ line.now.horizon }
-    requires deadline { script.now.deadline < line.now.horizon }
+    requires deadline { AllEndInRun line.now.horizon script.now }
     ensures { OnOk result (text.new.items
         ≡ text.old.items ++ row_text line.now script.now k ((pair_history waves.now).trip k)) }
 {
@@ -85,22 +86,22 @@ fn push_fields(
     first_must: Option<u32>,
 ) -> Result<(), Memory>
     requires terminal { k < terminal_count line.now }
-    requires deadline { script.now.deadline ≤ 4000 }
+    requires deadline { AllEndInRun line.now.horizon script.now }
     requires first { IfSome first_must (λ first. first ≤ 4000) }
     ensures { OnOk result (text.new.items
         ≡ text.old.items ++ fields_text line.now script.now k first_may first_must) }
 {
-    let kind = script.kind;
+    let asked = obligation_at(line, script, k as u32);
     push_field(text, script.name.bytes())?;
-    push_field(text, kind_word(kind))?;
+    push_field(text, kind_word(script.kind))?;
     push_field(text, line.terminals[k].name.bytes())?;
     push_tick(text, first_may)?;
     push_tick(text, first_must)?;
-    push_tick(text, deadline(kind, script.deadline))?;
-    push_margin(text, margin(kind, script.deadline, first_must))?;
+    push_tick(text, deadline(asked.kind, asked.deadline))?;
+    push_margin(text, margin(asked.kind, asked.deadline, first_must))?;
     push_margin(
         text,
-        margin_us(kind, script.deadline, first_must, line.tick_us),
+        margin_us(asked.kind, asked.deadline, first_must, line.tick_us),
     )?;
     Ok(())
 }

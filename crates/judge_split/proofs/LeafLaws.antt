@@ -15,6 +15,7 @@ use Rattle.model_history.specs.ListLaws.{at_append, before_append, after_append}
 use Rattle.judge_split.specs.Leaves.{Leaf, leaves, Splits}
 use Rattle.judge_split.specs.Leaves.{LiesInOne, AllHeld}
 use Rattle.judge_split.specs.{Known.Known, Trees.SplitTree, Trees.Yes, Trees.Undecided, Trees.Split}
+use Rattle.model_line.specs.Asks.{AllEndInRun}
 
 one_only : (leaf other : Leaf) (i : ℕ) → slice_get (leaf ∷ []) i ≡ Some other → i ≡ 0
 one_only leaf other zero e = refl
@@ -181,7 +182,7 @@ leaf_delays line (Split param mid first second) box d i leaf at =
 
 -- rules that are held over all leaves speak for each choice in the box
 pub held_leaves : Known → (line : Line) (script : Script) (k : ℕ) (box : Box) (tree : SplitTree)
-    → script.deadline < line.horizon → k < terminal_count line → LeastFromOne line box
+    → AllEndInRun line.horizon script → k < terminal_count line → LeastFromOne line box
     → Splits line box tree → AllHeld line script k (leaves box tree)
     → (choice : Choice) (h : History) → IsWithin line choice box
     → IsLineHistory line script choice h → Meets line script k h

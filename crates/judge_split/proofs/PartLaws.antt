@@ -17,6 +17,7 @@ use Rattle.model_timing.specs.Timing.{TimingValues, number_at}
 use Rattle.model_timing.specs.{declared.step.Step.Step, Inside.IsStepInside, Choice.timing_choice}
 use Rattle.judge_verdict.specs.verdict.Verdicts.{IsRefutation}
 use Rattle.judge_split.specs.Known.{Known}
+use Rattle.model_line.specs.Asks.{obligation_over}
 
 module _ (known : Known) (line other : Line) (param least greatest : ℕ)
     (here : param < param_count line) (is : IsWithBounds line param least greatest other) where
@@ -65,7 +66,7 @@ module _ (known : Known) (line other : Line) (param least greatest : ℕ)
   meets_same : (script : Script) (k : ℕ) (h : History) → Meets line script k h
       → Meets other script k h
   meets_same script k h meets =
-      subst (λ (n : ℕ). MeetsBy script.kind script.deadline n (h.trip k)) (sym is.rest.horizon)
+      subst (λ (n : ℕ). MeetsBy (obligation_over n script k) (h.trip k)) (sym is.rest.horizon)
       meets
 
   pub part_refutes : IsPartOf part (declared_ends line param) → (script : Script) (k : ℕ)

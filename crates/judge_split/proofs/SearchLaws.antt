@@ -14,7 +14,7 @@ use Rattle.model_logic.specs.RuleLaws.{same_meets}
 use Rattle.model_timing.specs.{Timing.TimingValues, Choice.timing_choice, Candidates.candidate}
 use Rattle.judge_verdict.specs.declared.verdict.verdict.Verdict.TheVariants as verdict
 use Rattle.judge_verdict.specs.verdict.Verdicts.{IsRefutation, IsRefuted}
-use Rattle.judge_split.specs.Trees.{SplitTree, Yes, are_yes, is_decided}
+use Rattle.judge_split.specs.Trees.{SplitTree, are_yes, is_decided}
 use Rattle.judge_split.specs.Search.{Found, Tree, Fails, IsVerdictOf, IsSplitAt, IsLower, IsUpper}
 use Rattle.judge_split.specs.Search.{IsSearch, yes, no, deepest, narrow, first_fails, second_fails}
 use Rattle.judge_split.specs.Search.{split}
@@ -25,6 +25,8 @@ use Rattle.judge_split.proofs.WidthLaws.{middle_inside}
 use Rattle.judge_split.proofs.PartLaws.{part_refutes}
 use Rattle.judge_split.specs.TreeLaws.{decided_yes}
 use Rattle.judge_split.specs.WidthLaws.{split_no_delay}
+use Rattle.model_line.specs.Asks.{AllEndInRun}
+use Rattle.model_line.specs.Asks.{obligation_over}
 
 -- the number of a parameter lies in its interval
 number_inside : (line : Line) (param : ℕ) → param < param_count line → (choice : Choice)
@@ -38,7 +40,7 @@ module _ (known : Known) (script : Script) (k : ℕ) where
   AllMeet line = (choice : Choice) (h : History) → IsInside line choice
       → IsLineHistory line script choice h → Meets line script k h
 
-  yes_meets : (line : Line) → script.deadline < line.horizon → k < terminal_count line
+  yes_meets : (line : Line) → AllEndInRun line.horizon script → k < terminal_count line
       → IsVerdictOf line script k verdict.Yes → AllMeet line
   yes_meets line early kn said choice h inside is_h =
       let (w, is_w) =
@@ -47,7 +49,7 @@ module _ (known : Known) (script : Script) (k : ℕ) where
       known.lines.every_choice.held line script (declared_box line) w k early
       (known.lines.inside.declared line) is_w kn (said w is_w) choice h inside is_h
 
-  no_refutes : (line : Line) (timing : TimingValues) → script.deadline < line.horizon
+  no_refutes : (line : Line) (timing : TimingValues) → AllEndInRun line.horizon script
       → k < terminal_count line → IsVerdictOf line script k (verdict.No timing)
       → IsRefutation line script k timing
   no_refutes line timing early kn said =
@@ -103,7 +105,7 @@ module _ (known : Known) (script : Script) (k : ℕ) where
         number_inside line param at.widest.exists choice inside in
         ⊎_elim
         (λ above.
-        subst (λ (n : ℕ). MeetsBy script.kind script.deadline n (h.trip k))
+        subst (λ (n : ℕ). MeetsBy (obligation_over n script k) (h.trip k))
         is_upper.rest.horizon
         (upper choice h
         (known.changed.choices line second param (declared_middle line param + 1)
@@ -111,7 +113,7 @@ module _ (known : Known) (script : Script) (k : ℕ) where
         inside (record { least = omega arith; greatest = own.greatest }))
         ((known.histories.choices line second script choice h is_upper.rest).1 is_h)))
         (λ low.
-        subst (λ (n : ℕ). MeetsBy script.kind script.deadline n (h.trip k))
+        subst (λ (n : ℕ). MeetsBy (obligation_over n script k) (h.trip k))
         is_lower.rest.horizon
         (lower choice h
         (known.changed.choices line first param (declared_ends line param).least (declared_middle line param)
@@ -121,9 +123,9 @@ module _ (known : Known) (script : Script) (k : ℕ) where
         (cases_lt (declared_middle line param) (choice.number param))
 
   still_early : (line other : Line) → SameButParams line other
-      → script.deadline < line.horizon → script.deadline < other.horizon
+      → AllEndInRun line.horizon script → AllEndInRun other.horizon script
   still_early line other same early =
-      subst (λ (n : ℕ). script.deadline < n) (sym same.horizon) early
+      subst (λ (n : ℕ). AllEndInRun n script) (sym same.horizon) early
 
   still_there : (line other : Line) → SameButParams line other
       → k < terminal_count line → k < terminal_count other
@@ -136,7 +138,7 @@ module _ (known : Known) (script : Script) (k : ℕ) where
   Says line (Fails timing) = IsRefutation line script k timing
 
   says : (n : ℕ) (line : Line) (found : Found) → IsSearch script k n line found
-      → script.deadline < line.horizon → k < terminal_count line → Says line found
+      → AllEndInRun line.horizon script → k < terminal_count line → Says line found
   says _ _ _ (yes n line said) early kn = λ all. yes_meets line early kn said
   says _ _ _ (no n line timing said) early kn = no_refutes line timing early kn said
   says _ _ _ (deepest line said) early kn = λ all. absurd (cc)
@@ -161,18 +163,18 @@ module _ (known : Known) (script : Script) (k : ℕ) where
       (says n second (Tree upper) above (still_early line second is_upper.rest early)
       (still_there line second is_upper.rest kn) each.1)
 
-  pub yes_speaks : (n : ℕ) (line : Line) (tree : SplitTree) → script.deadline < line.horizon
+  pub yes_speaks : (n : ℕ) (line : Line) (tree : SplitTree) → AllEndInRun line.horizon script
       → k < terminal_count line → IsSearch script k n line (Tree tree) → IsTrue (are_yes tree)
       → AllMeet line
   yes_speaks n line tree early kn found all = says n line (Tree tree) found early kn all
 
   pub fails_refutes : (n : ℕ) (line : Line) (timing : TimingValues)
-      → script.deadline < line.horizon → k < terminal_count line
+      → AllEndInRun line.horizon script → k < terminal_count line
       → IsSearch script k n line (Fails timing) → IsRefutation line script k timing
   fails_refutes n line timing early kn found = says n line (Fails timing) found early kn
 
   -- an outcome without an undecided leaf
-  pub all_yes_speaks : (n : ℕ) (line : Line) (found : Outcome) → script.deadline < line.horizon
+  pub all_yes_speaks : (n : ℕ) (line : Line) (found : Outcome) → AllEndInRun line.horizon script
       → k < terminal_count line → IsFound line script k n found → IsAllYes found → AllMeet line
   all_yes_speaks n line (outcome.Tree nodes) early kn is all =
       yes_speaks n line is.tree early kn is.found

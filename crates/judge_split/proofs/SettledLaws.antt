@@ -17,6 +17,7 @@ use Rattle.judge_split.specs.{Known.Known, Quiet.IsCorner, Quiet.AreCorners, Qui
 use Rattle.model_history.specs.Recorded.{at as is_wide}
 use Rattle.judge_split.specs.{Quiet.AreSettled, Quiet.number_of, Quiet.corner_number}
 use Rattle.judge_split.proofs.QuietLaws.{yes_or_no, candidate_corner}
+use Rattle.model_line.specs.Asks.{AllEndInRun}
 
 -- what is the same as a line but for the intervals is so of one another
 pub between : (line a b : Line) → SameButParams line a → SameButParams line b → SameButParams a b
@@ -81,14 +82,14 @@ module _ (known : Known) (line : Line) (wide : List Bool) (part corner : Line)
     }
 
 pub settled_by_corners : Known → (line : Line) (script : Script) (k : ℕ) (wide : List Bool)
-    (corners : List Line) → script.deadline < line.horizon → k < terminal_count line
+    (corners : List Line) → AllEndInRun line.horizon script → k < terminal_count line
     → AreCorners line wide (param_count line + 1) corners
     → ((j : ℕ) (corner : Line) → slice_get corners j ≡ Some corner → IsHeldOf script k corner)
     → AreSettled script k line wide
 settled_by_corners known line script k wide corners early kn are held = record {
   undecided = λ part same narrowed not_held w is_w.
-      let early' : script.deadline < part.horizon =
-      subst (λ (n : ℕ). script.deadline < n) (sym same.horizon) early in
+      let early' : AllEndInRun part.horizon script =
+      subst (λ (n : ℕ). AllEndInRun n script) (sym same.horizon) early in
       let kn' : k < terminal_count part =
       subst (λ (n : ℕ). k < n) (sym (known.counts.terminals line part same)) kn in
       record {
@@ -118,7 +119,7 @@ settled_by_corners known line script k wide corners early kn are held = record {
 
 -- so it is where each corner is told to be held
 pub settled_if_quiet : Known → (line : Line) (script : Script) (k : ℕ) (wide : List Bool)
-    (corners : List Line) (quiet : List Bool) → script.deadline < line.horizon
+    (corners : List Line) (quiet : List Bool) → AllEndInRun line.horizon script
     → k < terminal_count line → AreCorners line wide (param_count line + 1) corners
     → TellHeld script k corners quiet
     → ((i : ℕ) (b : Bool) → slice_get quiet i ≡ Some b → IsTrue b) → AreSettled script k line wide

@@ -25,6 +25,7 @@ use Rattle.judge_split.proofs.WidthLaws.{middle_inside}
 use Rattle.model_history.specs.ListLaws.{at_append}
 use Rattle.judge_split.proofs.LeafLaws.{held_leaves}
 use Rattle.judge_split.specs.WidthLaws.{split_no_delay}
+use Rattle.model_line.specs.Asks.{AllEndInRun}
 
 -- ---- boxes that are the same
 
@@ -224,7 +225,7 @@ sound_leaves line script k (Split param mid first second) box sound all i leaf a
     (leaves (upper_half box param mid) second) i leaf at)
 
 pub sound_yes_meets : Known → (line : Line) (script : Script) (k : ℕ) (box : Box) (tree : SplitTree)
-    → script.deadline < line.horizon → k < terminal_count line → LeastFromOne line box
+    → AllEndInRun line.horizon script → k < terminal_count line → LeastFromOne line box
     → IsSoundSplit line script k box tree → IsTrue (are_yes tree)
     → (choice : Choice) (h : History) → IsWithin line choice box
     → IsLineHistory line script choice h → Meets line script k h

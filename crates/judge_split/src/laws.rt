@@ -12,6 +12,7 @@ ghost use Rattle.judge_split.specs.Trees.{SplitTree, height, are_yes};
 ghost use Rattle.judge_split.specs.Search.{Tree, Fails, IsSearch};
 ghost use Rattle.judge_split.specs.Leaves.{leaves, Splits, LiesInOne, AllHeld, IsSoundSplit};
 ghost use Rattle.judge_split.specs.Laws.{APartStandsForItsBox, MiddlesAreBelowTheGreatestInterval};
+ghost use Rattle.model_line.specs.Asks.{AllEndInRun};
 
 use crate::known::laws_below;
 
@@ -28,7 +29,7 @@ pub fn each_choice_lies_in_one_leaf()
 /// in the box that is split meets it.
 pub fn leaves_that_are_held_speak_for_every_choice()
     ensures { (line : Line) (script : Script) (k : ℕ) (box : Box) (tree : SplitTree) →
-        script.deadline < line.horizon → k < terminal_count line → LeastFromOne line box →
+        AllEndInRun line.horizon script → k < terminal_count line → LeastFromOne line box →
         Splits line box tree → AllHeld line script k (leaves box tree) →
         (choice : Choice) (h : History) → IsWithin line choice box →
         IsLineHistory line script choice h → Meets line script k h }
@@ -40,7 +41,7 @@ pub fn leaves_that_are_held_speak_for_every_choice()
 /// declared intervals meets the obligation.
 pub fn a_tree_that_is_yes_speaks_for_every_choice()
     ensures { (line : Line) (script : Script) (k n : ℕ) (tree : SplitTree) →
-        script.deadline < line.horizon → k < terminal_count line →
+        AllEndInRun line.horizon script → k < terminal_count line →
         IsSearch script k n line (Tree tree) → IsTrue (are_yes tree) →
         (choice : Choice) (h : History) → IsInside line choice →
         IsLineHistory line script choice h → Meets line script k h }
@@ -52,7 +53,7 @@ pub fn a_tree_that_is_yes_speaks_for_every_choice()
 /// obligation.
 pub fn what_fails_in_a_part_fails()
     ensures { (line : Line) (script : Script) (k n : ℕ) (timing : TimingValues) →
-        script.deadline < line.horizon → k < terminal_count line →
+        AllEndInRun line.horizon script → k < terminal_count line →
         IsSearch script k n line (Fails timing) → IsRefutation line script k timing }
 {
     laws_below();
@@ -72,7 +73,7 @@ pub fn what_a_search_finds_is_sound()
 /// meets the obligation, however the tree was found.
 pub fn a_sound_tree_that_is_yes_speaks_for_every_choice()
     ensures { (line : Line) (script : Script) (k : ℕ) (box : Box) (tree : SplitTree) →
-        script.deadline < line.horizon → k < terminal_count line → LeastFromOne line box →
+        AllEndInRun line.horizon script → k < terminal_count line → LeastFromOne line box →
         IsSoundSplit line script k box tree → IsTrue (are_yes tree) →
         (choice : Choice) (h : History) → IsWithin line choice box →
         IsLineHistory line script choice h → Meets line script k h }

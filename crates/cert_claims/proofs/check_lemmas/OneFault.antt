@@ -24,6 +24,7 @@ use Rattle.run_waves.specs.derived.Claims.{pairs_of}
 use Rattle.run_waves.specs.derived.FirstLaws.{first_failing_once}
 use Rattle.cert_claims.specs.check.MetLaws.{met_once, outside_once}
 use Rattle.cert_claims.proofs.check_lemmas.Refusal.{HaveHistories, verdict_refused}
+use Rattle.model_line.specs.Asks.{obligation_of}
 
 -- ---- keys
 
@@ -82,7 +83,8 @@ module _ (line : Line) (script : Script) (have : HaveHistories line script) (k :
       → IsMetInside line script k values r → t ≡ r
   passes_once values t r a b =
       let h = have values a.inside in
-      met_once script.kind script.deadline line.horizon (h.0.trip k) t r (a.passes h.0 h.1)
+      met_once (obligation_of line script k).kind (obligation_of line script k).deadline
+      (obligation_of line script k).end (h.0.trip k) t r (a.passes h.0 h.1)
       (b.passes h.0 h.1)
 
   pub no_once : (values : List ℕ) (f g : NoFault) → IsNoFault line script k values f
@@ -103,7 +105,7 @@ module _ (line : Line) (script : Script) (have : HaveHistories line script) (k :
   wrong_no_once undecided f g a b = absurd a
 
   yes_or_no : (trip : ℕ → Rails) (verdict : Verdict) (f : NoFault)
-      → IsNotHeld line script trip verdict → IsWrongNo line script k verdict f → ⊥
+      → IsNotHeld line script k trip verdict → IsWrongNo line script k verdict f → ⊥
   yes_or_no trip yes f a b = b
   yes_or_no trip (no values) f a b = a
   yes_or_no trip undecided f a b = a

@@ -14,6 +14,7 @@ use Rattle.cert_claims.specs.check.Verdicts.{IsSupported, IsNotHeld, IsWrongNo, 
 use Rattle.cert_claims.specs.check.Verdicts.{IsFirstVerdictFault, IsFirstFault, AreAccepted}
 use Rattle.cert_claims.specs.check.NoFaults.{IsNoFault}
 use Rattle.cert_claims.specs.check.MetLaws.{met_meets}
+use Rattle.model_line.specs.Asks.{obligation_of}
 
 -- numbers that are inside have a history
 abbrev pub HaveHistories : Line → Script → Type 0
@@ -28,7 +29,8 @@ passes_or_fails : (line : Line) (script : Script) → HaveHistories line script 
 passes_or_fails line script have k values t met refuted =
     let h = have values met.inside in
     refuted.fails h.0 h.1
-    (met_meets script.kind script.deadline line.horizon (h.0.trip k) t (met.passes h.0 h.1))
+    (met_meets (obligation_of line script k).kind (obligation_of line script k).deadline
+    (obligation_of line script k).end (h.0.trip k) t (met.passes h.0 h.1))
 
 module _ (line : Line) (script : Script) (have : HaveHistories line script) (k : ℕ) where
   pub no_refused : (values : List ℕ) (fault : NoFault) → IsNoFault line script k values fault
@@ -37,7 +39,7 @@ module _ (line : Line) (script : Script) (have : HaveHistories line script) (k :
       h.first.fails (refuted.inside.values i h.first.inside)
   no_refused values (Passes t) h refuted = passes_or_fails line script have k values t h refuted
 
-  not_held_refused : (trip : ℕ → Rails) (verdict : Verdict) → IsNotHeld line script trip verdict
+  not_held_refused : (trip : ℕ → Rails) (verdict : Verdict) → IsNotHeld line script k trip verdict
       → IsSupported line script k trip verdict → ⊥
   not_held_refused trip yes h held = h held
   not_held_refused trip (no values) h refuted = h

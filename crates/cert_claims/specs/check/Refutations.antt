@@ -9,6 +9,8 @@ use Rattle.model_logic.specs.Choice.{Choice, IsIn}
 use Rattle.model_timing.specs.{Timing.TimingValues, Inside.IsTimingInside, Choice.timing_choice}
 use Rattle.run_waves.specs.waves.FirstTick.{IsFirstOnAt, IsOffFrom}
 use Rattle.run_waves.specs.derived.Firsts.{IsFirstFailing}
+use Rattle.model_line.specs.Asks.{obligation_of}
+use Rattle.model_line.specs.declared.asks.Obligation.{Obligation}
 
 -- one number for each parameter: a timing whose delays stay as they are
 abbrev pub steady_timing : List ℕ → TimingValues
@@ -26,17 +28,21 @@ abbrev pub FailsAt : Line → Script → ℕ → List ℕ → Type 0
 FailsAt line script k values =
     (h : History) → IsLineHistory line script (choice_of line values) h → ¬ (Meets line script k h)
 
--- the obligation is met, and this is the tick that shows it. Internal: the first tick of the trip,
--- which comes by the deadline. External: the horizon, up to which there is no trip.
-abbrev pub IsMetAt : Kind → ℕ → ℕ → (ℕ → Bool) → ℕ → Type 0
-IsMetAt Internal deadline horizon trip t = IsFirstOnAt trip 0 (suc deadline) t
-IsMetAt External deadline horizon trip t = (t ≡ horizon) × IsOffFrom trip 0 horizon
+-- what is asked is met, and this is the tick that shows it. Internal: the first tick of the trip,
+-- which comes by the deadline. External: the end, before which there is no trip.
+abbrev pub MetAt : Kind → ℕ → ℕ → (ℕ → Bool) → ℕ → Type 0
+MetAt Internal deadline end trip t = IsFirstOnAt trip 0 (suc deadline) t
+MetAt External deadline end trip t = (t ≡ end) × IsOffFrom trip 0 end
+
+-- an obligation is
+abbrev pub IsMetAt : Obligation → (ℕ → Bool) → ℕ → Type 0
+IsMetAt asked trip t = MetAt asked.kind asked.deadline asked.end trip t
 
 -- the history at the numbers meets it, as this tick shows
 abbrev pub PassesAt : Line → Script → ℕ → List ℕ → ℕ → Type 0
 PassesAt line script k values t =
     (h : History) → IsLineHistory line script (choice_of line values) h
-    → IsMetAt script.kind script.deadline line.horizon (h.trip k) t
+    → IsMetAt (obligation_of line script k) (h.trip k) t
 
 -- the numbers are inside the declared intervals, and their history fails the obligation
 pub record IsRefutation (line : Line) (script : Script) (k : ℕ) (values : List ℕ) : Type 0 where

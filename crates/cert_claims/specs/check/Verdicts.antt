@@ -41,15 +41,15 @@ pub record IsFirstUncovered (line : Line) (script : Script) (claims : PairSignal
 -- the verdict of terminal k stands, where its trip has these pairs: a `yes` is held, a `no` is
 -- refuted by its numbers, and an `undecided` owes nothing
 abbrev pub IsSupported : Line → Script → ℕ → (ℕ → Rails) → Verdict → Type 0
-IsSupported line script k trip yes = rule_of line script trip ≡ Held
+IsSupported line script k trip yes = rule_of line script k trip ≡ Held
 IsSupported line script k trip (no values) = IsRefutation line script k values
 IsSupported line script k trip undecided = Unit {0}
 
 -- it is a `yes` that is not held
-abbrev pub IsNotHeld : Line → Script → (ℕ → Rails) → Verdict → Type 0
-IsNotHeld line script trip yes = ¬ (rule_of line script trip ≡ Held)
-IsNotHeld line script trip (no values) = ⊥
-IsNotHeld line script trip undecided = ⊥
+abbrev pub IsNotHeld : Line → Script → ℕ → (ℕ → Rails) → Verdict → Type 0
+IsNotHeld line script k trip yes = ¬ (rule_of line script k trip ≡ Held)
+IsNotHeld line script k trip (no values) = ⊥
+IsNotHeld line script k trip undecided = ⊥
 
 -- it is a `no`, and this is wrong with its numbers
 abbrev pub IsWrongNo : Line → Script → ℕ → Verdict → NoFault → Type 0
@@ -60,7 +60,7 @@ IsWrongNo line script k undecided fault = ⊥
 -- what is wrong with the verdict of terminal k
 abbrev pub IsFaultOf : Line → Script → ℕ → (ℕ → Rails) → Verdict → ClaimFault → Type 0
 IsFaultOf line script k trip verdict (NotCovered u) = ⊥
-IsFaultOf line script k trip verdict (NotHeld j) = (j ≡ k) × IsNotHeld line script trip verdict
+IsFaultOf line script k trip verdict (NotHeld j) = (j ≡ k) × IsNotHeld line script k trip verdict
 IsFaultOf line script k trip verdict (No j fault) = (j ≡ k) × IsWrongNo line script k verdict fault
 
 -- each verdict stands, by the trips that follow from the claims

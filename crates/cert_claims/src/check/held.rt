@@ -2,22 +2,22 @@
 
 ghost use Rattle.std.specs.Prelude.{◌≡◌, ◌<◌, ◌≤◌, ℕ, Bool, IsTrue, IsFalse, length};
 ghost use Rattle.std.specs.Bool.{Decides};
+ghost use Rattle.model_line.specs.Asks.{EndsInRun};
 ghost use Rattle.model_logic.specs.Rule.{IsHeld};
 ghost use Rattle.run_waves.specs.{waves.FirstTick.first_on, waves.Waves.wave_at};
 
-use model_line::{Kind, Script};
+use model_line::{Kind, Obligation};
 use run_waves::waves::{Runs, first_may, first_must, the_first_tick_is_the_least};
 
 /// Whether the rule is held. Internal: the trip must come at some tick up to the deadline.
-/// External: it may come at none.
-pub fn is_held(script: &Script, trip: &Runs) -> bool
-    requires { script.now.deadline < length trip.now }
-    ensures { Decides result
-        (IsHeld script.now.kind script.now.deadline (length trip.now) (wave_at trip.now)) }
+/// External: it may come at none before the end.
+pub fn is_held(asked: Obligation, trip: &Runs) -> bool
+    requires { EndsInRun (length trip.now) asked }
+    ensures { Decides result (IsHeld asked (wave_at trip.now)) }
 {
-    match script.kind {
-        Kind::Internal => comes_by(first_must(trip), script.deadline),
-        Kind::External => never_comes(first_may(trip)),
+    match asked.kind {
+        Kind::Internal => comes_by(first_must(trip), asked.deadline),
+        Kind::External => never_comes(first_may(trip), asked.end),
     }
 }
 
@@ -33,11 +33,14 @@ fn comes_by(first: Option<u32>, deadline: u32) -> bool
     }
 }
 
-// Whether there is no first tick.
-fn never_comes(first: Option<u32>) -> bool
-    ensures { (u : ℕ → Bool) (n : ℕ) → first ≡ first_on u n →
-        Decides result ((t : ℕ) → t < n → IsFalse (u t)) }
+// Whether there is no first tick before the end.
+fn never_comes(first: Option<u32>, end: u32) -> bool
+    ensures { (u : ℕ → Bool) (n : ℕ) → end ≤ n → first ≡ first_on u n →
+        Decides result ((t : ℕ) → t < end → IsFalse (u t)) }
 {
     the_first_tick_is_the_least();
-    first.is_none()
+    match first {
+        Some(t) => end <= t,
+        None => true,
+    }
 }

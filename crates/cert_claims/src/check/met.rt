@@ -1,28 +1,27 @@
 //! Whether the trip of a play meets an obligation.
 
-ghost use Rattle.std.specs.Prelude.{◌≡◌, ◌<◌, ◌≤◌, length, MatchOption};
+ghost use Rattle.std.specs.Prelude.{◌<◌, ◌≤◌, ◌+◌, ◌^◌, length, MatchOption};
+ghost use Rattle.model_line.specs.Asks.{EndsInRun};
 ghost use Rattle.model_logic.specs.Histories.{MeetsBy};
 ghost use Rattle.run_changes.specs.changes.PlayedTracks.{is_on};
 ghost use Rattle.run_waves.specs.waves.FirstTick.{IsFirstOn};
 ghost use Rattle.cert_claims.specs.check.Refutations.{IsMetAt};
 
-use model_line::{Kind, Script};
+use model_line::{Kind, Obligation};
 use run_signal::{Level, Signal, Track};
 
-/// The tick that shows that the obligation of a script is met by this trip, over so many ticks, if it
-/// is.
-pub fn met_tick(trip: &Track<Level>, script: &Script, horizon: u32) -> Option<u32>
-    requires horizon { length trip.now.keys ≡ horizon }
-    requires deadline { script.now.deadline < horizon }
-    ensures { MatchOption result
-        (¬ (MeetsBy script.now.kind script.now.deadline horizon (is_on trip.now)))
-        (λ t. IsMetAt script.now.kind script.now.deadline horizon (is_on trip.now) t) }
+/// The tick that shows that an obligation is met by this trip, if it is.
+pub fn met_tick(trip: &Track<Level>, asked: Obligation) -> Option<u32>
+    requires ends { EndsInRun (length trip.now.keys) asked }
+    requires small { asked.deadline + 1 < 2 ^ 32 }
+    ensures { MatchOption result (¬ (MeetsBy asked (is_on trip.now)))
+        (λ t. IsMetAt asked (is_on trip.now) t) }
 {
-    match script.kind {
-        Kind::Internal => first_trip(trip, script.deadline + 1),
-        Kind::External => match first_trip(trip, horizon) {
+    match asked.kind {
+        Kind::Internal => first_trip(trip, asked.deadline + 1),
+        Kind::External => match first_trip(trip, asked.end) {
             Some(_) => None,
-            None => Some(horizon),
+            None => Some(asked.end),
         },
     }
 }

@@ -6,8 +6,8 @@ ghost use Rattle.model_timing.specs.Inside.{IsTimingInside};
 ghost use Rattle.cert_claims.specs.check.Refutations.{steady_timing, FailsAt, PassesAt};
 
 use crate::check::met::met_tick;
-use model_line::laws::deadlines_are_below_the_horizon;
-use model_line::{Line, Memory, Script};
+use model_line::laws::obligations_end_in_the_run;
+use model_line::{Line, Memory, Script, obligation_at};
 use model_logic::laws::each_choice_has_one_history;
 use model_timing::Step;
 use net_gates::Compiled;
@@ -34,12 +34,13 @@ pub(crate) fn met_at(
 {
     a_timing_is_one_choice();
     each_choice_has_one_history();
-    deadlines_are_below_the_horizon();
+    obligations_end_in_the_run();
     let numbers = ticks_of(alloc, compiled.line, values)?;
     let steps: [Step<Tick>; 0] = [];
     let tracks = run_tracks::<Level>(alloc, compiled, script, numbers.as_slice(), &steps)?;
     let trip = &tracks.trips[terminal as usize];
-    Ok(met_tick(trip, script, compiled.line.horizon))
+    let asked = obligation_at(compiled.line, script, terminal);
+    Ok(met_tick(trip, asked))
 }
 
 // The numbers as ticks.

@@ -19,8 +19,8 @@ use crate::check::held::is_held;
 use crate::check::no::check_no;
 use crate::text::{Claim, ScriptClaims};
 use base_memory::Stopped;
-use model_line::Script;
-use model_line::laws::deadlines_are_below_the_horizon;
+use model_line::laws::obligations_end_in_the_run;
+use model_line::{Script, obligation_at};
 use model_logic::laws::{
     covered_claims_cover, each_line_has_a_choice_inside, the_rule_is_exact,
     the_rule_speaks_for_what_is_covered,
@@ -50,7 +50,7 @@ pub fn check_claims(
     each_line_has_a_choice_inside();
     covered_claims_cover();
     the_rule_speaks_for_what_is_covered();
-    deadlines_are_below_the_horizon();
+    obligations_end_in_the_run();
     let keys = said.keys.as_slice();
     let waves = gate_waves(alloc, compiled, script, keys)?;
     if let Some(uncovered) = first_uncovered(compiled, keys, waves.as_slice()) {
@@ -114,10 +114,10 @@ fn check_claim(
         (verdict_in claim.now))) }
 {
     the_rule_is_exact();
-    deadlines_are_below_the_horizon();
+    obligations_end_in_the_run();
     match claim {
         Claim::Yes => {
-            if is_held(script, trip) {
+            if is_held(obligation_at(compiled.line, script, terminal), trip) {
                 Ok(())
             } else {
                 Err(Stopped::Fault(ClaimFault::NotHeld(terminal)))

@@ -84,19 +84,19 @@ inside_box known line setting first last ends are = record {
 pub inside_held : Known → EveryIntervalInsideACoverIsHeld
 inside_held known line script k setting first last ends fit kn are held inside =
     known.held.narrower line script k (box_of line ends) (cover_box line setting first last)
-    (known.lines.deadlines line script fit) (from_one known line setting first last are) kn
+    (known.lines.ends line script fit) (from_one known line setting first last are) kn
     (inside_box known line setting first last ends inside) held
 
 pub cover_met : Known → AHeldCoverIsMet
 cover_met known line script k setting first last fit kn are held choice h within history =
     known.held.meets line script k (cover_box line setting first last)
-    (known.lines.deadlines line script fit) (from_one known line setting first last are) kn held
+    (known.lines.ends line script fit) (from_one known line setting first last are) kn held
     choice h within history
 
 pub cover_met_between : Known → WhatIsHeldIsMetBetweenTicks → AHeldCoverIsMetBetweenTicks
 cover_met_between known fine line script k setting first last fit kn are held =
     fine.over line script k (cover_box line setting first last)
-    (known.lines.deadlines line script fit) (from_one known line setting first last are) kn held
+    (known.lines.ends line script fit) (from_one known line setting first last are) kn held
 
 -- at the declared position an interval is as declared
 same_ends : (e : Ends) (d : ℕ) → e.least ≡ d → e.least ≤ e.greatest → stretched e d d ≡ e

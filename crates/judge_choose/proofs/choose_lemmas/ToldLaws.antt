@@ -26,6 +26,7 @@ use Rattle.judge_verdict.specs.boxes.Terns.{terns_signal}
 use Rattle.judge_choose.specs.{Known.Known, declared.cover.Cover.Cover, Positions.box_of_cover}
 use Rattle.judge_choose.specs.Told.{AreCovers, AreCoverSpans, AreToldBelow, IsHeldAt, IsToldAt, cover_in}
 use Rattle.judge_choose.proofs.choose_lemmas.CoverLaws.{from_one}
+use Rattle.model_line.specs.Asks.{AllEndInRun, obligation_of}
 
 cover_exists : (count lane : ℕ) → 0 < count → cover_in count lane < count
 cover_exists count lane some = let low = min-le_right lane (count - 1) in omega (arith, low, some)
@@ -68,24 +69,24 @@ module _ (known : Known) (line : Line) (covers : List Cover) (are : AreCovers li
       lane_from_one lane cover inside at
 
   -- the rule of a lane's history tells whether it is held over the lane's cover
-  pub tells_held : (script : Script) (k : ℕ) → script.deadline < line.horizon
+  pub tells_held : (script : Script) (k : ℕ) → AllEndInRun line.horizon script
       → k < terminal_count line → (keys trips : List (SentKeys Terns64)) (trip : SentKeys Terns64)
       → slice_get trips k ≡ Some trip → (lane : ℕ) (cover : Cover) (bit : Bool) → lane < 64
       → slice_get covers (cover_in (length covers) lane) ≡ Some cover
       → IsTheHistory line script (lane_box span_ends line spans [] lane)
       (tracks_history terns_rails lane keys trips)
-      → bit ≡ is_held script.kind script.deadline line.horizon (trip_rails trip lane)
+      → bit ≡ is_held (obligation_of line script k) (trip_rails trip lane)
       → Decides bit (IsHeldOver line script k (box_of_cover line cover))
   tells_held script k early there keys trips trip at_trip lane cover bit inside at history is =
       let w : PairHistory = tracks_history terns_rails lane keys trips in
       let box : Box = lane_box span_ends line spans [] lane in
       let boxes = box_of_lane lane cover inside at in
-      let told : bit ≡ is_held script.kind script.deadline line.horizon (w.trip k) =
+      let told : bit ≡ is_held (obligation_of line script k) (w.trip k) =
       is ∙ ap (λ (o : Option (SentKeys Terns64)).
-      is_held script.kind script.deadline line.horizon (λ t. pair_of terns_rails lane t o))
+      is_held (obligation_of line script k) (λ t. pair_of terns_rails lane t o))
       (sym at_trip) in
-      let tested = known.lines.rule_tests.held script.kind script.deadline line.horizon (w.trip k) in
-      let exact = known.lines.rule.held line script (w.trip k) in (
+      let tested = known.lines.rule_tests.held (obligation_of line script k).kind (obligation_of line script k).deadline (obligation_of line script k).end (w.trip k) in
+      let exact = known.lines.rule.held line script k (w.trip k) in (
         λ on.
             known.held.same line script k box (box_of_cover line cover)
             (turned line box (box_of_cover line cover) boxes)

@@ -1,8 +1,8 @@
 -- The boxes of cells.
-use Rattle.std.proofs.Common.{◌≡◌, ◌≤◌, ◌<◌, ◌+◌, ◌-◌, ◌*◌, ◌/◌, ◌%◌, ℕ, zero, Bool, true, false, cond}
+use Rattle.std.proofs.Common.{◌≡◌, ◌≤◌, ◌<◌, ◌+◌, ◌-◌, ◌*◌, ◌/◌, ◌%◌, ℕ, Bool, true, false, cond}
 use Rattle.std.proofs.Common.{[], Option, None, Some, subst, sym, ◌∙◌, ap, refl, arith, List, length}
-use Rattle.std.proofs.Math.Nat.{div-le_self, mul-le-mul, mul-le-mul_left, mul_comm}
-use Rattle.std.proofs.Math.Nat.{div-lt_iff_lt-mul, mod-lt, min-le_right}
+use Rattle.std.proofs.Math.Nat.{mul-le-mul_left, mul_comm}
+use Rattle.std.proofs.Math.Nat.{min-le_right}
 use Rattle.std.specs.Prelude.{slice_get}
 use Rattle.model_history.specs.Rails.{Ends}
 use Rattle.model_line.specs.{declared.line.Line.Line, declared.script.Script.Script}
@@ -18,13 +18,12 @@ use Rattle.model_timing.specs.BlockLaws.{no_step}
 use Rattle.judge_verdict.specs.{boxes.Spans.SpanLists, boxes.Spans.span_ends}
 use Rattle.judge_verdict.specs.boxes.Terns.{terns_signal}
 use Rattle.judge_margins.specs.{map.Known.Known, declared.map.axis.Axis.Axis, declared.map.axis.Axes.Axes}
-use Rattle.judge_margins.specs.map.Placed.{CanPlace}
-use Rattle.judge_margins.specs.map.Axes.{AreAxes, CanMove, CanMoveBoth, CanMoveSecond, IsAxis, IsSecond}
+use Rattle.judge_margins.specs.map.Axes.{CanMoveBoth, CanMoveSecond}
 use Rattle.judge_margins.specs.map.Axes.{cell_box, cell_count, column_count, count_along}
 use Rattle.judge_margins.specs.map.Axes.{ends_along, ends_up, least_at, moved, moves, row_count}
 use Rattle.judge_margins.specs.map.Axes.{rows_of}
 use Rattle.judge_margins.specs.map.Blocks.{AreCellSpans, cell_in, lane_cell}
-use Rattle.judge_margins.specs.map.PlaceLaws.{can_place, column_within, few_cells, row_within, some_rows}
+use Rattle.judge_margins.specs.map.PlaceLaws.{can_place, column_within, row_within, some_rows}
 
 -- the numbers of an axis go up to its last
 pub least_within : (axis : Axis) (n : ℕ) → axis.first ≤ axis.last → n < count_along axis

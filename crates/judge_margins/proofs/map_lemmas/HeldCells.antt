@@ -20,6 +20,7 @@ use Rattle.judge_margins.specs.declared.map.cell.Word.TheVariants.{Held, Open, F
 use Rattle.judge_margins.specs.{map.Known.Known, map.Axes.cell_box, map.MapLaws.AHeldCellIsMet}
 use Rattle.judge_margins.specs.map.Cells.{IsCell, is_broken, is_held, word_of}
 use Rattle.judge_margins.proofs.map_lemmas.CellLaws.{cell_from_one}
+use Rattle.model_line.specs.Asks.{AllEndInRun}
 
 word_tells : (a b : Bool) → cond a Held (cond b Fails Open) ≡ Held → a ≡ true
 word_tells true b is = refl
@@ -44,7 +45,7 @@ module _ (known : Known) (line : Line) (scripts : List Script) (box : Box)
     (from_one : LeastFromOne line box) (cell : Cell) (is : IsCell line scripts box cell)
     (word : word_of cell.rules.items ≡ Held) where
   -- the rule of each obligation is held over the box of a cell that is held
-  held_at : (s k place : ℕ) (script : Script) → script.deadline < line.horizon
+  held_at : (s k place : ℕ) (script : Script) → AllEndInRun line.horizon script
       → slice_get scripts s ≡ Some script → k < terminal_count line
       → place < length cell.rules.items → place / terminal_count line ≡ s
       → place % terminal_count line ≡ k → IsHeldOver line script k box
@@ -60,11 +61,11 @@ module _ (known : Known) (line : Line) (scripts : List Script) (box : Box)
       subst (λ (n : ℕ). IsHeldOver line script n box) by_terminal
       (subst (λ (y : Script). IsHeldOver line y (place % terminal_count line) box) same
       (known.held.one line told.script (place % terminal_count line) box told.over.history
-      (subst (λ (y : Script). y.deadline < line.horizon) (sym same) early) from_one
+      (subst (λ (y : Script). AllEndInRun line.horizon y) (sym same) early) from_one
       (subst (λ (n : ℕ). n < terminal_count line) (sym by_terminal) kn) told.over.is.is
       (sym told.over.says ∙ held_named r on)))
 
-  pub held_over : (s k : ℕ) (script : Script) → script.deadline < line.horizon
+  pub held_over : (s k : ℕ) (script : Script) → AllEndInRun line.horizon script
       → slice_get scripts s ≡ Some script → k < terminal_count line
       → IsHeldOver line script k box
   held_over s k script early at kn =
@@ -79,7 +80,7 @@ pub held_cell_met : Known → AHeldCellIsMet
 held_cell_met known line scripts axes column row s k cell script fit are can in_column in_row is
     word at kn choice h within history =
     let box = cell_box line axes column row in
-    let early = known.lines.deadlines line script (all_at (Fits line) scripts s script fit at) in
+    let early = known.lines.ends line script (all_at (Fits line) scripts s script fit at) in
     let from_one = cell_from_one known line axes column row can in_column in_row in
     known.held.meets line script k box early from_one kn
     (held_over known line scripts box from_one cell is word s k script early at kn) choice h within

@@ -16,6 +16,8 @@ use Rattle.judge_margins.specs.{map.Known.Known, declared.map.cell.Cell.Cell, de
 use Rattle.judge_margins.specs.map.Blocks.{AreRuled, AreTripped, AreTrippedAt, IsLaneOf}
 use Rattle.judge_margins.specs.map.Cells.{IsCell}
 use Rattle.judge_margins.proofs.{map_lemmas.CellLaws.carried}
+use Rattle.model_line.specs.Asks.{obligation_of}
+use Rattle.model_line.specs.declared.asks.Obligation.{Obligation}
 
 -- in boxes that are the same
 pub ruled_in : (known : Known) (line : Line) (scripts : List Script) (a b : ℕ → Box) (n : ℕ)
@@ -43,7 +45,7 @@ ruled_in known line scripts a b n ruled same are = record {
 pub ruled_more : (line : Line) (scripts : List Script) (boxes : ℕ → Box) (s k : ℕ)
     (script : Script) (old new : List Ruled) (one : Ruled)
     → slice_get scripts s ≡ Some script → k < terminal_count line → new ≡ old ++ one ∷ []
-    → one.kind ≡ script.kind
+    → one.kind ≡ (obligation_of line script k).kind
     → ((lane : ℕ) → lane < 64
     → AreTripped line script k (boxes lane) (terns_rails one.tripped lane))
     → AreRuled line scripts boxes (s * terminal_count line + k) old
@@ -62,7 +64,8 @@ ruled_more line scripts boxes s k script old new one at kn is kind lanes are =
           (record {
             script = script;
             at = subst (λ (n : ℕ). slice_get scripts n ≡ Some script) (sym by_script) at;
-            kind = kind;
+            kind = subst (λ (n : ℕ). one.kind ≡ (obligation_of line script n).kind)
+                (sym by_terminal) kind;
             lanes = λ lane inside.
                 subst (λ (n : ℕ). AreTripped line script n (boxes lane) (terns_rails one.tripped lane))
                 (sym by_terminal) (lanes lane inside);
@@ -82,6 +85,7 @@ cell_of_lane line scripts boxes lane ruled cell inside are told = record {
       let is = are.each place one here in
       let tripped = is.lanes lane inside in
       let rails = terns_rails one.tripped lane in
+      let asked : Obligation = obligation_of line is.script (place % terminal_count line) in
       record {
         script = is.script;
         at = is.at;
@@ -90,7 +94,7 @@ cell_of_lane line scripts boxes lane ruled cell inside are told = record {
           is = tripped.is;
           says = told.each place one rule here at
               ∙ ap (λ (kind : Kind). rule_from kind rails.must rails.may) is.kind
-              ∙ rule_by_rails is.script.kind is.script.deadline line.horizon
+              ∙ rule_by_rails asked.kind asked.deadline asked.end
               (tripped.history.trip (place % terminal_count line)) rails.must rails.may
               tripped.must tripped.may;
         };

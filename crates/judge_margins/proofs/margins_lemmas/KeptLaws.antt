@@ -17,6 +17,7 @@ use Rattle.judge_margins.specs.declared.margins.group.Group.{Group}
 use Rattle.judge_margins.specs.margins.Groups.{AllKept, AreOfOneScript, IsGroup}
 use Rattle.judge_margins.specs.{margins.Widened.room, margins.Widened.widened}
 use Rattle.judge_margins.proofs.margins_lemmas.WidenedLaws.{widened_within, unmoved_within, from_one}
+use Rattle.model_line.specs.Asks.{AllEndInRun}
 
 -- the obligation is held with the end moved outward by n
 abbrev pub IsHeldTo : Line → Script → ℕ → ℕ → Side → ℕ → Type 0
@@ -24,7 +25,7 @@ IsHeldTo line script k param side n = IsHeldOver line script k (widened line par
 
 module _ (known : Known) (line : Line) where
   pub held_nearer : (script : Script) (k param : ℕ) (side : Side) (m n : ℕ)
-      → script.deadline < line.horizon → k < terminal_count line → m ≤ n
+      → AllEndInRun line.horizon script → k < terminal_count line → m ≤ n
       → n ≤ room line param side → IsHeldTo line script k param side n
       → IsHeldTo line script k param side m
   held_nearer script k param side m n early kn le limit held =
@@ -32,7 +33,7 @@ module _ (known : Known) (line : Line) where
       (from_one known line param side n limit) kn (widened_within line param side m n le) held
 
   pub held_unmoved : (script : Script) (k param : ℕ) (side : Side)
-      → script.deadline < line.horizon → k < terminal_count line
+      → AllEndInRun line.horizon script → k < terminal_count line
       → IsHeldOver line script k (declared_box line) → IsHeldTo line script k param side 0
   held_unmoved script k param side early kn held =
       known.held.narrower line script k (widened line param side 0) (declared_box line) early
@@ -48,7 +49,7 @@ module _ (known : Known) (line : Line) (scripts : List Script) (fit : All (Fits 
     each = λ i o lt at. record {
       held = λ script there.
           held_nearer known line script o.terminal param side m n
-          (known.lines.deadlines line script
+          (known.lines.ends line script
           (all_at (Fits line) scripts o.script script fit there))
           (exist i o at).terminal le limit ((kept.each i o lt at).held script there);
     };
@@ -61,7 +62,7 @@ group_unmoved known of is param side = record {
   each = λ i o lt at. record {
     held = λ script there.
         held_unmoved known of.compiled.line.now script o.terminal param side
-        (known.lines.deadlines of.compiled.line.now script
+        (known.lines.ends of.compiled.line.now script
         (all_at (Fits of.compiled.line.now) of.scripts.now o.script script is.fit there))
         (is.exist i o at).terminal ((is.held.each i o lt at).held script there);
   };

@@ -30,6 +30,7 @@ use Rattle.judge_margins.specs.margins.Groups.{IsGroup}
 use Rattle.judge_margins.specs.{margins.Asks.ask_box, margins.Asks.ask_in, margins.Kept.IsKept}
 use Rattle.judge_margins.specs.margins.Widened.{param_at, side_at}
 use Rattle.judge_margins.proofs.margins_lemmas.WidenedLaws.{from_one}
+use Rattle.model_line.specs.Asks.{AllEndInRun, obligation_of}
 
 pub ask_exists : (count first lane : ℕ) → first < count → ask_in count first lane < count
 ask_exists count first lane inside =
@@ -73,24 +74,24 @@ module _ (known : Known) (line : Line) (asks : List Ask) (are : AreAsks line ask
       lane_from_one lane ask inside at
 
   -- the rule of a lane's history tells whether it is held over the box of the lane's ask
-  pub tells_held : (script : Script) (k : ℕ) → script.deadline < line.horizon
+  pub tells_held : (script : Script) (k : ℕ) → AllEndInRun line.horizon script
       → k < terminal_count line → (keys trips : List (SentKeys Terns64)) (trip : SentKeys Terns64)
       → slice_get trips k ≡ Some trip → (lane : ℕ) (ask : Ask) (bit : Bool) → lane < 64
       → slice_get asks (ask_in (length asks) first lane) ≡ Some ask
       → IsTheHistory line script (lane_box span_ends line spans [] lane)
       (tracks_history terns_rails lane keys trips)
-      → bit ≡ is_held script.kind script.deadline line.horizon (trip_rails trip lane)
+      → bit ≡ is_held (obligation_of line script k) (trip_rails trip lane)
       → Decides bit (IsHeldOver line script k (ask_box line ask))
   tells_held script k early there keys trips trip at_trip lane ask bit inside at history is =
       let w : PairHistory = tracks_history terns_rails lane keys trips in
       let box : Box = lane_box span_ends line spans [] lane in
       let boxes = box_of_lane lane ask inside at in
-      let told : bit ≡ is_held script.kind script.deadline line.horizon (w.trip k) =
+      let told : bit ≡ is_held (obligation_of line script k) (w.trip k) =
       is ∙ ap (λ (o : Option (SentKeys Terns64)).
-      is_held script.kind script.deadline line.horizon (λ t. pair_of terns_rails lane t o))
+      is_held (obligation_of line script k) (λ t. pair_of terns_rails lane t o))
       (sym at_trip) in
-      let tested = known.lines.rule_tests.held script.kind script.deadline line.horizon (w.trip k) in
-      let exact = known.lines.rule.held line script (w.trip k) in (
+      let tested = known.lines.rule_tests.held (obligation_of line script k).kind (obligation_of line script k).deadline (obligation_of line script k).end (w.trip k) in
+      let exact = known.lines.rule.held line script k (w.trip k) in (
         λ on.
             known.held.same line script k box (ask_box line ask)
             (turned line box (ask_box line ask) boxes)
@@ -156,7 +157,7 @@ pub row_is : (known : Known) (of : Group) (is : IsGroup of) (asks : List Ask)
     (lane_box span_ends of.compiled.line.now spans [] lane)
     (tracks_history terns_rails lane keys trips))
     → ((lane : ℕ) → lane < 64
-    → bit_on bits lane ≡ is_held script.kind script.deadline of.compiled.line.now.horizon
+    → bit_on bits lane ≡ is_held (obligation_of of.compiled.line.now script o.terminal)
     (trip_rails trip lane))
     → IsRow of asks first o bits
 row_is known of is asks are first spans spanned script keys trips trip o i bits there at at_trip
@@ -165,7 +166,7 @@ row_is known of is asks are first spans spanned script keys trips trip o i bits 
     ap (slice_get of.scripts.now) (is.same i o at) ∙ there in
     kept_by of o script (ask_box of.compiled.line.now ask) (bit_on bits lane) own
     (tells_held known of.compiled.line.now asks are first spans spanned script o.terminal
-    (known.lines.deadlines of.compiled.line.now script
+    (known.lines.ends of.compiled.line.now script
     (all_at (Fits of.compiled.line.now) of.scripts.now of.script script is.fit there))
     (is.exist i o at).terminal keys trips trip at_trip lane ask (bit_on bits lane) inside here
     (history lane inside) (held lane inside))

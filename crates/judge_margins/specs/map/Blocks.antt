@@ -2,7 +2,7 @@
 use Rattle.std.specs.Prelude.{◌≡◌, ◌<◌, ◌+◌, ◌-◌, ◌/◌, ◌%◌, ℕ, List, Some, length, slice_get, min}
 use Rattle.model_history.specs.{Elements.some_below, Rails.Rails}
 use Rattle.model_line.specs.{declared.line.Line.Line, declared.script.Script.Script}
-use Rattle.model_line.specs.Parameters.{param_count, terminal_count}
+use Rattle.model_line.specs.{Asks.obligation_of, Parameters.param_count, Parameters.terminal_count}
 use Rattle.model_logic.specs.{Choice.Box, Histories.PairHistory}
 use Rattle.run_step.specs.Runs.{IsTheHistory}
 use Rattle.judge_verdict.specs.verdict.Rules.{counted_ticks, rule_from, rule_named}
@@ -33,6 +33,11 @@ pub record AreCellSpans (line : Line) (axes : Axes) (first : ℕ) (spans : List 
   pub each : (param : ℕ) (span : SpanLists) → slice_get spans param ≡ Some span
       → IsCellSpan line axes first param span
 
+-- how many ticks the obligation of terminal k looks at
+abbrev pub ticks_at : Line → Script → ℕ → ℕ
+ticks_at line script k =
+    let asked = obligation_of line script k in counted_ticks asked.kind asked.deadline asked.end
+
 -- whether the trip of terminal k must, and may, be on at some tick that counts, over the one
 -- interval history of the box
 pub record AreTripped (line : Line) (script : Script) (k : ℕ) (box : Box) (rails : Rails)
@@ -40,16 +45,16 @@ pub record AreTripped (line : Line) (script : Script) (k : ℕ) (box : Box) (rai
   pub history : PairHistory
   pub is : IsTheHistory line script box history
   pub must : rails.must ≡ some_below (λ t. (history.trip k t).must)
-      (counted_ticks script.kind script.deadline line.horizon)
+      (ticks_at line script k)
   pub may : rails.may ≡ some_below (λ t. (history.trip k t).may)
-      (counted_ticks script.kind script.deadline line.horizon)
+      (ticks_at line script k)
 
 -- the same of an obligation by its place, in each lane's box
 pub record AreTrippedAt (line : Line) (scripts : List Script) (boxes : ℕ → Box) (place : ℕ)
     (ruled : Ruled) : Type 0 where
   pub script : Script
   pub at : slice_get scripts (place / terminal_count line) ≡ Some script
-  pub kind : ruled.kind ≡ script.kind
+  pub kind : ruled.kind ≡ (obligation_of line script (place % terminal_count line)).kind
   pub lanes : (lane : ℕ) → lane < 64
       → AreTripped line script (place % terminal_count line) (boxes lane)
       (terns_rails ruled.tripped lane)

@@ -17,7 +17,7 @@ pub record IsRuleOver (line : Line) (script : Script) (k : ℕ) (box : Box) (rul
     : Type 0 where
   pub history : PairHistory
   pub is : IsTheHistory line script box history
-  pub says : rule_named rule ≡ rule_of line script (history.trip k)
+  pub says : rule_named rule ≡ rule_of line script k (history.trip k)
 
 -- the same of an obligation by its place: script by script, and in each terminal by terminal
 pub record IsRuleAt (line : Line) (scripts : List Script) (box : Box) (place : ℕ) (rule : Rule)

@@ -1,5 +1,5 @@
 -- Places of cells: the numbers of an axis, and the column and the row of a cell.
-use Rattle.std.proofs.Common.{◌≡◌, ◌≤◌, ◌<◌, ◌+◌, ◌-◌, ◌*◌, ◌/◌, ◌%◌, ◌||◌, ℕ, zero, suc, Bool, true, List, []}
+use Rattle.std.proofs.Common.{◌≡◌, ◌≤◌, ◌<◌, ◌-◌, ◌*◌, ◌/◌, ◌%◌, ◌||◌, ℕ, zero, suc, Bool, true, List, []}
 use Rattle.std.proofs.Common.{◌∷◌, Option, None, Some, subst, ap, arith, inl, inr}
 use Rattle.std.proofs.Math.Nat.{div-le_self, mul-le-mul, div-lt_iff_lt-mul, mod-lt}
 use Rattle.std.proofs.lemmas.Bool.{cases_eq, ne_eqb}

@@ -1,14 +1,15 @@
 //! The cells of a map.
 
 ghost use Rattle.std.specs.Prelude.{◌≡◌, ◌≤◌, ◌<◌, ◌+◌, ◌*◌, ◌-◌, ◌/◌, ◌%◌, ℕ, Some, IfOk, OnOk, []};
-ghost use Rattle.std.specs.Prelude.{length, slice_get, min};
+ghost use Rattle.std.specs.Prelude.{◌^◌, length, slice_get, min};
 ghost use Rattle.std.specs.List.{All};
 ghost use Rattle.model_line.specs.{Parameters.terminal_count, Parameters.param_count, Fits.Fits};
 ghost use Rattle.model_logic.specs.{Choice.LeastFromOne};
 ghost use Rattle.run_signal.specs.SentKeys.{SentKeys};
 ghost use Rattle.run_step.specs.{Runs.AreDelayed, LaneBox.lane_box};
 ghost use Rattle.judge_verdict.specs.{boxes.Spans.span_ends, boxes.Terns.terns_signal};
-ghost use Rattle.judge_verdict.specs.verdict.Rules.{counted_ticks};
+ghost use Rattle.judge_verdict.specs.verdict.Rules.{counted_ticks as counted_in};
+ghost use Rattle.judge_margins.specs.map.Blocks.{ticks_at};
 ghost use Rattle.judge_margins.specs.map.Axes.{AreAxes, CanMoveBoth, cell_count};
 ghost use Rattle.judge_margins.specs.map.Blocks.{AreCellSpans, AreRuled, lane_cell};
 ghost use Rattle.judge_margins.specs.map.Cells.{AreCells, AreCellsBelow};
@@ -19,7 +20,7 @@ use crate::map::known::laws_below;
 use crate::map::ruled::{Ruled, cell_in_lane};
 use crate::map::spans::cell_spans;
 use judge_verdict::boxes::{Spans64, Terns64, tripped};
-use model_line::{Kind, Line, Memory, Script};
+use model_line::{Kind, Line, Memory, Obligation, Script, obligation_at};
 use model_timing::Step;
 use net_gates::Compiled;
 use run_changes::changes::run_tracks;
@@ -128,26 +129,35 @@ fn rule_script(
     let script = &scripts[s];
     let steps: [Step<Spans64>; 0] = [];
     let tracks = run_tracks::<Terns64>(alloc, compiled, script, spans, &steps)?;
-    let ticks = ticks_of(compiled.line, script);
     for k in 0..compiled.line.terminals.len() {
+        let asked = obligation_at(compiled.line, script, k as u32);
+        let ticks = ticks_of(compiled.line, script, k as u32);
         let tripped = tripped(&tracks.trips[k], ticks);
         ruled.push(Ruled {
-            kind: script.kind,
+            kind: asked.kind,
             tripped,
         })?;
     }
     Ok(())
 }
 
-// How many ticks an obligation looks at: those up to the deadline, or all.
-fn ticks_of(line: &Line, script: &Script) -> u32
+// How many ticks the obligation of a terminal looks at: those up to the deadline, or those before the
+// end.
+fn ticks_of(line: &Line, script: &Script, terminal: u32) -> u32
     requires { Fits line.now script.now }
-    ensures ticks { result ≡ counted_ticks script.now.kind script.now.deadline line.now.horizon }
+    ensures ticks { result ≡ ticks_at line.now script.now terminal }
     ensures within { result ≤ line.now.horizon }
 {
     laws_below();
-    match script.kind {
-        Kind::Internal => script.deadline + 1,
-        Kind::External => line.horizon,
+    counted_ticks(obligation_at(line, script, terminal))
+}
+
+fn counted_ticks(asked: Obligation) -> u32
+    requires { asked.deadline + 1 < 2 ^ 32 }
+    ensures { result ≡ counted_in asked.kind asked.deadline asked.end }
+{
+    match asked.kind {
+        Kind::Internal => asked.deadline + 1,
+        Kind::External => asked.end,
     }
 }

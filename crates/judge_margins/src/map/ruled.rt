@@ -12,7 +12,7 @@ use model_line::{Kind, Memory};
 use run_signal::Signal;
 use std::alloc::Global;
 
-/// The kind of a script, and whether the trip at a terminal must, or may, be on at some tick that
+/// The kind of an obligation, and whether the trip of its terminal must, or may, be on at some tick that
 /// counts, in each of 64 lanes.
 #[derive(Clone, Copy)]
 pub struct Ruled {

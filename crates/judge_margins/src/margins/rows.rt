@@ -37,8 +37,9 @@ pub fn rows(alloc: Global, of: &Group, asks: &[Ask], first: usize) -> Result<Vec
     let tracks = run_tracks::<Terns64>(alloc, &of.compiled, script, &spans, &steps)?;
     let mut rows = Vec::new(alloc);
     for i in 0..of.these.len() {
-        let trip = &tracks.trips[terminal_at(of, i)];
-        rows.push(held_lanes(of.compiled.line, script, trip))?;
+        let terminal = terminal_at(of, i);
+        let trip = &tracks.trips[terminal];
+        rows.push(held_lanes(of.compiled.line, script, terminal as u32, trip))?;
     }
     Ok(rows)
 }

@@ -103,7 +103,7 @@ fn is_rule_held(line: &Line, script: &Script, waves: &PairWaves, terminal: u32) 
     requires terminal { terminal < waves.now.terminals }
     requires horizon { waves.now.horizon ≡ line.now.horizon }
     ensures { Decides result
-        (rule_of line.now script.now ((pair_history waves.now).trip terminal) ≡ Held) }
+        (rule_of line.now script.now terminal ((pair_history waves.now).trip terminal) ≡ Held) }
 {
     match judge(waves, script, terminal) {
         Rule::Held => true,

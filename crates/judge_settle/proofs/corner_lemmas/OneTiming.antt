@@ -18,23 +18,28 @@ use Rattle.model_settle.specs.Worst.{deciding}
 use Rattle.model_settle.specs.Schemes.{IsOneRailedBy, TheWorstChoiceDecides, scheme_sides}
 use Rattle.judge_settle.specs.{corner.Corner.corner, corner.Decided.OneTimingDecides, corner.Decided.AreAllHeld}
 use Rattle.judge_settle.specs.corner.Decided.{held_by}
+use Rattle.model_line.specs.Asks.{AllEndInRun, obligation_of}
+use Rattle.model_line.specs.declared.asks.Obligation.{Obligation}
 
 -- ---- what is told of one obligation
 
-module _ (tested : TheRuleIsTested) (exact : TheRuleIsExact) (line : Line) (script : Script)
+module _ (tested : TheRuleIsTested) (exact : TheRuleIsExact) (line : Line) (script : Script) (k : ℕ)
     (trip : ℕ → Rails) where
+  abbrev asked : Obligation
+  asked = obligation_of line script k
+
   abbrev told : Bool
-  told = is_held script.kind script.deadline line.horizon trip
+  told = is_held (obligation_of line script k) trip
 
-  pub is_told : rule_of line script trip ≡ Held → true ≡ told
+  pub is_told : rule_of line script k trip ≡ Held → true ≡ told
   is_told e =
-      sym ((tested.held script.kind script.deadline line.horizon trip).1
-      ((exact.held line script trip).0 e))
+      sym ((tested.held asked.kind asked.deadline asked.end trip).1
+      ((exact.held line script k trip).0 e))
 
-  pub is_not_told : ¬ (rule_of line script trip ≡ Held) → false ≡ told
+  pub is_not_told : ¬ (rule_of line script k trip ≡ Held) → false ≡ told
   is_not_told other =
-      sym (false_from_ne_true told (λ e. other ((exact.held line script trip).1
-      ((tested.held script.kind script.deadline line.horizon trip).0 e))))
+      sym (false_from_ne_true told (λ e. other ((exact.held line script k trip).1
+      ((tested.held asked.kind asked.deadline asked.end trip).0 e))))
 
 -- ---- the timing
 
@@ -46,10 +51,10 @@ SameHistories =
     → IsLineHistory line script b h
 
 module _ (laws : LineLaws) (line : Line) (script : Script) (w : PairHistory)
-    (early : script.deadline < line.horizon)
+    (early : AllEndInRun line.horizon script)
     (is_w : IsPairHistory line script (declared_box line) w) where
   abbrev held_at : ℕ → Bool
-  held_at k = is_held script.kind script.deadline line.horizon (w.trip k)
+  held_at k = is_held (obligation_of line script k) (w.trip k)
 
   count : length (held_by line script w) ≡ terminal_count line
   count = length-map-range_with_len held_at 0 (terminal_count line)
@@ -71,8 +76,8 @@ module _ (laws : LineLaws) (line : Line) (script : Script) (w : PairHistory)
   held_meets k below on choice h within is_h =
       laws.every_choice.held line script (declared_box line) w k early
       (laws.inside.declared line) is_w below
-      ((laws.rule.held line script (w.trip k)).1
-      ((laws.rule_tests.held script.kind script.deadline line.horizon (w.trip k)).0 on))
+      ((laws.rule.held line script k (w.trip k)).1
+      ((laws.rule_tests.held (obligation_of line script k).kind (obligation_of line script k).deadline (obligation_of line script k).end (w.trip k)).0 on))
       choice h within is_h
 
   -- all are held, where it is told so of each
@@ -120,7 +125,7 @@ module _ (laws : LineLaws) (line : Line) (script : Script) (w : PairHistory)
             history = h;
             is = is_h;
             fails = λ met. both_ways (held_at k) off
-                ((laws.rule_tests.held script.kind script.deadline line.horizon (w.trip k)).1
+                ((laws.rule_tests.held (obligation_of line script k).kind (obligation_of line script k).deadline (obligation_of line script k).end (w.trip k)).1
                 ((decides.meets line script w h k early by_scheme is_w
                 (same line script played (corner line (deciding script.kind) w) h from_one
                 worst_from_one worst is_h) below).0 met));

@@ -12,7 +12,7 @@ use Rattle.model_logic.specs.Choice.{IsIn}
 use Rattle.model_timing.specs.{Timing.TimingValues, Inside.IsTimingInside}
 use Rattle.model_timing.specs.Inside.{IsStepInside}
 use Rattle.judge_settle.specs.corner.Obligations.{IsFailed, IsTold}
-use Rattle.judge_settle.specs.declared.corner.obligation.Obligation.{Obligation}
+use Rattle.judge_settle.specs.declared.corner.terminal_script.TerminalScript.{TerminalScript}
 use Rattle.judge_settle.specs.corner.Cuts.{IsLeftOf, number, least_of, with_number, without_step}
 use Rattle.judge_settle.specs.corner.Rounds.{IsRound, IsTried, weight}
 use Rattle.judge_settle.proofs.corner_lemmas.Weights.{weight_with, weight_without, less_at_nominal, less_at_least}
@@ -110,7 +110,7 @@ left_without line t j there = record {
 
 -- ---- rounds
 
-pub round_none : (of : Obligation) (t : TimingValues) → IsFailed of t → IsRound of t t false
+pub round_none : (of : TerminalScript) (t : TimingValues) → IsFailed of t → IsRound of t t false
 round_none of t fails = record {
   fails = fails;
   left = left_itself of.compiled.line.now t;
@@ -118,7 +118,7 @@ round_none of t fails = record {
   same = λ off. refl;
 }
 
-pub round_after : (of : Obligation) (a b c : TimingValues) (x y z : Bool) → IsRound of a b x
+pub round_after : (of : TerminalScript) (a b c : TimingValues) (x y z : Bool) → IsRound of a b x
     → IsRound of b c y → z ≡ (x || y) → IsRound of a c z
 round_after of a b c false false z one other is = record {
   fails = other.fails;
@@ -149,7 +149,7 @@ round_after of a b c true true z one other is = record {
   same = λ off. absurd (cc);
 }
 
-pub round_of_try : (of : Obligation) (old tried new : TimingValues) (taken : Bool)
+pub round_of_try : (of : TerminalScript) (old tried new : TimingValues) (taken : Bool)
     → IsFailed of old → IsLeftOf of.compiled.line.now old tried
     → weight of.compiled.line.now tried < weight of.compiled.line.now old → IsTried of old tried new
     taken
@@ -166,7 +166,7 @@ round_of_try of old tried new false fails left less is =
     rw (is.kept refl) (round_none of old fails)
 
 -- a try that was made
-pub try_of : (of : Obligation) (old tried : TimingValues) → IsTimingInside of.compiled.line.now
+pub try_of : (of : TerminalScript) (old tried : TimingValues) → IsTimingInside of.compiled.line.now
     tried
     → (told : Bool) → IsTold of tried told → told ≡ true → IsTried of old tried tried true
 try_of of old tried inside told tells is = record {
@@ -176,7 +176,7 @@ try_of of old tried inside told tells is = record {
   passes = λ off. absurd (cc);
 }
 
-pub try_kept : (of : Obligation) (old tried : TimingValues) (told : Bool) → IsTold of tried told
+pub try_kept : (of : TerminalScript) (old tried : TimingValues) (told : Bool) → IsTold of tried told
     → told ≡ false → IsTried of old tried old false
 try_kept of old tried told tells is = record {
   taken_is = λ on. absurd (cc);
@@ -186,7 +186,7 @@ try_kept of old tried told tells is = record {
 }
 
 -- a number put to the middle, or to the least
-pub put_to_nominal : (of : Obligation) (cut new : TimingValues) (p : ℕ) (taken : Bool)
+pub put_to_nominal : (of : TerminalScript) (cut new : TimingValues) (p : ℕ) (taken : Bool)
     → p < param_count of.compiled.line.now → IsFailed of cut
     → number cut p ≢ declared_middle of.compiled.line.now p
     → IsTried of cut (with_number cut p (declared_middle of.compiled.line.now p)) new taken → IsRound of
@@ -199,7 +199,7 @@ put_to_nominal of cut new p taken there fails apart tried =
     (weight_with line cut p (declared_middle line p) within there
     (less_at_nominal (declared_middle line p) (least_of line p) (number cut p) apart)) tried
 
-pub put_to_least : (of : Obligation) (cut new : TimingValues) (p : ℕ) (taken : Bool)
+pub put_to_least : (of : TerminalScript) (cut new : TimingValues) (p : ℕ) (taken : Bool)
     → p < param_count of.compiled.line.now → IsFailed of cut
     → number cut p ≢ declared_middle of.compiled.line.now p → number cut p ≢ least_of
     of.compiled.line.now p
@@ -213,7 +213,7 @@ put_to_least of cut new p taken there fails apart other tried =
     (weight_with line cut p (least_of line p) within there
     (less_at_least (declared_middle line p) (least_of line p) (number cut p) apart other)) tried
 
-pub step_left : (of : Obligation) (cut new : TimingValues) (j : ℕ) (taken : Bool)
+pub step_left : (of : TerminalScript) (cut new : TimingValues) (j : ℕ) (taken : Bool)
     → j < length cut.steps → IsFailed of cut → IsTried of cut (without_step cut j) new taken
     → IsRound of cut new taken
 step_left of cut new j taken there fails tried =
@@ -227,7 +227,7 @@ neither_one false true z is off = absurd (cc)
 neither_one true y z is off = absurd (cc)
 
 -- at most one step fewer
-pub length_after : (of : Obligation) (cut new : TimingValues) (j : ℕ) (taken : Bool)
+pub length_after : (of : TerminalScript) (cut new : TimingValues) (j : ℕ) (taken : Bool)
     → j < length cut.steps → IsTried of cut (without_step cut j) new taken → j ≤ length new.steps
 length_after of cut new j true there tried =
     let is = tried.taken_is refl in

@@ -12,6 +12,7 @@ use Rattle.judge_cases.specs.Trees.{AreTree}
 use Rattle.judge_settle.specs.settle.Trees.{IsGrown, Size, size_of_text}
 use Rattle.judge_settle.proofs.settle_lemmas.TreeLaws.{branches_of}
 use Rattle.judge_settle.specs.settle.Answers.{IsHeldTree, IsOpenTree, IsUndecided}
+use Rattle.model_line.specs.Asks.{AllEndInRun}
 
 -- a tree that grew to at most the size of one in a text can stand there
 grown_written : (line : Line) (script : Script) (k : ℕ) (size : Size) (g : Grown)
@@ -27,7 +28,7 @@ grown_written line script k size g deep many grown = record {
 
 -- a tree whose leaves are all yes
 pub held_answer : SoundTreesMeet → (line : Line) (script : Script) (k : ℕ) (size : Size) (g : Grown)
-    → script.deadline < line.horizon → k < terminal_count line → g.yes ≡ true
+    → AllEndInRun line.horizon script → k < terminal_count line → g.yes ≡ true
     → size.depth ≤ size_of_text.depth → size.cuts ≤ size_of_text.cuts
     → IsGrown line script k size (declared_box line) [] g → IsHeldTree line script k g.nodes.items
 held_answer meet line script k size g early there all deep many grown =

@@ -9,9 +9,10 @@ use Rattle.model_logic.specs.Obligations.{EveryChoiceMeets}
 use Rattle.model_settle.specs.{Worst.deciding, Worst.worst_choice}
 use Rattle.model_settle.specs.Schemes.{IsOneRailedBy, TheWorstChoiceDecides, scheme_sides}
 use Rattle.model_logic.specs.HeldOver.{IsHeldOver}
+use Rattle.model_line.specs.Asks.{AllEndInRun}
 
 pub met_is_held : LineLaws → TheWorstChoiceDecides → (line : Line) (script : Script) (k : ℕ)
-    → script.deadline < line.horizon → k < terminal_count line → IsOneRailedBy line.scheme line
+    → AllEndInRun line.horizon script → k < terminal_count line → IsOneRailedBy line.scheme line
     → EveryChoiceMeets line script k → IsHeldOver line script k (declared_box line)
 met_is_held lines worst line script k early there railed meets = record {
   held = λ (w : PairHistory) is_w.
@@ -20,7 +21,7 @@ met_is_held lines worst line script k early there railed meets = record {
       let inside = worst.inside line (scheme_sides line (deciding script.kind)) w in
       let history = lines.histories.exists line script choice
       (lines.inside.choices line choice inside) in
-      (lines.rule.held line script (w.trip k)).1
+      (lines.rule.held line script k (w.trip k)).1
       ((worst.meets line script w history.0 k early railed is_w history.1 there).0
       (meets choice history.0 inside history.1));
 }

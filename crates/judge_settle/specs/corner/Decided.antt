@@ -12,6 +12,7 @@ use Rattle.model_timing.specs.Choice.{IsSameChoice}
 use Rattle.model_logic.specs.Obligations.{EveryChoiceMeets}
 use Rattle.model_settle.specs.Worst.{deciding}
 use Rattle.judge_settle.specs.corner.Corner.{corner}
+use Rattle.model_line.specs.Asks.{obligation_of}
 
 -- the history at the timing fails the obligation of terminal k
 pub record Fails (line : Line) (script : Script) (k : ℕ) (timing : TimingValues) : Type 0 where
@@ -50,5 +51,5 @@ pub record IsTheWorst (line : Line) (script : Script) (timing : TimingValues) : 
 -- whether the rule of each terminal's trip is held
 abbrev pub held_by : Line → Script → PairHistory → List Bool
 held_by line script w =
-    map (λ k. is_held script.kind script.deadline line.horizon (w.trip k))
+    map (λ k. is_held (obligation_of line script k) (w.trip k))
     (range_with_len 0 (terminal_count line))

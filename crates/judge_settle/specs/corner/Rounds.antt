@@ -4,7 +4,7 @@ use Rattle.std.specs.Prelude.{if◌then◌else◌}
 use Rattle.model_line.specs.declared.line.Line.{Line}
 use Rattle.model_line.specs.Parameters.{declared_middle, param_count}
 use Rattle.model_timing.specs.Timing.{TimingValues}
-use Rattle.judge_settle.specs.declared.corner.obligation.Obligation.{Obligation}
+use Rattle.judge_settle.specs.declared.corner.terminal_script.TerminalScript.{TerminalScript}
 use Rattle.judge_settle.specs.corner.Obligations.{IsFailed, IsPassed}
 use Rattle.judge_settle.specs.corner.Cuts.{IsLeftOf, number, least_of}
 
@@ -23,7 +23,7 @@ abbrev pub weight : Line → TimingValues → ℕ
 weight line timing = said_by_first line timing (param_count line) + length timing.steps
 
 -- the timing that was tried is taken where it fails; else the old one stays, and the tried one passes
-pub record IsTried (of : Obligation) (old tried new : TimingValues) (taken : Bool) : Type 0 where
+pub record IsTried (of : TerminalScript) (old tried new : TimingValues) (taken : Bool) : Type 0 where
   pub taken_is : IsTrue taken → new ≡ tried
   pub fails : IsTrue taken → IsFailed of tried
   pub kept : IsFalse taken → new ≡ old
@@ -31,7 +31,7 @@ pub record IsTried (of : Obligation) (old tried new : TimingValues) (taken : Boo
 
 -- some tries one after another: the new timing fails, is left of the old one, and says less if
 -- anything was changed
-pub record IsRound (of : Obligation) (old new : TimingValues) (changed : Bool) : Type 0 where
+pub record IsRound (of : TerminalScript) (old new : TimingValues) (changed : Bool) : Type 0 where
   pub fails : IsFailed of new
   pub left : IsLeftOf of.compiled.line.now old new
   pub less : IsTrue changed → weight of.compiled.line.now new < weight of.compiled.line.now old

@@ -48,7 +48,7 @@ pub record IsHeldTree (line : Line) (script : Script) (k : ℕ) (nodes : List Ca
 abbrev pub IsRuleBroken : Line → Script → ℕ → Type 0
 IsRuleBroken line script k =
     (w : PairHistory) → IsPairHistory line script (declared_box line) w
-    → rule_of line script (w.trip k) ≡ Broken
+    → rule_of line script k (w.trip k) ≡ Broken
 
 -- every choice of fractions fails the obligation, since its rule is broken
 pub record FailsForEvery (line : Line) (script : Script) (k : ℕ) : Type 0 where

@@ -6,15 +6,15 @@ ghost use Rattle.judge_settle.specs.corner.Rounds.{IsRound};
 
 use crate::corner::changed::either;
 use crate::corner::number::put_numbers;
-use crate::corner::obligation::Obligation;
 use crate::corner::step::leave_steps;
+use crate::corner::terminal_script::TerminalScript;
 use model_line::Memory;
 use model_timing::Timing;
 use std::alloc::Global;
 
 /// Cuts a timing that fails an obligation: rounds over all steps and all numbers, until one leaves
 /// everything as it is.
-pub fn cut(alloc: Global, of: &Obligation, timing: &Timing) -> Result<Timing, Memory>
+pub fn cut(alloc: Global, of: &TerminalScript, timing: &Timing) -> Result<Timing, Memory>
     requires of { IsObligation of.now }
     requires fails { IsFailed of.now timing.now }
     ensures { IfOk result (IsCutOf of.now timing.now) }
@@ -28,7 +28,7 @@ pub fn cut(alloc: Global, of: &Obligation, timing: &Timing) -> Result<Timing, Me
 }
 
 // Each step and each number once; whether anything was changed.
-fn round(alloc: Global, of: &Obligation, cut: &mut Timing) -> Result<bool, Memory>
+fn round(alloc: Global, of: &TerminalScript, cut: &mut Timing) -> Result<bool, Memory>
     requires of { IsObligation of.now }
     requires fails { IsFailed of.now cut.old }
     ensures round { IfOk result (IsRound of.now cut.old cut.new) }

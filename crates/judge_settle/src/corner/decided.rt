@@ -8,6 +8,7 @@ ghost use Rattle.model_settle.specs.Schemes.{IsOneRailedBy};
 ghost use Rattle.run_step.specs.Runs.{IsTheHistory};
 ghost use Rattle.judge_verdict.specs.verdict.PairWavesOf.{pair_history};
 ghost use Rattle.judge_settle.specs.corner.Decided.{AreDecided, IsTheWorst, held_by};
+ghost use Rattle.model_line.specs.Asks.{AllEndInRun, obligation_of};
 
 use crate::corner::rail::deciding;
 use crate::corner::scheme::is_one_railed;
@@ -91,7 +92,7 @@ fn are_held(
     script: &Script,
     waves: &PairWaves,
 ) -> Result<Vec<bool>, Memory>
-    requires deadline { script.now.deadline < line.now.horizon }
+    requires deadline { AllEndInRun line.now.horizon script.now }
     requires terminals { waves.now.terminals ≡ terminal_count line.now }
     requires horizon { waves.now.horizon ≡ line.now.horizon }
     ensures { IfOk result (λ held.
@@ -107,9 +108,9 @@ fn are_held(
 // Whether the rule of a terminal is held.
 fn is_held(line: &Line, script: &Script, waves: &PairWaves, terminal: u32) -> bool
     requires terminal { terminal < waves.now.terminals }
-    requires deadline { script.now.deadline < line.now.horizon }
+    requires deadline { AllEndInRun line.now.horizon script.now }
     requires horizon { waves.now.horizon ≡ line.now.horizon }
-    ensures { result ≡ is_rule_held script.now.kind script.now.deadline line.now.horizon
+    ensures { result ≡ is_rule_held (obligation_of line.now script.now terminal)
         ((pair_history waves.now).trip terminal) }
 {
     the_rule_is_exact();

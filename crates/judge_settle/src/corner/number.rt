@@ -8,8 +8,8 @@ ghost use Rattle.judge_settle.specs.corner.Cuts.{with_number as number_changed};
 ghost use Rattle.judge_settle.specs.corner.Rounds.{IsRound, IsTried};
 
 use crate::corner::changed::{either, number_of, with_number};
-use crate::corner::obligation::Obligation;
 use crate::corner::play::fails;
+use crate::corner::terminal_script::TerminalScript;
 use model_line::Memory;
 use model_line::laws::declared_intervals_are_in_order;
 use model_timing::Timing;
@@ -17,7 +17,7 @@ use std::alloc::Global;
 
 /// Puts each number, one after another, where it says least as long as the obligation fails, and
 /// says whether one was moved. If none was, each that is not in the middle matters.
-pub fn put_numbers(alloc: Global, of: &Obligation, cut: &mut Timing) -> Result<bool, Memory>
+pub fn put_numbers(alloc: Global, of: &TerminalScript, cut: &mut Timing) -> Result<bool, Memory>
     requires of { IsObligation of.now }
     requires fails { IsFailed of.now cut.old }
     ensures round { IfOk result (IsRound of.now cut.old cut.new) }
@@ -34,7 +34,12 @@ pub fn put_numbers(alloc: Global, of: &Obligation, cut: &mut Timing) -> Result<b
 
 // Puts the number of a parameter to the middle of its interval, or else to its least, if the
 // obligation then still fails.
-fn put_number(alloc: Global, of: &Obligation, cut: &mut Timing, param: u32) -> Result<bool, Memory>
+fn put_number(
+    alloc: Global,
+    of: &TerminalScript,
+    cut: &mut Timing,
+    param: u32,
+) -> Result<bool, Memory>
     requires of { IsObligation of.now }
     requires fails { IsFailed of.now cut.old }
     requires param { param < param_count of.now.compiled.line.now }
@@ -61,7 +66,7 @@ fn put_number(alloc: Global, of: &Obligation, cut: &mut Timing, param: u32) -> R
 // Puts a number there if the obligation then still fails.
 fn try_number(
     alloc: Global,
-    of: &Obligation,
+    of: &TerminalScript,
     cut: &mut Timing,
     param: u32,
     number: u32,

@@ -6,15 +6,15 @@ ghost use Rattle.judge_settle.specs.corner.Cuts.{without_step as step_left_out};
 ghost use Rattle.judge_settle.specs.corner.Rounds.{IsRound, IsTried};
 
 use crate::corner::changed::{either, without_step};
-use crate::corner::obligation::Obligation;
 use crate::corner::play::fails;
+use crate::corner::terminal_script::TerminalScript;
 use model_line::Memory;
 use model_timing::Timing;
 use std::alloc::Global;
 
 /// Leaves out each step, the last first, as long as the obligation fails, and says whether one was
 /// left out. If none was, each matters.
-pub fn leave_steps(alloc: Global, of: &Obligation, cut: &mut Timing) -> Result<bool, Memory>
+pub fn leave_steps(alloc: Global, of: &TerminalScript, cut: &mut Timing) -> Result<bool, Memory>
     requires of { IsObligation of.now }
     requires fails { IsFailed of.now cut.old }
     ensures round { IfOk result (IsRound of.now cut.old cut.new) }
@@ -31,7 +31,12 @@ pub fn leave_steps(alloc: Global, of: &Obligation, cut: &mut Timing) -> Result<b
 }
 
 // Leaves out a step if the obligation then still fails.
-fn leave_step(alloc: Global, of: &Obligation, cut: &mut Timing, j: usize) -> Result<bool, Memory>
+fn leave_step(
+    alloc: Global,
+    of: &TerminalScript,
+    cut: &mut Timing,
+    j: usize,
+) -> Result<bool, Memory>
     requires of { IsObligation of.now }
     requires fails { IsFailed of.now cut.old }
     requires step { j < length cut.old.steps }

@@ -13,7 +13,7 @@ use judge_ahead::Scene;
 use judge_cases::laws::a_view_stands_for_its_box;
 use judge_cases::{View, are_shown};
 use model_line::Memory;
-use model_line::laws::deadlines_are_below_the_horizon;
+use model_line::laws::obligations_end_in_the_run;
 use net_gates::Compiled;
 use std::alloc::Global;
 
@@ -48,7 +48,7 @@ pub fn confirmed(
         leaves.now found →
         IsFound compiled.now.line.now scene.now.script.now scene.now.terminal size view sure) }
 {
-    deadlines_are_below_the_horizon();
+    obligations_end_in_the_run();
     match found {
         Found::Fails(timing) => Ok(Found::Fails(timing)),
         Found::Tree(tree) => {

@@ -4,7 +4,7 @@ ghost use Rattle.std.specs.Prelude.{◌<◌, IfOk, IsTrue};
 ghost use Rattle.model_line.specs.{Fits.Fits, Parameters.terminal_count};
 ghost use Rattle.judge_settle.specs.settle.Trees.{IsFailing};
 
-use crate::corner::{Obligation, fails as fails_inside};
+use crate::corner::{TerminalScript, fails as fails_inside};
 use model_line::{Memory, Script};
 use model_timing::{Timing, inside};
 use net_gates::Compiled;
@@ -28,7 +28,7 @@ pub fn fails(
         return Ok(false);
     }
     let _ascending = timing.steps();
-    let of = Obligation {
+    let of = TerminalScript {
         compiled: *compiled,
         script,
         terminal,

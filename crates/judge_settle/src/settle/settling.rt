@@ -13,6 +13,7 @@ ghost use Rattle.judge_settle.specs.{corner.Decided.AreDecided, settle.Trees.IsF
 ghost use Rattle.judge_settle.specs.settle.Answers.{AreAnswers, FailsFor, IsAnswered};
 ghost use Rattle.judge_settle.specs.settle.Answers.{IsRuling, IsUndecided};
 ghost use Rattle.judge_settle.specs.settle.Trees.{IsGrown, Size, size_of_text};
+ghost use Rattle.model_line.specs.Asks.{AllEndInRun};
 
 use crate::corner::{Decided, decide};
 use crate::settle::answer::{Answer, By, Settled, by_tree};
@@ -28,7 +29,7 @@ use judge_cases::declared_view;
 use judge_verdict::verdict::{PairWaves, Verdict, certify};
 use model_fine::fine_laws::what_is_held_is_met_between_ticks;
 use model_fine::span_laws::sound_trees_meet;
-use model_line::laws::deadlines_are_below_the_horizon;
+use model_line::laws::obligations_end_in_the_run;
 use model_line::{Line, Memory, Script};
 use model_logic::laws::line_laws;
 use model_settle::case_laws::each_box_has_one_history_under;
@@ -126,7 +127,7 @@ fn of_corner(
 // The answer where the interval rules alone show the obligation: a tree of one leaf.
 fn held_at_once(alloc: Global) -> Result<Settled, Memory>
     ensures { IfOk result (λ settled. (line : Line) (script : Script) (k : ℕ) →
-        script.deadline < line.horizon → k < terminal_count line →
+        AllEndInRun line.horizon script → k < terminal_count line →
         IsHeldOver line script k (declared_box line) → IsAnswered line script k settled) }
 {
     each_box_has_one_history_under();
@@ -218,7 +219,7 @@ fn searched(
     ensures { IfOk result (λ settled.
         IsAnswered compiled.now.line.now script.now terminal settled) }
 {
-    deadlines_are_below_the_horizon();
+    obligations_end_in_the_run();
     let scene = Scene::new(alloc, compiled.line, compiled.net, script, terminal)?;
     let mut budget = Budget::new(analyses);
     let view = declared_view(alloc, compiled.line)?;
@@ -242,7 +243,7 @@ fn searched(
 // The answer that a search gives over the declared box.
 fn settled_by(found: Found, every: bool) -> Settled
     ensures { (line : Line) (script : Script) (k : ℕ) (size : Size) (view : View) →
-        script.deadline < line.horizon → k < terminal_count line →
+        AllEndInRun line.horizon script → k < terminal_count line →
         ¬ (IsOneRailedBy line.scheme line) → IsUndecided line script k →
         FailsFor line script k every → Views line (declared_box line) [] view →
         size.depth ≤ size_of_text.depth → size.cuts ≤ size_of_text.cuts →
@@ -260,7 +261,7 @@ fn settled_by(found: Found, every: bool) -> Settled
 // The answer of a tree over the declared box.
 fn settled_by_tree(tree: Grown) -> Settled
     ensures { (line : Line) (script : Script) (k : ℕ) (size : Size) →
-        script.deadline < line.horizon → k < terminal_count line →
+        AllEndInRun line.horizon script → k < terminal_count line →
         ¬ (IsOneRailedBy line.scheme line) → IsUndecided line script k →
         size.depth ≤ size_of_text.depth → size.cuts ≤ size_of_text.cuts →
         IsGrown line script k size (declared_box line) [] tree → IsAnswered line script k result }

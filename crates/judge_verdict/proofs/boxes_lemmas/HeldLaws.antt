@@ -23,6 +23,7 @@ use Rattle.judge_verdict.specs.declared.boxes.terns.Terns64.{Terns64}
 use Rattle.judge_verdict.specs.boxes.Held.{AreParts, IsHeldOf, ArePartSpans, part_in, trip_rails}
 use Rattle.judge_verdict.specs.{boxes.Spans.SpanLists, boxes.Spans.span_ends, boxes.Terns.terns_rails}
 use Rattle.judge_verdict.specs.boxes.Terns.{terns_signal}
+use Rattle.model_line.specs.Asks.{AllEndInRun, obligation_of}
 
 -- each lane has a part
 pub part_exists : (count first lane : ℕ) → first < count → part_in count first lane < count
@@ -36,8 +37,8 @@ part_is count first lane i is inside = grind (arith, nat_tests)
 -- the laws of rules over boxes
 pub record RuleLaws : Type 0 where
   pub one : (line : Line) (script : Script) (k : ℕ) (box : Box) (w : PairHistory)
-      → script.deadline < line.horizon → LeastFromOne line box → k < terminal_count line
-      → IsPairHistory line script box w → rule_of line script (w.trip k) ≡ Held
+      → AllEndInRun line.horizon script → LeastFromOne line box → k < terminal_count line
+      → IsPairHistory line script box w → rule_of line script k (w.trip k) ≡ Held
       → IsHeldOver line script k box
   pub same : (line : Line) (script : Script) (k : ℕ) (a b : Box) → IsSameBox line b a
       → IsHeldOver line script k a → IsHeldOver line script k b
@@ -88,26 +89,26 @@ module _ (laws : LineLaws) (counts : CountsRestOnNoInterval) (line : Line) (part
       lane_from_one lane part inside at
 
   -- the rule of a lane's history tells whether it is held over the lane's part
-  module _ (rule : RuleLaws) (script : Script) (k : ℕ) (early : script.deadline < line.horizon)
+  module _ (rule : RuleLaws) (script : Script) (k : ℕ) (early : AllEndInRun line.horizon script)
       (there : k < terminal_count line) (keys trips : List (SentKeys Terns64)) (trip : SentKeys Terns64)
       (at_trip : slice_get trips k ≡ Some trip) where
     pub tells_held : (lane : ℕ) (part : Line) (bit : Bool) → lane < 64
         → slice_get parts (part_in (length parts) first lane) ≡ Some part
         → IsTheHistory line script (lane_box span_ends line spans [] lane)
         (tracks_history terns_rails lane keys trips)
-        → bit ≡ is_held script.kind script.deadline line.horizon (trip_rails trip lane)
+        → bit ≡ is_held (obligation_of line script k) (trip_rails trip lane)
         → Decides bit (IsHeldOf script k part)
     tells_held lane part bit inside at history is =
         let w : PairHistory = tracks_history terns_rails lane keys trips in
         let box : Box = lane_box span_ends line spans [] lane in
         let same = are.each (part_in (length parts) first lane) part at in
         let boxes = box_of_lane lane part inside at in
-        let told : bit ≡ is_held script.kind script.deadline line.horizon (w.trip k) =
+        let told : bit ≡ is_held (obligation_of line script k) (w.trip k) =
         is ∙ ap (λ (o : Option (SentKeys Terns64)).
-        is_held script.kind script.deadline line.horizon (λ t. pair_of terns_rails lane t o))
+        is_held (obligation_of line script k) (λ t. pair_of terns_rails lane t o))
         (sym at_trip) in
-        let tested = laws.rule_tests.held script.kind script.deadline line.horizon (w.trip k) in
-        let exact = laws.rule.held line script (w.trip k) in (
+        let tested = laws.rule_tests.held (obligation_of line script k).kind (obligation_of line script k).deadline (obligation_of line script k).end (w.trip k) in
+        let exact = laws.rule.held line script k (w.trip k) in (
           λ on.
               let over : IsHeldOver line script k box =
               rule.one line script k box w early (lane_from_one lane part inside at) there

@@ -1,5 +1,5 @@
 -- Verdicts by how the obligations stand, and what verdicts say.
-use Rattle.std.proofs.Common.{◌≡◌, ℕ, suc, ◌<◌, Bool, not, cond, List}
+use Rattle.std.proofs.Common.{◌≡◌, ℕ, suc, ◌<◌, ◌≤◌, Bool, not, cond, List}
 use Rattle.std.proofs.Common.{length, map, refl, sym, ◌∙◌, ap, subst, arith, ⊎_elim}
 use Rattle.std.proofs.lemmas.Option.{slice_get_within}
 use Rattle.std.proofs.lemmas.Bool.{cases_lt}
@@ -25,6 +25,8 @@ use Rattle.judge_verdict.specs.verdict.Verdicts.{PassesAt, IsVerdict, AreVerdict
 use Rattle.judge_verdict.specs.verdict.Standings.{IsStanding, AllStand, IsOfLine, verdict_as}
 use Rattle.judge_verdict.specs.verdict.OneEach.{OneEach}
 use Rattle.judge_verdict.specs.verdict.Printable.{IsWritten}
+use Rattle.model_line.specs.Asks.{AllEndInRun, obligation_of}
+use Rattle.model_line.specs.declared.asks.Obligation.{Obligation}
 
 module _ (line : Line) (script : Script) (w : PairHistory) where
   -- ---- verdicts by standings
@@ -64,7 +66,7 @@ module _ (line : Line) (script : Script) (w : PairHistory) where
   -- ---- what verdicts say
 
   -- where the rule is broken, so that candidate 0 cannot pass, the verdict is no with candidate 0
-  pub broken_first : (k : ℕ) (verdict : Verdict) → rule_of line script (w.trip k) ≡ Broken
+  pub broken_first : (k : ℕ) (verdict : Verdict) → rule_of line script k (w.trip k) ≡ Broken
       → (PassesAt line script k (candidate line 0) → ⊥) → IsVerdict line script k w verdict
       → verdict ≡ No (candidate line 0)
   broken_first k Yes broken never is =
@@ -82,11 +84,11 @@ module _ (line : Line) (script : Script) (w : PairHistory) where
 abbrev by_tests : Bool → Bool → Rule
 by_tests held broken = cond held Held (cond broken Broken Unknown)
 
-rule_by-same : (kind : Kind) (deadline horizon : ℕ) (a b : ℕ → Rails) → deadline < horizon
-    → ((t : ℕ) → t < horizon → a t ≡ b t)
-    → rule_by kind deadline horizon a ≡ rule_by kind deadline horizon b
+rule_by-same : (kind : Kind) (deadline end horizon : ℕ) (a b : ℕ → Rails) → deadline < horizon
+    → end ≤ horizon → ((t : ℕ) → t < horizon → a t ≡ b t)
+    → rule_by kind deadline end a ≡ rule_by kind deadline end b
 unfolding rule_by
-rule_by-same Internal deadline horizon a b early same =
+rule_by-same Internal deadline end horizon a b early last same =
     let must : some_below (λ t. (a t).must) (suc deadline)
     ≡ some_below (λ t. (b t).must) (suc deadline) =
     some_below-same (λ t. (a t).must) (λ t. (b t).must) (suc deadline)
@@ -97,23 +99,28 @@ rule_by-same Internal deadline horizon a b early same =
     (λ t lt. ap may_of (same t (omega arith))) in
     ap (λ (m : Bool). by_tests m (not (some_below (λ t. (a t).may) (suc deadline)))) must
     ∙ ap (λ (m : Bool). by_tests (some_below (λ t. (b t).must) (suc deadline)) (not m)) may
-rule_by-same External deadline horizon a b early same =
-    let must : some_below (λ t. (a t).must) horizon ≡ some_below (λ t. (b t).must) horizon =
-    some_below-same (λ t. (a t).must) (λ t. (b t).must) horizon (λ t lt. ap must_of (same t lt)) in
-    let may : some_below (λ t. (a t).may) horizon ≡ some_below (λ t. (b t).may) horizon =
-    some_below-same (λ t. (a t).may) (λ t. (b t).may) horizon (λ t lt. ap may_of (same t lt)) in
-    ap (λ (m : Bool). by_tests (not m) (some_below (λ t. (a t).must) horizon)) may
-    ∙ ap (λ (m : Bool). by_tests (not (some_below (λ t. (b t).may) horizon)) m) must
+rule_by-same External deadline end horizon a b early last same =
+    let must : some_below (λ t. (a t).must) end ≡ some_below (λ t. (b t).must) end =
+    some_below-same (λ t. (a t).must) (λ t. (b t).must) end
+    (λ t lt. ap must_of (same t (omega arith))) in
+    let may : some_below (λ t. (a t).may) end ≡ some_below (λ t. (b t).may) end =
+    some_below-same (λ t. (a t).may) (λ t. (b t).may) end
+    (λ t lt. ap may_of (same t (omega arith))) in
+    ap (λ (m : Bool). by_tests (not m) (some_below (λ t. (a t).must) end)) may
+    ∙ ap (λ (m : Bool). by_tests (not (some_below (λ t. (b t).may) end)) m) must
 
 -- the rule is that of each interval history that is the same
-pub rule_same : (line : Line) (script : Script) (a b : ℕ → Rails) → script.deadline < line.horizon
-    → ((t : ℕ) → t < line.horizon → a t ≡ b t) → rule_of line script a ≡ rule_of line script b
-rule_same line script a b early same =
-    rule_by-same script.kind script.deadline line.horizon a b early same
+pub rule_same : (line : Line) (script : Script) (k : ℕ) (a b : ℕ → Rails)
+    → AllEndInRun line.horizon script → ((t : ℕ) → t < line.horizon → a t ≡ b t)
+    → rule_of line script k a ≡ rule_of line script k b
+rule_same line script k a b early same =
+    let asked : Obligation = obligation_of line script k in
+    rule_by-same asked.kind asked.deadline asked.end line.horizon a b (early.each k).deadline
+    (early.each k).end same
 
 -- and so is the verdict
 pub verdict_same : (line : Line) (script : Script) (k : ℕ) (v w : PairHistory)
-    → rule_of line script (v.trip k) ≡ rule_of line script (w.trip k) → (verdict : Verdict)
+    → rule_of line script k (v.trip k) ≡ rule_of line script k (w.trip k) → (verdict : Verdict)
     → IsVerdict line script k v verdict → IsVerdict line script k w verdict
 verdict_same line script k v w same Yes is = sym same ∙ is
 verdict_same line script k v w same (No timing) is = record {
@@ -142,7 +149,7 @@ module _ (line : Line) (script : Script) (v w : PairHistory) (same : IsSamePairH
           };
     }
 
-    pub verdicts_same : script.deadline < line.horizon → (verdicts : List Verdict)
+    pub verdicts_same : AllEndInRun line.horizon script → (verdicts : List Verdict)
         → AreVerdicts line script v verdicts → AreVerdicts line script w verdicts
     verdicts_same early verdicts are = record {
       count = are.count;
@@ -151,7 +158,7 @@ module _ (line : Line) (script : Script) (v w : PairHistory) (same : IsSamePairH
           let count = are.count in
           let there : k < terminal_count line = omega arith in
           verdict_same line script k v w
-          (rule_same line script (v.trip k) (w.trip k) early (λ t lt. same.trips k t there lt))
+          (rule_same line script k (v.trip k) (w.trip k) early (λ t lt. same.trips k t there lt))
           verdict (are.each k verdict at);
     }
 

@@ -1,10 +1,11 @@
 -- What is told of the candidates of a block, one in each lane.
-use Rattle.std.specs.Prelude.{◌≡◌, ◌<◌, ℕ, Bool, List, Some, IsTrue, IsFalse, slice_get}
+use Rattle.std.specs.Prelude.{◌≡◌, ◌<◌, ℕ, max, Bool, List, Some, IsTrue, IsFalse, slice_get}
 use Rattle.model_history.specs.Rails.{rails_at}
 use Rattle.run_signal.specs.{Bits.bit_rails, Bits.bit_on, Lanes.in_lane}
 use Rattle.run_signal.specs.SentKeys.{SentKeys}
 use Rattle.model_line.specs.Parameters.{terminal_count}
 use Rattle.model_line.specs.{declared.line.Line.Line, declared.script.Script.Script}
+use Rattle.model_line.specs.Asks.{obligation_of}
 use Rattle.model_logic.specs.Histories.{History, IsLineHistory}
 use Rattle.model_timing.specs.Choice.{timing_choice}
 use Rattle.model_timing.specs.{Blocks.candidate_in, Candidates.candidate}
@@ -16,9 +17,14 @@ use Rattle.judge_verdict.specs.{verdict.Verdicts.PassesAt, verdict.Verdicts.Fail
 abbrev pub trips_in : SentKeys ℕ → ℕ → ℕ → Bool
 trips_in trip lane t = (rails_at (in_lane (λ x l. bit_rails x l) lane trip.keys) t).must
 
--- how many ticks an obligation of the script looks at
-abbrev pub looked_at : Line → Script → ℕ
-looked_at line script = counted_ticks script.kind script.deadline line.horizon
+-- how many ticks the obligation of terminal k looks at, and those of all terminals
+unfoldable pub looked_by : Line → Script → ℕ → ℕ
+looked_by line script k =
+    let asked = obligation_of line script k in counted_ticks asked.kind asked.deadline asked.end
+
+unfoldable pub looked_at : Line → Script → ℕ
+looked_at line script =
+    max (looked_by line script 0) (max (looked_by line script 1) (looked_by line script 2))
 
 -- in each lane the trips at these ticks are those of each history at the lane's candidate
 pub record IsBlockRun (line : Line) (script : Script) (first : ℕ) (trips : List (SentKeys ℕ))

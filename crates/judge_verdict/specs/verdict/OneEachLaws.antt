@@ -1,5 +1,5 @@
 -- Lists with one element for each number, made one by one.
-use Rattle.std.proofs.Common.{◌≡◌, ℕ, ◌+◌, List, [], ◌∷◌, ◌++◌, length, length-append}
+use Rattle.std.proofs.Common.{◌≡◌, ℕ, ◌+◌, List, [], ◌∷◌, ◌++◌, length-append}
 use Rattle.std.proofs.Common.{refl, sym, ◌∙◌, ap, subst, ⊎_elim}
 use Rattle.model_history.specs.ListLaws.{at_push}
 use Rattle.judge_verdict.specs.verdict.OneEach.{OneEach}

@@ -44,7 +44,7 @@ pub record IsFirstFailing (line : Line) (script : Script) (k number : ℕ) : Typ
 
 -- the rule of terminal k over the interval history w is held
 abbrev pub IsRuleHeld : Line → Script → ℕ → PairHistory → Type 0
-IsRuleHeld line script k w = rule_of line script (w.trip k) ≡ Held
+IsRuleHeld line script k w = rule_of line script k (w.trip k) ≡ Held
 
 -- the rule is not held, and the timing is that of the first candidate that fails
 pub record IsRefuted (line : Line) (script : Script) (k : ℕ) (w : PairHistory)

@@ -1,11 +1,12 @@
 //! Whether an obligation is held over each of many boxes.
 
-ghost use Rattle.std.specs.Prelude.{◌≡◌, ◌<◌, ◌≤◌, ◌*◌, ◌/◌, ◌%◌, ℕ, Some, length, slice_get, IfOk};
+ghost use Rattle.std.specs.Prelude.{◌≡◌, ◌<◌, ◌≤◌, ◌+◌, ◌^◌, ◌*◌, ◌/◌, ◌%◌, ℕ, Some, length, slice_get, IfOk};
 ghost use Rattle.model_history.specs.Elements.{some_below};
 ghost use Rattle.run_signal.specs.Bits.{bit_on};
 ghost use Rattle.run_signal.specs.SentKeys.{SentKeys};
 ghost use Rattle.model_line.specs.Parameters.{param_count, terminal_count};
 ghost use Rattle.model_line.specs.{declared.line.Line.Line, SetBounds.SameButParams};
+ghost use Rattle.model_line.specs.Asks.{AllEndInRun, EndsInRun, obligation_of};
 ghost use Rattle.model_logic.specs.Rule.{is_held};
 ghost use Rattle.judge_verdict.specs.boxes.Terns.{terns_rails};
 ghost use Rattle.judge_verdict.specs.boxes.Held.{AreParts, TellHeld, TellBlock, TellBlocks, part_in};
@@ -14,7 +15,7 @@ ghost use Rattle.judge_verdict.specs.boxes.Held.{IsPartSpan, ArePartSpans, trip_
 use crate::boxes::spans::Spans64;
 use crate::boxes::terns::Terns64;
 use model_line::laws::{counts_do_not_rest_on_the_intervals, declared_intervals_are_in_order};
-use model_line::{Kind, Line, Memory, Script};
+use model_line::{Kind, Line, Memory, Obligation, Script, obligation_at};
 use model_logic::interval_laws::the_rule_over_a_box;
 use model_logic::laws::line_laws;
 use model_timing::Step;
@@ -32,7 +33,7 @@ pub fn held_each(
     terminal: u32,
     parts: &[Line],
 ) -> Result<Vec<bool>, Memory>
-    requires deadline { script.now.deadline < compiled.now.line.now.horizon }
+    requires deadline { AllEndInRun compiled.now.line.now.horizon script.now }
     requires terminal { terminal < terminal_count compiled.now.line.now }
     requires parts { AreParts compiled.now.line.now parts.now }
     ensures { IfOk result (λ held. TellHeld script.now terminal parts.now held.items) }
@@ -63,7 +64,7 @@ fn held_blocks(
     terminal: u32,
     parts: &[Line],
 ) -> Result<Vec<Lanes64>, Memory>
-    requires deadline { script.now.deadline < compiled.now.line.now.horizon }
+    requires deadline { AllEndInRun compiled.now.line.now.horizon script.now }
     requires terminal { terminal < terminal_count compiled.now.line.now }
     requires parts { AreParts compiled.now.line.now parts.now }
     ensures all { IfOk result (λ blocks. length parts.now ≤ 64 * length blocks.items) }
@@ -88,7 +89,7 @@ fn held_block(
     parts: &[Line],
     first: usize,
 ) -> Result<Lanes64, Memory>
-    requires deadline { script.now.deadline < compiled.now.line.now.horizon }
+    requires deadline { AllEndInRun compiled.now.line.now.horizon script.now }
     requires terminal { terminal < terminal_count compiled.now.line.now }
     requires parts { AreParts compiled.now.line.now parts.now }
     requires first { first < length parts.now }
@@ -100,7 +101,12 @@ fn held_block(
     let spans = part_spans(alloc, compiled.line, parts, first)?;
     let steps: [Step<Spans64>; 0] = [];
     let tracks = run_tracks::<Terns64>(alloc, compiled, script, &spans, &steps)?;
-    Ok(held_lanes(compiled.line, script, &tracks.trips[terminal as usize]))
+    Ok(held_lanes(
+        compiled.line,
+        script,
+        terminal,
+        &tracks.trips[terminal as usize],
+    ))
 }
 
 // A span for each parameter.
@@ -155,16 +161,25 @@ fn part_at(count: usize, first: usize, lane: usize) -> usize
 }
 
 /// The lanes in which the rule is held for a terminal with these trips.
-pub fn held_lanes(line: &Line, script: &Script, trip: &Track<Terns64>) -> Lanes64
-    requires deadline { script.now.deadline < line.now.horizon }
+pub fn held_lanes(line: &Line, script: &Script, terminal: u32, trip: &Track<Terns64>) -> Lanes64
+    requires deadline { AllEndInRun line.now.horizon script.now }
     requires horizon { length trip.now.keys ≡ line.now.horizon }
     ensures { (lane : ℕ) → lane < 64 → bit_on result lane
-        ≡ is_held script.now.kind script.now.deadline line.now.horizon
-        (trip_rails trip.now lane) }
+        ≡ is_held (obligation_of line.now script.now terminal) (trip_rails trip.now lane) }
 {
-    match script.kind {
-        Kind::Internal => tripped(trip, script.deadline + 1).must,
-        Kind::External => tripped(trip, line.horizon).possible().not(),
+    held_by(obligation_at(line, script, terminal), trip)
+}
+
+// The lanes in which an obligation is held.
+fn held_by(asked: Obligation, trip: &Track<Terns64>) -> Lanes64
+    requires ends { EndsInRun (length trip.now.keys) asked }
+    requires small { asked.deadline + 1 < 2 ^ 32 }
+    ensures { (lane : ℕ) → lane < 64 → bit_on result lane
+        ≡ is_held asked (trip_rails trip.now lane) }
+{
+    match asked.kind {
+        Kind::Internal => tripped(trip, asked.deadline + 1).must,
+        Kind::External => tripped(trip, asked.end).possible().not(),
     }
 }
 

@@ -3,6 +3,7 @@
 ghost use Rattle.std.specs.Prelude.{◌<◌, IfOk};
 ghost use Rattle.model_timing.specs.Candidates.{candidate_count as count_of};
 ghost use Rattle.judge_verdict.specs.verdict.Candidates.{IsBlockRun};
+ghost use Rattle.model_line.specs.Asks.{AllEndInRun};
 
 use crate::verdict::failing::looked_ticks;
 use model_line::laws::parameters_are_numbered;
@@ -24,7 +25,7 @@ pub fn run_block(
     first: u32,
 ) -> Result<Tracks<Lanes64>, Memory>
     requires first { first < count_of compiled.now.line.now }
-    requires deadline { script.now.deadline < compiled.now.line.now.horizon }
+    requires deadline { AllEndInRun compiled.now.line.now.horizon script.now }
     ensures { IfOk result (λ tracks. IsBlockRun compiled.now.line.now script.now first
         tracks.trips.items) }
 {

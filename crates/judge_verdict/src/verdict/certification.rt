@@ -54,13 +54,13 @@ pub fn certify(
     ensures broken { IfOk result (λ said. (k : ℕ) (w : PairHistory) → k < terminal_count
         compiled.now.line.now →
         IsPairHistory compiled.now.line.now script.now (declared_box compiled.now.line.now) w →
-        rule_of compiled.now.line.now script.now (w.trip k) ≡ Broken →
+        rule_of compiled.now.line.now script.now k (w.trip k) ≡ Broken →
         slice_get said.verdicts.items k ≡ Some (Verdict.No (candidate compiled.now.line.now 0))) }
     // Undecided: the rule is unknown.
     ensures undecided { IfOk result (λ said. (k : ℕ) (w : PairHistory) →
         slice_get said.verdicts.items k ≡ Some Verdict.Undecided →
         IsPairHistory compiled.now.line.now script.now (declared_box compiled.now.line.now) w →
-        rule_of compiled.now.line.now script.now (w.trip k) ≡ Unknown) }
+        rule_of compiled.now.line.now script.now k (w.trip k) ≡ Unknown) }
 {
     each_box_has_one_interval_history();
     each_choice_has_one_history();

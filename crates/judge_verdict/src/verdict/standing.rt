@@ -9,6 +9,7 @@ ghost use Rattle.model_timing.specs.Candidates.{candidate_count as count_of};
 ghost use Rattle.judge_verdict.specs.verdict.Candidates.{IsBlockRun};
 ghost use Rattle.judge_verdict.specs.verdict.Standings.{IsStanding, AllStand, IsOfLine, verdict_as};
 ghost use Rattle.judge_verdict.specs.declared.verdict.standing.Standing.{Standing};
+ghost use Rattle.model_line.specs.Asks.{AllEndInRun};
 
 use crate::verdict::block::run_block;
 use crate::verdict::failing::failing;
@@ -39,7 +40,7 @@ pub fn by_rules(
     script: &Script,
     waves: &PairWaves,
 ) -> Result<Vec<Standing>, Memory>
-    requires deadline { script.now.deadline < line.now.horizon }
+    requires deadline { AllEndInRun line.now.horizon script.now }
     requires terminals { waves.now.terminals ≡ terminal_count line.now }
     requires horizon { waves.now.horizon ≡ line.now.horizon }
     ensures { IfOk result (λ standings.
@@ -54,7 +55,7 @@ pub fn by_rules(
 
 fn by_rule(line: &Line, script: &Script, waves: &PairWaves, terminal: u32) -> Standing
     requires terminal { terminal < waves.now.terminals }
-    requires deadline { script.now.deadline < line.now.horizon }
+    requires deadline { AllEndInRun line.now.horizon script.now }
     requires horizon { waves.now.horizon ≡ line.now.horizon }
     ensures { IsStanding line.now script.now terminal (pair_history waves.now) 0 result }
 {
@@ -73,7 +74,7 @@ pub fn after_candidates(
     script: &Script,
     by_rules: Vec<Standing>,
 ) -> Result<Vec<Standing>, Memory>
-    requires deadline { script.now.deadline < compiled.now.line.now.horizon }
+    requires deadline { AllEndInRun compiled.now.line.now.horizon script.now }
     requires terminals { length by_rules.items ≡ terminal_count compiled.now.line.now }
     ensures { IfOk result (λ standings. (w : PairHistory) →
         AllStand compiled.now.line.now script.now w 0 by_rules.items →
@@ -126,7 +127,7 @@ fn after_block(
     first: u32,
     standings: &[Standing],
 ) -> Result<Vec<Standing>, Memory>
-    requires deadline { script.now.deadline < line.now.horizon }
+    requires deadline { AllEndInRun line.now.horizon script.now }
     requires terminals { length standings.now ≡ terminal_count line.now }
     requires first { first < count_of line.now }
     requires run { IsBlockRun line.now script.now first tracks.now.trips.items }
@@ -160,7 +161,7 @@ fn settled(
     standing: Standing,
 ) -> Standing
     requires terminal { terminal < terminal_count line.now }
-    requires deadline { script.now.deadline < line.now.horizon }
+    requires deadline { AllEndInRun line.now.horizon script.now }
     requires first { first < count_of line.now }
     requires run { IsBlockRun line.now script.now first tracks.now.trips.items }
     ensures { (w : PairHistory) → IsStanding line.now script.now terminal w first standing →

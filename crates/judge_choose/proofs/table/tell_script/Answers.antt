@@ -36,7 +36,7 @@ index-requires c =
 pub held_lanes-requires-clause-deadline : goal.held_lanes-requires-clause-deadline
 held_lanes-requires-clause-deadline c =
     let fits = Fits c.args.compiled.now.line.now in
-    c.laws_below.ensures.lines.deadlines c.args.compiled.now.line.now c.index-scripts-s.result
+    c.laws_below.ensures.lines.ends c.args.compiled.now.line.now c.index-scripts-s.result
     (subst fits (sym c.index-scripts-s.is)
     (All-get_or fits c.args.scripts.now c.args.s _ c.requires.script c.requires.fit))
 
@@ -73,7 +73,7 @@ loop-k-preserved c =
     slice_get_read trips (terminal_count line) k c.index.result.now
     (sym (c.in_ok-tracks.ensures.trips.count ∙ c.args.compiled.now.of_line.laws.same
     ∙ c.args.compiled.now.of_line.terminals)) kn c.index.ensures in
-    let early = c.laws_below.ensures.lines.deadlines line script
+    let early = c.laws_below.ensures.lines.ends line script
     (subst fits (sym c.index-scripts-s.is)
     (All-get_or fits scripts c.args.s _ c.requires.script c.requires.fit)) in
     told_more line scripts c.args.covers.now c.args.s k script c.loop-k.told.items

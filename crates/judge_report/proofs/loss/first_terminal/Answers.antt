@@ -11,7 +11,7 @@ loop-k-preserved c =
     let known = c.laws_below.ensures in
     one_terminal_more line script (declared_box line) c.loop-k.k c.loop-k.invariant
     (known.held.one line script c.loop-k.k (declared_box line) (pair_history c.in_ok-waves.waves)
-    (known.lines.deadlines line script c.requires.fits) (known.lines.inside.declared line) (omega arith)
+    (known.lines.ends line script c.requires.fits) (known.lines.inside.declared line) (omega arith)
     c.in_ok-waves.ensures.history.is (c.is_held.ensures.held c.if-not-is_held.false))
 
 pub returns-then-not-is_held : goal.returns-then-not-is_held

@@ -12,5 +12,5 @@ returns c = λ w is_w.
     c.in_ok-push_rows.ensures
     ∙ ap (λ (l : List ℕ). l ++ script_rows line script own) c.new-text.ensures.items
     ∙ script_rows-same line script
-    (c.deadlines_are_below_the_horizon.ensures line script c.requires.fits) own w
+    (c.obligations_end_in_the_run.ensures line script c.requires.fits) own w
     (c.in_ok-waves.ensures.history.only w is_w)

@@ -1,12 +1,13 @@
-use Rattle.std.proofs.Common.{◌++◌, ℕ, List, refl, ◌∙◌, ap}
+use Rattle.std.proofs.Common.{◌++◌, ℕ, List, refl, sym, subst, ◌∙◌, ap}
 use Rattle.std.specs.Prelude.{codes}
 use Rattle.model_history.specs.Rails.{Rails}
-use Rattle.model_logic.specs.Rule.{rule_by}
+use Rattle.model_logic.specs.Rule.{rule_over}
 use Rattle.judge_verdict.specs.{verdict.PairWavesOf.pair_at, verdict.Rules.rule_named}
 use Rattle.run_waves.specs.waves.FirstTick.{first_on}
 use Rattle.judge_report.specs.ReportText.{rule_word}
 use Rattle.judge_report.proofs.{SameRows.row_with-same, Texts.grown}
 use Rattle.judge_report.proofs.rows.push_row.Goals as goal
+use Rattle.model_line.specs.Asks.{AllEndInRun}
 
 pub returns : goal.returns
 returns c =
@@ -25,4 +26,8 @@ returns c =
     (c.first_may-may.ensures.first ∙ ap (first_on (λ t. (trip t).may)) c.requires.horizon)
     (c.first_must-must.ensures.first ∙ ap (first_on (λ t. (trip t).must)) c.requires.horizon)
     (c.judge-rule.ensures.rule
-    ∙ ap (λ (n : ℕ). rule_by script.kind script.deadline n trip) c.requires.horizon))
+    ∙ ap (λ (n : ℕ). rule_over n script k trip) c.requires.horizon))
+
+pub judge-rule-requires-clause-deadline : goal.judge-rule-requires-clause-deadline
+judge-rule-requires-clause-deadline c =
+    subst (λ (n : ℕ). AllEndInRun n c.args.script.now) (sym c.requires.horizon) c.requires.deadline

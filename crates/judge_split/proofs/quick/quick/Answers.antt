@@ -16,7 +16,7 @@ corners-requires c = ap length c.deref-2.ensures.value ∙ c.in_ok-wide.ensures
 
 pub held_each-requires-clause-deadline : goal.held_each-requires-clause-deadline
 held_each-requires-clause-deadline c =
-    c.laws_below.ensures.lines.deadlines c.args.compiled.now.line.now c.args.script.now
+    c.laws_below.ensures.lines.ends c.args.compiled.now.line.now c.args.script.now
     c.requires.fits
 
 pub held_each-requires-clause-parts : goal.held_each-requires-clause-parts
@@ -26,7 +26,7 @@ held_each-requires-clause-parts c =
 
 pub held_each-requires-2-clause-deadline : goal.held_each-requires-2-clause-deadline
 held_each-requires-2-clause-deadline c =
-    c.laws_below.ensures.lines.deadlines c.args.compiled.now.line.now c.args.script.now
+    c.laws_below.ensures.lines.ends c.args.compiled.now.line.now c.args.script.now
     c.requires.fits
 
 pub held_each-requires-2-clause-parts : goal.held_each-requires-2-clause-parts
@@ -99,7 +99,7 @@ returns c =
     c.deref-4.ensures.value (c.if-not-are_all.ensures refl) in
     let settled : AreSettled script k line wide =
     settled_if_quiet c.laws_below.ensures line script k wide boxes quiet
-    (c.laws_below.ensures.lines.deadlines line script c.requires.fits) c.requires.terminal are
+    (c.laws_below.ensures.lines.ends line script c.requires.fits) c.requires.terminal are
     told_quiet all in
     let told : TellHeld script k parts held =
     subst (λ (l : List Line). TellHeld script k l held) c.deref-5.ensures.value c.in_ok-held.ensures in

@@ -19,7 +19,7 @@ returns-clause-yes c =
     (λ (o : Outcome). IsAllYes o → (choice : Choice) (h : History) → IsInside line choice
     → IsLineHistory line script choice h → Meets line script k h)
     (λ o found. all_yes_speaks c.laws_below.ensures script k c.args.depth line o
-    (c.laws_below.ensures.lines.deadlines line script c.requires.fits) c.requires.terminal found)
+    (c.laws_below.ensures.lines.ends line script c.requires.fits) c.requires.terminal found)
     c.search_part.ensures
 
 pub returns-clause-no : goal.returns-clause-no
@@ -31,6 +31,6 @@ returns-clause-no c =
     (λ (o : Outcome). (timing : TimingValues) → o ≡ outcome.Fails timing
     → IsRefutation line script k timing)
     (λ o found timing is. fails_refutes c.laws_below.ensures script k c.args.depth line timing
-    (c.laws_below.ensures.lines.deadlines line script c.requires.fits) c.requires.terminal
+    (c.laws_below.ensures.lines.ends line script c.requires.fits) c.requires.terminal
     (subst (λ (x : Outcome). IsFound line script k c.args.depth x) is found))
     c.search_part.ensures

@@ -4,13 +4,15 @@ use Rattle.std.specs.Prelude.{slice_get, MatchOption}
 use Rattle.model_line.specs.Parameters.{terminal_count}
 use Rattle.model_logic.specs.Histories.{MeetsBy}
 use Rattle.model_timing.specs.{Timing.TimingValues, Choice.timing_choice}
-use Rattle.run_changes.specs.changes.PlayedTracks.{played, shown_is}
+use Rattle.run_changes.specs.changes.PlayedTracks.{played, shown_is, is_on}
 use Rattle.run_signal.specs.Levels.{level_signal}
 use Rattle.run_step.specs.{LaneBox.lane_box, Played.ends_of_tick, Runs.AreDelayed}
 use Rattle.run_step.specs.Runs.{IsPoint}
 use Rattle.cert_claims.specs.check.Refutations.{steady_timing, choice_of, IsMetAt}
 use Rattle.cert_claims.proofs.check_lemmas.Refutations.{told_by_one}
 use Rattle.cert_claims.proofs.check.refutation.met_at.Goals as goal
+use Rattle.model_line.specs.Asks.{EndsInRun, obligation_of}
+use Rattle.model_line.specs.declared.asks.Obligation.{Obligation}
 
 pub ticks_of-requires : goal.ticks_of-requires
 ticks_of-requires c = c.requires.inside
@@ -38,20 +40,28 @@ index-trip-requires c =
       c.in_ok-tracks.tracks.trips.ok.0,
     )
 
-pub met_tick-requires-clause-horizon : goal.met_tick-requires-clause-horizon
-met_tick-requires-clause-horizon c =
+pub met_tick-requires-clause-ends : goal.met_tick-requires-clause-ends
+met_tick-requires-clause-ends c =
+    let line = c.args.compiled.now.line.now in
     let track = c.index-trip.result.now in
     let at : slice_get c.in_ok-tracks.tracks.trips.items c.args.terminal ≡ Some track =
-    slice_get_read c.in_ok-tracks.tracks.trips.items (terminal_count c.args.compiled.now.line.now)
-    c.args.terminal
+    slice_get_read c.in_ok-tracks.tracks.trips.items (terminal_count line) c.args.terminal
     track (sym (c.in_ok-tracks.ensures.trips.count ∙ c.args.compiled.now.of_line.laws.same
     ∙ c.args.compiled.now.of_line.terminals)) c.requires.terminal c.index-trip.ensures in
-    (c.in_ok-tracks.ensures.trips.each c.args.terminal track at).0
+    let long = (c.in_ok-tracks.ensures.trips.each c.args.terminal track at).0 in
+    let ends = c.obligations_end_in_the_run.ensures line c.args.script.now c.requires.fits in
+    subst (λ (n : ℕ). EndsInRun n c.obligation_at-asked.result) (sym long)
+    (subst (EndsInRun line.horizon) (sym c.obligation_at-asked.ensures)
+    (ends.each c.args.terminal))
 
-pub met_tick-requires-clause-deadline : goal.met_tick-requires-clause-deadline
-met_tick-requires-clause-deadline c =
-    c.deadlines_are_below_the_horizon.ensures c.args.compiled.now.line.now c.args.script.now
-    c.requires.fits
+pub met_tick-requires-clause-small : goal.met_tick-requires-clause-small
+met_tick-requires-clause-small c =
+    let line = c.args.compiled.now.line.now in
+    let ends : EndsInRun line.horizon c.obligation_at-asked.result =
+    subst (EndsInRun line.horizon) (sym c.obligation_at-asked.ensures)
+    ((c.obligations_end_in_the_run.ensures line c.args.script.now c.requires.fits).each
+    c.args.terminal) in
+    omega (arith, ends.deadline, line.horizon_in_range.1)
 
 pub returns : goal.returns
 returns c =
@@ -73,12 +83,15 @@ returns c =
     ∙ c.args.compiled.now.of_line.terminals)) c.requires.terminal c.index-trip.ensures in
     let told = subst
     (λ (u : ℕ → Bool). MatchOption c.met_tick.result
-    (¬ (MeetsBy script.kind script.deadline line.horizon u))
-    (λ t. IsMetAt script.kind script.deadline line.horizon u t))
-    (sym (shown_is trips c.args.terminal track at)) c.met_tick.ensures in
+    (¬ (MeetsBy (obligation_of line script c.args.terminal) u))
+    (λ t. IsMetAt (obligation_of line script c.args.terminal) u t))
+    (sym (shown_is trips c.args.terminal track at))
+    (subst (λ (o : Obligation). MatchOption c.met_tick.result
+    (¬ (MeetsBy o (is_on track))) (λ t. IsMetAt o (is_on track) t))
+    c.obligation_at-asked.ensures c.met_tick.ensures) in
     told_by_one line script values
     (λ g h is_g is_h. c.each_choice_has_one_history.ensures.only line script
     (choice_of line values) g h (law.choice line timing c.requires.inside) is_g is_h)
-    (c.deadlines_are_below_the_horizon.ensures line script c.requires.fits) c.args.terminal c.requires.terminal
+    (c.obligations_end_in_the_run.ensures line script c.requires.fits) c.args.terminal c.requires.terminal
     (played c.in_ok-tracks.tracks.keys.items c.in_ok-tracks.tracks.trips.items) exact.is
     c.met_tick.result told

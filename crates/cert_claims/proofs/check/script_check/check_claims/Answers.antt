@@ -82,7 +82,7 @@ returns-clause-yes c =
     let there : k < terminal_count line =
     omega (arith, slice_get_within said.verdicts k yes is, c.requires.written.each.verdicts) in
     c.the_rule_speaks_for_what_is_covered.ensures.held line script w h k
-    (c.deadlines_are_below_the_horizon.ensures line script c.requires.fits)
+    (c.obligations_end_in_the_run.ensures line script c.requires.fits)
     (c.covered_claims_cover.ensures line script (declared_box line) choice claims h
     (c.each_line_has_a_choice_inside.ensures.declared line) inside (covered c) is_h)
     there (supported k yes is))

@@ -12,6 +12,7 @@ use Rattle.judge_verdict.specs.{boxes.Spans.span_ends, boxes.Terns.terns_rails}
 use Rattle.judge_margins.specs.map.Blocks.{AreRuled}
 use Rattle.judge_margins.proofs.map_lemmas.RuledLaws.{ruled_more}
 use Rattle.judge_margins.proofs.map.grid.rule_script.Goals as goal
+use Rattle.model_line.specs.declared.asks.Obligation.{Obligation}
 
 pub loop-k-preserved : goal.loop-k-preserved
 loop-k-preserved c =
@@ -27,9 +28,10 @@ loop-k-preserved c =
     (sym (c.in_ok-tracks.ensures.trips.count ∙ c.args.compiled.now.of_line.laws.same
     ∙ c.args.compiled.now.of_line.terminals)) kn c.index.ensures in
     ruled_more line scripts (lane_box span_ends line c.args.spans.now []) c.args.s k script
-    c.loop-k.ruled.items c.push.new.self.items (record { kind = script.kind; tripped = c.tripped-tripped.result })
+    c.loop-k.ruled.items c.push.new.self.items (record { kind = c.obligation_at-asked.result.kind; tripped = c.tripped-tripped.result })
     (slice_get_read scripts (length scripts) c.args.s script refl c.requires.script c.index-scripts-s.is)
-    kn c.in_ok-push.ensures.items refl
+    kn c.in_ok-push.ensures.items
+    (ap (λ (o : Obligation). o.kind) c.obligation_at-asked.ensures)
     (λ lane inside. record {
       history = tracks_history terns_rails lane keys trips;
       is = c.in_ok-tracks.ensures.history lane inside;

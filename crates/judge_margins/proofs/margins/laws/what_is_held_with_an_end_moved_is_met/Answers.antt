@@ -8,6 +8,6 @@ pub returns : goal.returns
 returns c line scripts obligations n param side v i o script fit exist limit kept lt at there choice h within is_h =
     let known = c.laws_below.ensures in
     known.held.meets line script o.terminal (widened line param side v)
-    (known.lines.deadlines line script (all_at (Fits line) scripts o.script script fit there))
+    (known.lines.ends line script (all_at (Fits line) scripts o.script script fit there))
     (from_one known line param side v limit) (exist i o at).terminal
     ((kept.each i o lt at).held script there) choice h within is_h

@@ -1,3 +1,7 @@
+use Rattle.run_signal.specs.Bits.{bit_on}
+use Rattle.model_logic.specs.Rule.{is_held}
+use Rattle.judge_verdict.specs.boxes.Held.{trip_rails}
+use Rattle.model_line.specs.Asks.{obligation_of}
 use Rattle.std.proofs.Common.{◌≡◌, ℕ, Some, List, ◌∙◌, sym, subst, length, ap, arith}
 use Rattle.std.proofs.lemmas.Option.{slice_get_read}
 use Rattle.std.specs.Prelude.{slice_get}
@@ -38,14 +42,14 @@ loop-i-init c =
     none_yet (λ _ (o : Lost) (bits : ℕ). IsRow of c.args.asks.now c.args.first o bits) of.these.now
     c.new-rows.result.items c.new-rows.ensures.items
 
-pub terminal_at-requires-clause-group : goal.terminal_at-requires-clause-group
-terminal_at-requires-clause-group c = c.requires.group
+pub terminal_at-terminal-requires-clause-group : goal.terminal_at-terminal-requires-clause-group
+terminal_at-terminal-requires-clause-group c = c.requires.group
 
 pub index-trip-requires : goal.index-trip-requires
 index-trip-requires c =
     omega (
       arith,
-      c.terminal_at.ensures.exists,
+      c.terminal_at-terminal.ensures.exists,
       c.in_ok-tracks.ensures.trips.count,
       c.args.of.now.compiled.of_line.laws.same,
       c.args.of.now.compiled.of_line.terminals,
@@ -56,19 +60,19 @@ pub held_lanes-requires-clause-deadline : goal.held_lanes-requires-clause-deadli
 held_lanes-requires-clause-deadline c =
     let of = c.args.of.now in
     let script = c.script_of-script.result.now in
-    c.laws_below.ensures.lines.deadlines of.compiled.line.now script
+    c.laws_below.ensures.lines.ends of.compiled.line.now script
     (all_at (Fits of.compiled.line.now) of.scripts.now of.script script c.requires.group.fit
     c.script_of-script.ensures)
 
 pub held_lanes-requires-clause-horizon : goal.held_lanes-requires-clause-horizon
 held_lanes-requires-clause-horizon c =
     let trips = c.in_ok-tracks.tracks.trips.items in
-    let k : ℕ = c.terminal_at.result in
+    let k : ℕ = c.terminal_at-terminal.result in
     let trip = c.index-trip.result.now in
     (c.in_ok-tracks.ensures.trips.each k trip
     (slice_get_read trips (terminal_count c.args.of.now.compiled.line.now) k trip
     (sym (c.in_ok-tracks.ensures.trips.count ∙ c.args.of.now.compiled.of_line.laws.same
-    ∙ c.args.of.now.compiled.of_line.terminals)) c.terminal_at.ensures.exists
+    ∙ c.args.of.now.compiled.of_line.terminals)) c.terminal_at-terminal.ensures.exists
     c.index-trip.ensures)).0
 
 pub loop-i-preserved : goal.loop-i-preserved
@@ -83,11 +87,11 @@ loop-i-preserved c =
     subst (λ (s : List SpanLists). AreAskSpans line asks first s) (sym c.deref.ensures.value)
     c.in_ok-spans.ensures in
     let there : slice_get of.scripts.now of.script ≡ Some script = c.script_of-script.ensures in
-    let k : ℕ = c.terminal_at.result in
+    let k : ℕ = c.terminal_at-terminal.result in
     let at_trip : slice_get trips k ≡ Some c.index-trip.result.now =
     slice_get_read trips (terminal_count line) k c.index-trip.result.now
     (sym (c.in_ok-tracks.ensures.trips.count ∙ c.args.of.now.compiled.of_line.laws.same
-    ∙ c.args.of.now.compiled.of_line.terminals)) c.terminal_at.ensures.exists c.index-trip.ensures
+    ∙ c.args.of.now.compiled.of_line.terminals)) c.terminal_at-terminal.ensures.exists c.index-trip.ensures
     in
     one_more (λ _ (o : Lost) (bits : ℕ). IsRow of asks first o bits) of.these.now
     c.loop-i.rows.items c.push.new.self.items c.held_lanes.result c.loop-i.i c.loop-i.invariant
@@ -97,9 +101,12 @@ loop-i-preserved c =
     script c.in_ok-tracks.tracks.keys.items trips c.index-trip.result.now o c.loop-i.i
     c.held_lanes.result there at
     (subst (λ (n : ℕ). slice_get trips n ≡ Some c.index-trip.result.now)
-    (c.terminal_at.ensures.terminal o at) at_trip)
+    (c.terminal_at-terminal.ensures.terminal o at) at_trip)
     (λ lane inside. c.in_ok-tracks.ensures.history lane inside)
-    (λ lane inside. c.held_lanes.ensures lane inside))
+    (λ lane inside.
+    subst (λ (n : ℕ). bit_on c.held_lanes.result lane
+    ≡ is_held (obligation_of line script n) (trip_rails c.index-trip.result.now lane))
+    (c.terminal_at-terminal.ensures.terminal o at) (c.held_lanes.ensures lane inside)))
 
 pub returns : goal.returns
 returns c =

@@ -11,7 +11,7 @@ returns c =
     let w = pair_history c.args.waves.now in (
       λ on.
           known.held.one line script k (declared_box line) w
-          (known.lines.deadlines line script c.requires.fits) (known.lines.inside.declared line)
+          (known.lines.ends line script c.requires.fits) (known.lines.inside.declared line)
           c.requires.terminal c.requires.history.is (c.is_rule_held.ensures.0 on),
       λ held. c.is_rule_held.ensures.1 (held.held w c.requires.history.is),
     )

@@ -1,4 +1,4 @@
-use Rattle.std.proofs.Common.{◌≡◌, ◌<◌, Some, sym, ◌∙◌, ap}
+use Rattle.std.proofs.Common.{◌≡◌, Some, sym, ◌∙◌, ap}
 use Rattle.std.proofs.lemmas.Option.{slice_get_read}
 use Rattle.std.proofs.lemmas.Result.{IfOk-weaker}
 use Rattle.std.specs.Prelude.{slice_get}
@@ -6,14 +6,15 @@ use Rattle.model_line.specs.Parameters.{terminal_count}
 use Rattle.judge_settle.specs.corner.Decided.{AreAllHeld, OneTimingDecides}
 use Rattle.judge_settle.proofs.settle_lemmas.CornerLaws.{met_is_held}
 use Rattle.judge_settle.proofs.settle.settling.of_corner.Goals as goal
+use Rattle.model_line.specs.Asks.{AllEndInRun}
 
 pub returns-in_default : goal.returns-in_default
 returns-in_default c =
     let line = c.args.line.now in
     let script = c.args.script.now in
     let k = c.args.terminal in
-    let early : script.deadline < line.horizon =
-    c.line_laws.ensures.deadlines line script c.requires.fits in
+    let early : AllEndInRun line.horizon script =
+    c.line_laws.ensures.ends line script c.requires.fits in
     let all : AreAllHeld line script c.args.decided.now.held.items =
     rw c.in_default.is at c.requires.decides in
     IfOk-weaker c.held_at_once.result _ _
@@ -28,8 +29,8 @@ returns-then-index c =
     let script = c.args.script.now in
     let k = c.args.terminal in
     let held = c.args.decided.now.held.items in
-    let early : script.deadline < line.horizon =
-    c.line_laws.ensures.deadlines line script c.requires.fits in
+    let early : AllEndInRun line.horizon script =
+    c.line_laws.ensures.ends line script c.requires.fits in
     let decides : OneTimingDecides line script c.in-Some.timing held =
     rw c.in-Some.is at c.requires.decides in
     let at : slice_get held k ≡ Some c.index.result.now =

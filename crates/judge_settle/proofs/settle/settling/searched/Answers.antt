@@ -26,5 +26,5 @@ returns c =
     let many : size.cuts ≤ size_of_text.cuts =
     omega (arith, c.side_in.ensures, c.new-budget.ensures) in
     c.settled_by.ensures line script k size view
-    (c.deadlines_are_below_the_horizon.ensures line script c.requires.fits) c.requires.terminal
+    (c.obligations_end_in_the_run.ensures line script c.requires.fits) c.requires.terminal
     c.requires.mixed c.requires.undecided c.requires.every c.in_ok-view.ensures (omega arith) many is

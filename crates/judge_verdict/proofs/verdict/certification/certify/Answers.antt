@@ -6,7 +6,7 @@ use Rattle.model_logic.specs.Histories.{PairHistory, IsPairHistory}
 use Rattle.model_logic.specs.Rule.{Broken, rule_of}
 use Rattle.model_logic.specs.RuleLaws.{only_unknown, same_meets}
 use Rattle.model_line.specs.Parameters.{terminal_count}
-use Rattle.model_line.specs.DeadlineLaws.{deadline_early}
+use Rattle.model_line.specs.{AskLaws.all_end, Asks.AllEndInRun}
 use Rattle.model_timing.specs.Timing.{TimingValues}
 use Rattle.model_timing.specs.{Choice.timing_choice, Candidates.candidate}
 use Rattle.model_timing.specs.Candidates.{candidate_count}
@@ -21,6 +21,14 @@ use Rattle.judge_verdict.proofs.verdict_lemmas.VerdictLaws.{verdicts_at_end, sta
 use Rattle.judge_verdict.proofs.verdict_lemmas.VerdictLaws.{rule_same, keys_same, verdicts_same}
 use Rattle.judge_verdict.proofs.verdict_lemmas.VerdictLaws.{printable_keys, printable_verdicts}
 use Rattle.judge_verdict.proofs.verdict.certification.certify.Goals as goal
+
+pub by_rules-requires-clause-deadline : goal.by_rules-requires-clause-deadline
+by_rules-requires-clause-deadline c =
+    all_end c.args.compiled.now.line.now c.args.script.now c.requires.fits
+
+pub after_candidates-requires-clause-deadline : goal.after_candidates-requires-clause-deadline
+after_candidates-requires-clause-deadline c =
+    all_end c.args.compiled.now.line.now c.args.script.now c.requires.fits
 
 pub verdicts-requires : goal.verdicts-requires
 verdicts-requires c = λ k s at.
@@ -75,7 +83,7 @@ never : (c : goal.After-drop-waves-inside-3) (k : ℕ) (w : PairHistory)
     → k < terminal_count c.args.compiled.now.line.now
     → IsPairHistory c.args.compiled.now.line.now c.args.script.now
     (declared_box c.args.compiled.now.line.now) w
-    → rule_of c.args.compiled.now.line.now c.args.script.now (w.trip k) ≡ Broken
+    → rule_of c.args.compiled.now.line.now c.args.script.now k (w.trip k) ≡ Broken
     → PassesAt c.args.compiled.now.line.now c.args.script.now k
     (candidate c.args.compiled.now.line.now 0) → ⊥
 never c k w here is_w broken passes =
@@ -86,7 +94,7 @@ never c k w here is_w broken passes =
     let (h, is_h) =
     c.each_choice_has_one_history.ensures.exists line script choice (from_one c 0 some) in
     c.the_rule_speaks_for_every_choice.ensures.broken line script (declared_box line) w k
-    (deadline_early line script c.requires.fits)
+    (all_end line script c.requires.fits)
     (c.each_line_has_a_choice_inside.ensures.declared line) is_w here broken choice h
     (inside_choice c 0 some) is_h (passes.meets h is_h)
 
@@ -100,7 +108,7 @@ returns-clause-verdicts c = λ w is_w.
     verdicts_same c.args.compiled.now.line.now c.args.script.now (pair_history c.in_ok-waves.waves)
     w
     (c.in_ok-waves.ensures.history.only w is_w)
-    (deadline_early c.args.compiled.now.line.now c.args.script.now c.requires.fits)
+    (all_end c.args.compiled.now.line.now c.args.script.now c.requires.fits)
     c.in_ok-verdicts.verdicts.items (said c)
 
 pub returns-clause-yes : goal.returns-clause-yes
@@ -108,7 +116,7 @@ returns-clause-yes c = λ k at choice h inside is_h.
     let line = c.args.compiled.now.line.now in
     let script = c.args.script.now in
     c.the_rule_speaks_for_every_choice.ensures.held line script (declared_box line)
-    (pair_history c.in_ok-waves.waves) k (deadline_early line script c.requires.fits)
+    (pair_history c.in_ok-waves.waves) k (all_end line script c.requires.fits)
     (c.each_line_has_a_choice_inside.ensures.declared line) c.in_ok-waves.ensures.history.is
     (there c k Yes at) ((said c).each k Yes at) choice h inside is_h
 
@@ -128,7 +136,7 @@ returns-clause-no c = λ k timing at.
       fails = λ h is_h met.
           refuted.first.fails.fails
           (same_meets line script k h refuted.first.fails.h
-          (deadline_early line script c.requires.fits) (there c k (No timing) at)
+          (all_end line script c.requires.fits) (there c k (No timing) at)
           (c.each_choice_has_one_history.ensures.only line script choice h refuted.first.fails.h
           (from_one c number below) is_h refuted.first.fails.is)
           met);
@@ -139,13 +147,13 @@ returns-clause-broken c = λ k w here is_w broken.
     let line = c.args.compiled.now.line.now in
     let script = c.args.script.now in
     let v : PairHistory = pair_history c.in_ok-waves.waves in
-    let early : script.deadline < line.horizon = deadline_early line script c.requires.fits in
+    let early : AllEndInRun line.horizon script = all_end line script c.requires.fits in
     let count = (said c).count in
     let (verdict, at) = exists_at c.in_ok-verdicts.verdicts.items k (omega arith) in
     at
     ∙ ap (λ (x : Verdict). Some x)
     (broken_first line script v k verdict
-    (rule_same line script (v.trip k) (w.trip k) early
+    (rule_same line script k (v.trip k) (w.trip k) early
     (λ t lt. (c.in_ok-waves.ensures.history.only w is_w).trips k t here lt)
     ∙ broken)
     (never c k w here is_w broken) ((said c).each k verdict at))
@@ -156,7 +164,7 @@ returns-clause-undecided c = λ k w at is_w.
     let script = c.args.script.now in
     let is_open : IsOpen line script k w =
     (returns-clause-verdicts c w is_w).each k Undecided at in
-    only_unknown (rule_of line script (w.trip k)) is_open.not_held
+    only_unknown (rule_of line script k (w.trip k)) is_open.not_held
     (λ broken.
     never c k w (there c k Undecided at) is_w broken (is_open.passes 0 (omega arith)))
 

@@ -1,11 +1,11 @@
-//! What a timing fails.
+//! A script at a terminal, of which a timing fails the obligation.
 
 use model_line::Script;
 use net_gates::Compiled;
 
-/// The obligation of a script at a terminal of a line, with the line's net.
+/// A script at a terminal of a line, with the line's net.
 #[derive(Clone, Copy)]
-pub struct Obligation<'a> {
+pub struct TerminalScript<'a> {
     pub compiled: Compiled<'a>,
     pub script: &'a Script,
     pub terminal: u32,
