@@ -9,7 +9,8 @@ use Rattle.std.proofs.lemmas.List.{length-take, take-map}
 use Rattle.std.proofs.lemmas.List.Elements.{All-drop, All-take}
 use Rattle.model_line.specs.{declared.line.Line.Line, declared.script.Script.Script, Fits.Fits}
 use Rattle.file_tables.specs.{script.SoFar.AreOnce, script.SoFar.names_in, script.Values.AreOfOneFile}
-use Rattle.file_tables.specs.script.Values.{ScriptValues, IsAskedAlike, values_of}
+use Rattle.file_tables.specs.script.Values.{ScriptValues, AsksAlike, values_of}
+use Rattle.file_tables.specs.script.StandingLaws.{alike_by_values}
 use Rattle.file_study.specs.{sweeps.Parts.is_part, sweeps.Parts.part, sweeps.Parts.parts_of, sweeps.Studies.script_names}
 use Rattle.file_study.proofs.sweeps_lemmas.Names.{values_names}
 
@@ -28,26 +29,14 @@ once_part names a b once = λ j k less below same.
     let at_k = get_or-take a (drop b names) k [] (omega arith) ∙ get_or-drop b names k [] in
     once (b + j) (b + k) (omega arith) (omega arith) (sym at_j ∙ same ∙ at_k)
 
--- what the scripts of a part hold
-values_part : (scripts : List Script) (a b : ℕ)
-    → map values_of (take a (drop b scripts)) ≡ take a (drop b (map values_of scripts))
-values_part scripts a b =
-    sym (take-map values_of a (drop b scripts)) ∙ ap (take a) (sym (drop-map values_of b scripts))
-
-asks_part : (scripts : List Script) (a b : ℕ) → All IsAskedAlike (map values_of scripts)
-    → All IsAskedAlike (map values_of (take a (drop b scripts)))
-asks_part scripts a b asked =
-    subst (All IsAskedAlike) (sym (values_part scripts a b))
-    (All-take IsAskedAlike a (drop b (map values_of scripts))
-    (All-drop IsAskedAlike b (map values_of scripts) asked))
-
 -- the names of a part
 names_part : (scripts : List Script) (a b : ℕ) → names_in (map values_of (take a (drop b scripts)))
     ≡ take a (drop b (names_in (map values_of scripts)))
 names_part scripts a b =
     let values : List ScriptValues = map values_of scripts in
     let name_of : ScriptValues → List ℕ = λ v. v.name in
-    ap names_in (values_part scripts a b)
+    ap names_in (sym (take-map values_of a (drop b scripts))
+    ∙ ap (take a) (sym (drop-map values_of b scripts)))
     ∙ (sym (take-map name_of a (drop b values)) ∙ ap (take a) (sym (drop-map name_of b values)))
 
 -- a part begins within the scripts
@@ -60,9 +49,8 @@ begins_within n len is =
 
 -- a part may stand in one file
 pub part_of_one_file : (scripts : List Script) (n : ℕ) → is_part n (length scripts) ≡ true
-    → All IsAskedAlike (map values_of scripts) → AreOnce (script_names scripts)
-    → AreOfOneFile (map values_of (part n scripts))
-part_of_one_file scripts n is asked once =
+    → All AsksAlike scripts → AreOnce (script_names scripts) → AreOfOneFile (map values_of (part n scripts))
+part_of_one_file scripts n is asks once =
     let begin : ℕ = 64 * (n - 1) in
     let within : begin < length scripts = begins_within n (length scripts) is in
     let count = length-take 64 (drop begin scripts) in
@@ -77,6 +65,7 @@ part_of_one_file scripts n is asked once =
     record {
       some = omega arith;
       few = omega arith;
-      asks = asks_part scripts 64 begin asked;
+      asks = alike_by_values (part n scripts)
+          (All-take AsksAlike 64 (drop begin scripts) (All-drop AsksAlike begin scripts asks));
       once = λ j k less below. own j k less (subst (λ (m : ℕ). k < m) (sym names) below);
     }

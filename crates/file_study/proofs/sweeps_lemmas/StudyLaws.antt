@@ -1,15 +1,15 @@
 -- The scripts of faults, fault by fault.
-use Rattle.std.proofs.Common.{◌≡◌, ◌+◌, ◌<◌, ℕ, zero, suc, None, List, [], ◌∷◌, ◌++◌, Option, Some, sym, ◌∙◌, ap}
+use Rattle.std.proofs.Common.{◌≡◌, ◌+◌, ◌<◌, ℕ, List, [], ◌∷◌, ◌++◌, Option, Some, sym, ◌∙◌, ap}
 use Rattle.std.proofs.Common.{arith, get_or, length, map, option_map, refl, subst, take}
 use Rattle.std.proofs.lemmas.Option.{slice_get-map, slice_get_read}
 use Rattle.std.specs.Prelude.{slice_get, unwrap_or}
 use Rattle.std.specs.List.{All}
 use Rattle.std.proofs.lemmas.List.{flat_map_more, get_or-map, length-map, map-append, map_push}
 use Rattle.std.proofs.lemmas.List.{take_more}
-use Rattle.std.proofs.lemmas.List.Elements.{All-append, All-push, All-nil, All-cons}
+use Rattle.std.proofs.lemmas.List.Elements.{All-append, All-push}
 use Rattle.model_line.specs.{declared.line.Line.Line, declared.script.Script.Script}
 use Rattle.model_line.specs.Fits.{Fits}
-use Rattle.file_tables.specs.script.Values.{ScriptValues, IsAskedAlike, values_of}
+use Rattle.file_tables.specs.script.Values.{ScriptValues, AsksAlike, values_of}
 use Rattle.file_tables.specs.script.SoFar.{AreOnce, names_in}
 use Rattle.base_memory.specs.{Gives.OfFault, declared.stopped.Stopped.Stopped}
 use Rattle.base_memory.specs.declared.stopped.Stopped.TheVariants as stopped
@@ -17,8 +17,6 @@ use Rattle.file_study.specs.declared.study.stage.SweptFault.{SweptFault}
 use Rattle.file_study.specs.study.Faults.{FaultValues, fault_values}
 use Rattle.file_study.specs.sweeps.Groups.{GroupValues, group_of, group_values, own_scripts, swept_from}
 use Rattle.file_study.specs.{sweeps.Refusals.IsAccepted, sweeps.Sweeps.count_of, sweeps.Sweeps.scripts_of}
-use Rattle.file_study.specs.{sweeps.Sweeps.script_name, sweeps.Sweeps.scripts_from, sweeps.Scripts.script_of}
-use Rattle.file_study.specs.sweeps.Choices.{choice_of}
 use Rattle.file_study.specs.sweeps.Studies.{AreScriptsOf, HasTwice, IsPushed, IsTwice}
 use Rattle.file_study.specs.sweeps.Studies.{IsRefusedBehind, IsStudyRefused, script_names}
 use Rattle.file_study.specs.declared.sweeps.group.Group.{Group}
@@ -29,21 +27,6 @@ use Rattle.file_study.proofs.sweeps_lemmas.Names.{values_names}
 pub own_of : (f : FaultValues) (own : List Script) → scripts_of f ≡ Some (map values_of own)
     → own_scripts f ≡ map values_of own
 own_of f own e = ap (λ o. unwrap_or o []) e
-
--- each of them asks each terminal alike
-asked_from : (f : FaultValues) (count k n : ℕ) → All IsAskedAlike (scripts_from f count k n)
-asked_from f count k zero = All-nil IsAskedAlike
-asked_from f count k (suc n) =
-    All-cons IsAskedAlike (script_of (script_name f count k) f (choice_of f k))
-    (scripts_from f count (k + 1) n) refl (asked_from f count (k + 1) n)
-
-asked_of : (f : FaultValues) (count : Option ℕ)
-    → All IsAskedAlike (unwrap_or (option_map (λ n. scripts_from f n 0 n) count) [])
-asked_of f None = All-nil IsAskedAlike
-asked_of f (Some n) = asked_from f n 0 n
-
-own_asked : (f : FaultValues) → All IsAskedAlike (own_scripts f)
-own_asked f = asked_of f (count_of f)
 
 names_of_own : (f : FaultValues) (own : List Script) → scripts_of f ≡ Some (map values_of own)
     → names_in (own_scripts f) ≡ script_names own
@@ -82,6 +65,7 @@ pub record AreOwn (line : Line) (f : FaultValues) (done own : List Script) : Typ
   pub accepted : IsAccepted line f
   pub are : scripts_of f ≡ Some (map values_of own)
   pub fit : All (Fits line) own
+  pub asks : All AsksAlike own
   pub once : AreOnce (script_names done ++ script_names own)
 
 -- the scripts of a fault and its group, behind those that are done
@@ -105,6 +89,9 @@ pushed_so line f old new own g n so count named swept scripts_new groups_new =
       fit = λ before.
           subst (λ (ss : List Script). All (Fits line) ss) (sym scripts_new)
           (All-append (Fits line) old.scripts.items own before so.fit);
+      asks = λ before.
+          subst (λ (ss : List Script). All AsksAlike ss) (sym scripts_new)
+          (All-append AsksAlike old.scripts.items own before so.asks);
       once =
           subst (λ (ns : List (List ℕ)). AreOnce ns)
           (sym (ap script_names scripts_new ∙ map-append name_of old.scripts.items own))
@@ -147,10 +134,7 @@ next_fault line fs i f old new more so pushed =
           ∙ (ap (λ (r : List GroupValues). r ++ group_of f ∷ []) so.groups_are
           ∙ sym (map_push group_of (take i fs) f));
       fit = pushed.fit so.fit;
-      asks =
-          subst (All IsAskedAlike) (sym pushed.scripts)
-          (All-append IsAskedAlike (map values_of old.scripts.items) (own_scripts f) so.asks
-          (own_asked f));
+      asks = pushed.asks so.asks;
       once = pushed.once;
     })
 

@@ -16,7 +16,7 @@ abbrev pub deadline_of : Kind → ChoiceValues → ℕ
 deadline_of Internal c = c.start + c.within
 deadline_of External c = 0
 
--- the script of a choice, under a name, which asks each terminal alike
+-- the script of a choice, under a name; it asks each terminal alike
 abbrev pub script_of : List ℕ → FaultValues → ChoiceValues → ScriptValues
 script_of name f c = record {
   name = name;

@@ -3,7 +3,7 @@
 ghost use Rattle.std.specs.Prelude.{◌≡◌, ◌≤◌, ◌+◌, IfOk, IfSome, IfNone, [], false, map, true};
 ghost use Rattle.std.specs.Prelude.{length, sum};
 ghost use Rattle.model_line.specs.PlainNames.{is_plain_name};
-ghost use Rattle.file_tables.specs.script.Values.{values_of};
+ghost use Rattle.file_tables.specs.script.Values.{AsksAlike, values_of};
 ghost use Rattle.file_study.specs.study.Faults.{fault_values, stage_values};
 ghost use Rattle.file_study.specs.sweeps.Choices.{choice_values, horizon_for};
 ghost use Rattle.file_study.specs.{sweeps.Scripts.deadline_of, sweeps.Scripts.place_name, sweeps.Scripts.script_of};
@@ -46,8 +46,9 @@ pub fn script(
 ) -> Result<Script, Memory>
     requires stages { length choice.now.lasts.items ≡ length fault.now.stages.items }
     requires ends { horizon_for (choice_values choice.now) ≤ 1000000 }
-    ensures { IfOk result (λ s. values_of s
+    ensures values { IfOk result (λ s. values_of s
         ≡ script_of name (fault_values fault.now) (choice_values choice.now)) }
+    ensures asks { IfOk result AsksAlike }
 {
     let spans = spans(alloc, choice.start, &choice.lasts, &fault.stages)?;
     Ok(Script {

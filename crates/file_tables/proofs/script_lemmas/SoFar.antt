@@ -7,17 +7,16 @@ use Rattle.std.proofs.lemmas.List.Sums.{sum_by-append, sum_by-cons}
 use Rattle.std.proofs.lemmas.List.Elements.{All-nil, All-cons, All-push, All-head, All-tail}
 use Rattle.std.proofs.lemmas.Bool.{ltb-true}
 use Rattle.std.specs.Str.{bytes_eq}
-use Rattle.std.specs.Prelude.{Vec, IfOk, IsTrue}
+use Rattle.std.specs.Prelude.{Vec, IfOk}
 use Rattle.std.specs.declared.alloc.Global.{Global}
 use Rattle.std.specs.List.{sum_by, All}
 use Rattle.base_text.specs.store.Number.{number_of}
-use Rattle.model_line.specs.{declared.line.Line.Line, declared.script.Kind.Kind, Asks.alike, Fits.asks_fit}
+use Rattle.model_line.specs.{declared.line.Line.Line, declared.script.Kind.Kind, Asks.alike}
 use Rattle.model_line.specs.{declared.script.Script.Script, Fits.Fits, PlainNames.is_plain_name}
 use Rattle.file_tables.specs.declared.script.fault.ScriptFault.{ScriptFault}
 use Rattle.file_tables.specs.declared.script.item.Item.TheVariants.{Head, Seen, Lost}
 use Rattle.base_records.specs.SoFar.{SoFar, all_of, nothing}
-use Rattle.file_tables.specs.script.Values.{ScriptValues, AreOfOneFile, IsAskedAlike, values_of, with_head}
-use Rattle.file_tables.specs.script.Values.{with_row}
+use Rattle.file_tables.specs.script.Values.{ScriptValues, IsAlike, AreOfOneFile, values_of, with_head, with_row}
 use Rattle.file_tables.specs.script.SoFar.{AreOnce, IsSoFar, ValuesFit, names_in, records_in}
 use Rattle.file_tables.specs.{declared.script.item.Item.Item, script.Row.Row, script.Checks.is_head}
 use Rattle.file_tables.specs.{script.Checks.is_taken, script.Scripts.after_item, script.Scripts.after_record}
@@ -32,7 +31,7 @@ none_so_far line =
     record {
       heads = omega arith;
       fit = All-nil (ValuesFit line);
-      asks = All-nil IsAskedAlike;
+      asks = All-nil IsAlike;
       number = refl;
       once = once_none;
     }
@@ -59,9 +58,6 @@ one_more : (v : ScriptValues) (vs : List ScriptValues)
     → sum_by records_in (vs ++ v ∷ []) ≡ sum_by records_in vs + records_in v
 one_more v vs = let e = sum_by-append records_in vs (v ∷ []) in omega arith
 
-alike_fit : (horizon : ℕ) (kind : Kind) → IsTrue (asks_fit horizon kind alike)
-alike_fit horizon kind = refl
-
 after_head_so_far : (line : Line) (s : SoFar ScriptValues) (n : ℕ) (row : Row) (kind : Kind)
     (t : SoFar ScriptValues) → IsSoFar line n s → is_plain_name row.name ≡ true
     → is_taken s row.name ≡ false → HeadPassed line s row kind t → IsSoFar line (n + 1) t
@@ -72,7 +68,7 @@ after_head_so_far line s n row kind t so_far plain unused p =
       plain_name = plain;
       few_spans = omega arith;
       deadline = head_deadline_fits line kind row.from row.to p.deadline p.ticks;
-      asks = alike_fit line.horizon kind;
+      asks = refl;
       spans = refl;
     } in
     let room = ltb-true (length (all_of s)) 64 p.room in
@@ -82,7 +78,7 @@ after_head_so_far line s n row kind t so_far plain unused p =
     let kept : IsSoFar line (n + 1) (with_head s row.name kind p.deadline) = record {
       heads = omega arith;
       fit = All-push (ValuesFit line) (all_of s) new so_far.fit new_fits;
-      asks = All-push IsAskedAlike (all_of s) new so_far.asks refl;
+      asks = All-push IsAlike (all_of s) new so_far.asks refl;
       number = omega arith;
       once = subst (λ (names : List (List ℕ)). AreOnce names)
           (sym (map-append (λ (v : ScriptValues). v.name) (all_of s) (new ∷ [])))
@@ -102,7 +98,6 @@ after_row_so_far line s n row item t so_far p =
     p.stands so_far in
     let done = All-front (ValuesFit line) s.done (p.latest ∷ []) before.fit in
     let latest = All-last (ValuesFit line) s.done p.latest before.fit in
-    let asked = All-last IsAskedAlike s.done p.latest before.asks in
     let room = ltb-true (length p.latest.spans) 200 p.room in
     let spans = length-append p.latest.spans (p.span ∷ []) in
     let new_fits : ValuesFit line new = record {
@@ -123,8 +118,9 @@ after_row_so_far line s n row item t so_far p =
     let kept : IsSoFar line (n + 1) (with_row s p.latest p.span) = record {
       heads = omega arith;
       fit = All-push (ValuesFit line) s.done new done new_fits;
-      asks = All-push IsAskedAlike s.done new
-          (All-front IsAskedAlike s.done (p.latest ∷ []) before.asks) asked;
+      asks = All-push IsAlike s.done new
+          (All-front IsAlike s.done (p.latest ∷ []) before.asks)
+          (All-last IsAlike s.done p.latest before.asks);
       number = omega arith;
       once = subst (λ (names : List (List ℕ)). AreOnce names)
           (map-append (λ (v : ScriptValues). v.name) s.done (p.latest ∷ [])

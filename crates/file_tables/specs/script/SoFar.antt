@@ -4,7 +4,7 @@ use Rattle.std.specs.List.{All, list_all, sum_by}
 use Rattle.model_line.specs.Fits.{span_fits, deadline_fits, asks_fit}
 use Rattle.model_line.specs.{declared.line.Line.Line, PlainNames.is_plain_name}
 use Rattle.base_records.specs.SoFar.{SoFar, all_of}
-use Rattle.file_tables.specs.script.Values.{ScriptValues, IsAskedAlike}
+use Rattle.file_tables.specs.script.Values.{ScriptValues, IsAlike}
 
 -- a script with these values fits the line
 pub record ValuesFit (line : Line) (v : ScriptValues) : Type 0 where
@@ -25,11 +25,11 @@ names_in vs = map (λ v. v.name) vs
 abbrev pub records_in : ScriptValues → ℕ
 records_in v = 1 + length v.spans
 
--- before record n: at most 64 scripts, each of which fits and asks each terminal alike, and each
--- record counted
+-- before record n: at most 64 scripts, each of which fits and asks its terminals alike, and each record
+-- counted
 pub record IsSoFar (line : Line) (n : ℕ) (s : SoFar ScriptValues) : Type 0 where
   pub heads : length (all_of s) ≤ 64
   pub fit : All (ValuesFit line) (all_of s)
-  pub asks : All IsAskedAlike (all_of s)
+  pub asks : All IsAlike (all_of s)
   pub number : n ≡ 2 + sum_by records_in (all_of s)
   pub once : AreOnce (names_in (all_of s))

@@ -77,7 +77,7 @@ impl<'a> RecordReader for ScriptReader<'a> {
     }
 }
 
-// A head opens a script that has no span yet and asks each terminal alike.
+// A head opens a script that has no span yet.
 #[tactic(auto, unfolding(crate::specs::script::Scripts::after_head))]
 fn with_head(
     alloc: Global,
