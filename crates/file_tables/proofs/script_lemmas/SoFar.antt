@@ -11,12 +11,12 @@ use Rattle.std.specs.Prelude.{Vec, IfOk}
 use Rattle.std.specs.declared.alloc.Global.{Global}
 use Rattle.std.specs.List.{sum_by, All}
 use Rattle.base_text.specs.store.Number.{number_of}
-use Rattle.model_line.specs.{declared.line.Line.Line, declared.script.Kind.Kind}
+use Rattle.model_line.specs.{declared.line.Line.Line, declared.script.Kind.Kind, Asks.alike}
 use Rattle.model_line.specs.{declared.script.Script.Script, Fits.Fits, PlainNames.is_plain_name}
 use Rattle.file_tables.specs.declared.script.fault.ScriptFault.{ScriptFault}
 use Rattle.file_tables.specs.declared.script.item.Item.TheVariants.{Head, Seen, Lost}
 use Rattle.base_records.specs.SoFar.{SoFar, all_of, nothing}
-use Rattle.file_tables.specs.script.Values.{ScriptValues, AreOfOneFile, values_of, with_head, with_row}
+use Rattle.file_tables.specs.script.Values.{ScriptValues, IsAlike, AreOfOneFile, values_of, with_head, with_row}
 use Rattle.file_tables.specs.script.SoFar.{AreOnce, IsSoFar, ValuesFit, names_in, records_in}
 use Rattle.file_tables.specs.{declared.script.item.Item.Item, script.Row.Row, script.Checks.is_head}
 use Rattle.file_tables.specs.{script.Checks.is_taken, script.Scripts.after_item, script.Scripts.after_record}
@@ -28,7 +28,13 @@ use Rattle.file_tables.proofs.script_lemmas.Steps.{HeadPassed, head_passed, RowP
 
 pub none_so_far : (line : Line) → IsSoFar line 2 nothing
 none_so_far line =
-    record { heads = omega arith; fit = All-nil (ValuesFit line); number = refl; once = once_none }
+    record {
+      heads = omega arith;
+      fit = All-nil (ValuesFit line);
+      asks = All-nil IsAlike;
+      number = refl;
+      once = once_none;
+    }
 
 few_records : (line : Line) (vs : List ScriptValues) → All (ValuesFit line) vs
     → sum_by records_in vs ≤ 201 * length vs
@@ -57,11 +63,12 @@ after_head_so_far : (line : Line) (s : SoFar ScriptValues) (n : ℕ) (row : Row)
     → is_taken s row.name ≡ false → HeadPassed line s row kind t → IsSoFar line (n + 1) t
 after_head_so_far line s n row kind t so_far plain unused p =
     let new : ScriptValues =
-    record { name = row.name; kind = kind; deadline = p.deadline; spans = [] } in
+    record { name = row.name; kind = kind; deadline = p.deadline; asks = alike; spans = [] } in
     let new_fits : ValuesFit line new = record {
       plain_name = plain;
       few_spans = omega arith;
       deadline = head_deadline_fits line kind row.from row.to p.deadline p.ticks;
+      asks = refl;
       spans = refl;
     } in
     let room = ltb-true (length (all_of s)) 64 p.room in
@@ -71,6 +78,7 @@ after_head_so_far line s n row kind t so_far plain unused p =
     let kept : IsSoFar line (n + 1) (with_head s row.name kind p.deadline) = record {
       heads = omega arith;
       fit = All-push (ValuesFit line) (all_of s) new so_far.fit new_fits;
+      asks = All-push IsAlike (all_of s) new so_far.asks refl;
       number = omega arith;
       once = subst (λ (names : List (List ℕ)). AreOnce names)
           (sym (map-append (λ (v : ScriptValues). v.name) (all_of s) (new ∷ [])))
@@ -96,6 +104,7 @@ after_row_so_far line s n row item t so_far p =
       plain_name = latest.plain_name;
       few_spans = omega arith;
       deadline = latest.deadline;
+      asks = latest.asks;
       spans = one_span_more line p.latest.spans p.span latest.spans
           (row_span_fits line item row.place p.place (number_of row.from) (number_of row.to) p.span
           p.found p.ticks);
@@ -109,6 +118,9 @@ after_row_so_far line s n row item t so_far p =
     let kept : IsSoFar line (n + 1) (with_row s p.latest p.span) = record {
       heads = omega arith;
       fit = All-push (ValuesFit line) s.done new done new_fits;
+      asks = All-push IsAlike s.done new
+          (All-front IsAlike s.done (p.latest ∷ []) before.asks)
+          (All-last IsAlike s.done p.latest before.asks);
       number = omega arith;
       once = subst (λ (names : List (List ℕ)). AreOnce names)
           (map-append (λ (v : ScriptValues). v.name) s.done (p.latest ∷ [])
@@ -153,6 +165,7 @@ good line n s some so_far = record {
         let number = so_far.number in
         omega arith);
     few = so_far.heads;
+    asks = so_far.asks;
     once = λ j k less below. so_far.once j k less
         (let count = length-map (all_of s) (λ (v : ScriptValues). v.name) in omega arith);
   };
@@ -169,6 +182,7 @@ values_fit line (s ∷ scripts) fit =
       plain_name = here.plain_name;
       few_spans = here.few_spans;
       deadline = here.deadline;
+      asks = here.asks;
       spans = here.spans;
     })
     (values_fit line scripts

@@ -27,8 +27,9 @@ use Rattle.model_line.specs.declared.script.What.TheVariants as what
 use Rattle.model_line.specs.NamesByNumber.{element_text, kind_text}
 use Rattle.model_names.specs.NumbersByName.{channel_named}
 use Rattle.file_tables.specs.declared.script.item.Item.TheVariants.{Head, Seen, Lost}
-use Rattle.base_records.specs.SoFar.{SoFar, all_of, nothing}
-use Rattle.file_tables.specs.script.Values.{ScriptValues, AreOfOneFile, values_of, with_head}
+use Rattle.base_records.specs.SoFar.{SoFar, all_of, nothing, opened}
+use Rattle.model_line.specs.{declared.asks.Asks.Asks, Asks.alike}
+use Rattle.file_tables.specs.script.Values.{ScriptValues, IsAlike, AsksAlike, AreOfOneFile, values_of, with_head}
 use Rattle.file_tables.specs.script.Scripts.{after_head, after_row, after_item, after_record, script_file}
 use Rattle.file_tables.specs.script.Scripts.{scripts_in}
 use Rattle.file_tables.specs.script.Printed.{deadline_text, head_record, item_text, place_text}
@@ -183,16 +184,17 @@ head_stands line s n v fit new few =
 
 -- a whole script
 script_stands : (line : Line) (s : SoFar ScriptValues) (n : ℕ) (v : ScriptValues)
-    (rest : List (List (List ℕ))) → ValuesFit line v → is_taken s v.name ≡ false
+    (rest : List (List (List ℕ))) → ValuesFit line v → v.asks ≡ alike → is_taken s v.name ≡ false
     → length (all_of s) < 64
     → after_records (script_file line) s n (script_records line v ++ rest)
     ≡ after_records (script_file line) (at_script (all_of s) v) (n + 1 + length v.spans) rest
 unfolding after_records
-script_stands line s n v rest fit new few =
+script_stands line s n v rest fit asks new few =
     let behind : List (List (List ℕ)) = map (row_record line v.name) v.spans ++ rest in
     let bare : ScriptValues = record v { spans = [] } in
     ap (λ r. r >>= λ next. after_records (script_file line) next (n + 1) behind)
-    (head_stands line s n v fit new few)
+    (head_stands line s n v fit new few
+    ∙ ap (λ (x : Asks). Ok (opened s (record v { asks = x; spans = [] }))) (sym asks))
     ∙ rows_stand line (all_of s) bare (n + 1) v.spans rest
     fit.plain_name (omega arith) fit.spans
 
@@ -224,12 +226,12 @@ new_behind s v vs new = record {
 }
 
 scripts_stand : (line : Line) (s : SoFar ScriptValues) (n : ℕ) (vs : List ScriptValues)
-    → All (ValuesFit line) vs → AreNew s vs → length (all_of s) + length vs ≤ 64
+    → All (ValuesFit line) vs → All IsAlike vs → AreNew s vs → length (all_of s) + length vs ≤ 64
     → (after_records (script_file line) s n (flat_map (script_records line) vs) >>= λ t. Ok (all_of t))
     ≡ Ok (all_of s ++ vs)
 unfolding after_records
-scripts_stand line s n [] fit new few = ap (λ list. Ok list) (sym (append-nil (all_of s)))
-scripts_stand line s n (v ∷ vs) fit new few =
+scripts_stand line s n [] fit asks new few = ap (λ list. Ok list) (sym (append-nil (all_of s)))
+scripts_stand line s n (v ∷ vs) fit asks new few =
     let here = All-head (ValuesFit line) v vs fit in
     let rest : List (List (List ℕ)) = flat_map (script_records line) vs in
     let next : SoFar ScriptValues = at_script (all_of s) v in
@@ -238,9 +240,9 @@ scripts_stand line s n (v ∷ vs) fit new few =
     ap (λ rows. after_records (script_file line) s n rows >>= λ t. Ok (all_of t))
     (flat_map-cons (script_records line) v vs)
     ∙ ap (λ r. r >>= λ t. Ok (all_of t))
-    (script_stands line s n v rest here taken (omega arith))
+    (script_stands line s n v rest here (All-head IsAlike v vs asks) taken (omega arith))
     ∙ scripts_stand line next (n + 1 + length v.spans) vs (All-tail (ValuesFit line) v vs fit)
-    (new_behind s v vs new) (omega arith)
+    (All-tail IsAlike v vs asks) (new_behind s v vs new) (omega arith)
     ∙ ap (λ list. Ok list) (append_assoc (all_of s) (v ∷ []) vs)
 
 -- the printed records stand for the scripts
@@ -258,7 +260,7 @@ printed_stand line (v ∷ vs) fit one_file =
     (flat_map-cons (script_records line) v vs)
     ∙ ap (λ rows. after_records (script_file line) nothing 2 rows >>= λ s. Ok (all_of s))
     (sym (flat_map-cons (script_records line) v vs))
-    ∙ scripts_stand line nothing 2 (v ∷ vs) fit new
+    ∙ scripts_stand line nothing 2 (v ∷ vs) fit one_file.asks new
     (let few = one_file.few in omega arith)
 
 pub scripts_fit_by_values : (line : Line) (scripts : List Script) → All (Fits line) scripts
@@ -271,6 +273,22 @@ scripts_fit_by_values line (s ∷ scripts) fit =
       plain_name = here.plain_name;
       few_spans = here.few_spans;
       deadline = here.deadline;
+      asks = here.asks;
       spans = here.spans;
     })
     (scripts_fit_by_values line scripts (All-tail (Fits line) s scripts fit))
+
+-- scripts ask their terminals alike where their values do
+pub alike_by_values : (scripts : List Script) → All AsksAlike scripts
+    → All IsAlike (map values_of scripts)
+alike_by_values [] all = All-nil IsAlike
+alike_by_values (s ∷ scripts) all =
+    All-cons IsAlike (values_of s) (map values_of scripts) (All-head AsksAlike s scripts all)
+    (alike_by_values scripts (All-tail AsksAlike s scripts all))
+
+pub values_alike : (scripts : List Script) → All IsAlike (map values_of scripts)
+    → All AsksAlike scripts
+values_alike [] all = All-nil AsksAlike
+values_alike (s ∷ scripts) all =
+    All-cons AsksAlike s scripts (All-head IsAlike (values_of s) (map values_of scripts) all)
+    (values_alike scripts (All-tail IsAlike (values_of s) (map values_of scripts) all))

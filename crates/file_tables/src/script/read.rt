@@ -17,7 +17,7 @@ use crate::script::item::{Item, item_named};
 use base_memory::Stopped;
 use base_records::{Reading, RecordReader, has_five, is, is_nothing, read_file};
 use csv::ByteRecord;
-use model_line::{Kind, Line, Name, Script};
+use model_line::{ALIKE, Kind, Line, Name, Script};
 use std::alloc::Global;
 
 /// Reads the scripts of a line.
@@ -104,6 +104,7 @@ fn with_head(
         name: Name::plain(fields.name),
         kind,
         deadline,
+        asks: ALIKE,
         spans: Vec::new(alloc),
     };
     Ok(Reading {
