@@ -14,6 +14,7 @@ use Rattle.cert_settle.specs.Grammar.{SettleResult, tree, fails}
 use Rattle.judge_cases.specs.Trees.{AreTree}
 use Rattle.cert_settle.specs.Results.{IsSupported, IsTold}
 use Rattle.cert_settle.specs.Counts.{is_decided}
+use Rattle.model_line.specs.Asks.{AllEndInRun}
 
 -- ---- few nodes
 
@@ -57,7 +58,7 @@ decided_yes (Wanted span first second) =
     ∙ ap (λ (b : Bool). are_yes first && b) (decided_yes second)
 
 pub supported_told : SoundTreesMeet → (line : Line) (script : Script) (k : ℕ)
-    (result : SettleResult) → script.deadline < line.horizon → k < terminal_count line
+    (result : SettleResult) → AllEndInRun line.horizon script → k < terminal_count line
     → IsSupported line script k result → IsTold line script k result
 supported_told meet line script k (tree nodes) early there shown = λ yes.
     meet.declared line script k shown.tree early there shown.sound

@@ -11,28 +11,33 @@ use Rattle.cert_claims.specs.declared.check.no.NoFault.{NoFault}
 use Rattle.cert_claims.specs.declared.check.no.NoFault.TheVariants.{Outside, Passes}
 use Rattle.cert_claims.specs.check.MetLaws.{met_meets, met_once, met_same, outside_once}
 use Rattle.cert_settle.specs.Timings.{FailsAt, PassesAt, IsMetInside, IsNoFault, IsRefutation}
+use Rattle.model_line.specs.Asks.{AllEndInRun, obligation_of}
+use Rattle.model_line.specs.declared.asks.Obligation.{Obligation}
 
 -- ---- what one history at the timing shows, all do
 
 module _ (line : Line) (script : Script) (timing : TimingValues)
     (once : (g h : History) → IsLineHistory line script (timing_choice line timing) g
     → IsLineHistory line script (timing_choice line timing) h → IsSameHistory line g h)
-    (early : script.deadline < line.horizon)
+    (early : AllEndInRun line.horizon script)
     (k : ℕ) (there : k < terminal_count line) (g : History)
     (is_g : IsLineHistory line script (timing_choice line timing) g) where
   pub told_by_one : (met : Option ℕ)
-      → MatchOption met (¬ (MeetsBy script.kind script.deadline line.horizon (g.trip k)))
-      (λ t. IsMetAt script.kind script.deadline line.horizon (g.trip k) t)
+      → MatchOption met (¬ (MeetsBy (obligation_of line script k) (g.trip k)))
+      (λ t. IsMetAt (obligation_of line script k) (g.trip k) t)
       → MatchOption met (FailsAt line script k timing) (λ t. PassesAt line script k timing t)
   told_by_one None fails = λ h is_h meets.
       let same : IsSameHistory line h g =
       once h g is_h is_g in
-      fails (meets_same script.kind script.deadline line.horizon (h.trip k) (g.trip k) early
+      fails (meets_same (obligation_of line script k) line.horizon (h.trip k) (g.trip k)
+      (early.each k)
       (λ t lt. same.trips k t there lt) meets)
   told_by_one (Some t) met = λ h is_h.
       let same : IsSameHistory line g h =
       once g h is_g is_h in
-      met_same script.kind script.deadline line.horizon (g.trip k) (h.trip k) t early
+      let asked : Obligation = obligation_of line script k in
+      met_same asked.kind asked.deadline asked.end line.horizon (g.trip k) (h.trip k) t
+      (early.each k).deadline (early.each k).end
       (λ r lt. same.trips k r there lt) met
 
 -- ---- what is wrong with a timing
@@ -51,7 +56,8 @@ module _ (line : Line) (script : Script) (have : HaveHistories line script) (k :
       → IsMetInside line script k timing r → t ≡ r
   passes_once timing t r a b =
       let h = have timing a.inside in
-      met_once script.kind script.deadline line.horizon (h.0.trip k) t r (a.passes h.0 h.1)
+      met_once (obligation_of line script k).kind (obligation_of line script k).deadline
+      (obligation_of line script k).end (h.0.trip k) t r (a.passes h.0 h.1)
       (b.passes h.0 h.1)
 
   pub no_once : (timing : TimingValues) (f g : NoFault) → IsNoFault line script k timing f
@@ -71,4 +77,5 @@ module _ (line : Line) (script : Script) (have : HaveHistories line script) (k :
   no_refused timing (Passes t) a refuted =
       let h = have timing a.inside in
       refuted.fails h.0 h.1
-      (met_meets script.kind script.deadline line.horizon (h.0.trip k) t (a.passes h.0 h.1))
+      (met_meets (obligation_of line script k).kind (obligation_of line script k).deadline
+      (obligation_of line script k).end (h.0.trip k) t (a.passes h.0 h.1))

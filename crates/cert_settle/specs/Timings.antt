@@ -6,6 +6,7 @@ use Rattle.model_timing.specs.{Timing.TimingValues, Inside.IsTimingInside, Choic
 use Rattle.cert_claims.specs.check.Refutations.{IsMetAt, IsFirstOutside}
 use Rattle.cert_claims.specs.declared.check.no.NoFault.{NoFault}
 use Rattle.cert_claims.specs.declared.check.no.NoFault.TheVariants.{Outside, Passes}
+use Rattle.model_line.specs.Asks.{obligation_of}
 
 -- the history at the timing, of which there is one, fails the obligation of terminal k
 abbrev pub FailsAt : Line → Script → ℕ → TimingValues → Type 0
@@ -17,7 +18,7 @@ FailsAt line script k timing =
 abbrev pub PassesAt : Line → Script → ℕ → TimingValues → ℕ → Type 0
 PassesAt line script k timing t =
     (h : History) → IsLineHistory line script (timing_choice line timing) h
-    → IsMetAt script.kind script.deadline line.horizon (h.trip k) t
+    → IsMetAt (obligation_of line script k) (h.trip k) t
 
 -- the timing is inside the declared intervals, and its history fails the obligation
 pub record IsRefutation (line : Line) (script : Script) (k : ℕ) (timing : TimingValues)

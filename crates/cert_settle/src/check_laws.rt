@@ -14,7 +14,7 @@ ghost use Rattle.cert_settle.specs.Check.{IsAccepted, IsSoundText, IsSettleFault
 use crate::laws::{a_settle_text_has_one_meaning, a_settle_text_leaves_at_one_line};
 use crate::timing::a_timing_has_one_fault;
 use model_fine::span_laws::sound_trees_meet;
-use model_line::laws::deadlines_are_below_the_horizon;
+use model_line::laws::obligations_end_in_the_run;
 
 // A text says one thing or leaves its grammar at one line, and results are supported or have one
 // first fault.
@@ -60,6 +60,6 @@ pub fn accepted_settled_trees_are_so()
         IsSoundText line scripts bytes }
 {
     sound_trees_meet();
-    deadlines_are_below_the_horizon();
+    obligations_end_in_the_run();
     a_settle_text_has_one_meaning();
 }

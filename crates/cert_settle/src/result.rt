@@ -22,7 +22,7 @@ use judge_cases::CaseNode;
 use judge_verdict::verdict::{PairWaves, analyse};
 use model_fine::span_laws::sound_trees_meet;
 use model_line::Script;
-use model_line::laws::deadlines_are_below_the_horizon;
+use model_line::laws::obligations_end_in_the_run;
 use net_gates::Compiled;
 use std::alloc::Global;
 
@@ -44,7 +44,7 @@ pub(crate) fn check_results(
         (map result_in results.now)) }
 {
     sound_trees_meet();
-    deadlines_are_below_the_horizon();
+    obligations_end_in_the_run();
     let waves = analyse(alloc, compiled, script)?;
     for i in 0..results.len() {
         check_result(alloc, compiled, script, &waves, i as u32, &results[i])?;

@@ -11,8 +11,8 @@ ghost use Rattle.cert_settle.specs.Results.{timing_of};
 ghost use Rattle.cert_settle.specs.Timings.{FailsAt, PassesAt, IsRefutation, IsNoFault};
 
 use cert_claims::check::{NoFault, first_outside, met_tick};
-use model_line::laws::deadlines_are_below_the_horizon;
-use model_line::{Line, Memory, Script};
+use model_line::laws::obligations_end_in_the_run;
+use model_line::{Line, Memory, Script, obligation_at};
 use model_logic::laws::{each_choice_has_one_history, each_line_has_a_choice_inside};
 use model_timing::{Step, timings_inside_are_choices_inside};
 use net_gates::Compiled;
@@ -68,11 +68,12 @@ fn met_at(
 {
     a_timing_is_one_choice();
     each_choice_has_one_history();
-    deadlines_are_below_the_horizon();
+    obligations_end_in_the_run();
     let numbers = ticks_of(alloc, compiled.line, values)?;
     let tracks = run_tracks::<Level>(alloc, compiled, script, numbers.as_slice(), steps)?;
     let trip = &tracks.trips[terminal as usize];
-    Ok(met_tick(trip, script, compiled.line.horizon))
+    let asked = obligation_at(compiled.line, script, terminal);
+    Ok(met_tick(trip, asked))
 }
 
 // The numbers as ticks.

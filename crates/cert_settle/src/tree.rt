@@ -22,7 +22,7 @@ use judge_cases::{
     Assumed, CaseNode, View, are_shown, assumed_view, declared_view, lower_view, upper_view,
 };
 use judge_verdict::verdict::{PairWaves, Rule, judge};
-use model_line::laws::deadlines_are_below_the_horizon;
+use model_line::laws::obligations_end_in_the_run;
 use model_line::{Line, Memory, Script};
 use model_logic::laws::line_laws;
 use model_settle::case_laws::{each_box_has_one_history_under, what_is_shown_of_one_is_shown};
@@ -107,7 +107,7 @@ fn is_shown_at_once(of: &Obligation<'_>, waves: &PairWaves) -> bool
     line_laws();
     each_box_has_one_history_under();
     what_is_shown_of_one_is_shown();
-    deadlines_are_below_the_horizon();
+    obligations_end_in_the_run();
     match judge(waves, of.script, of.terminal) {
         Rule::Held => true,
         Rule::Broken => false,
@@ -136,7 +136,7 @@ fn leaf_not_shown(
         leaf)) }
 {
     a_view_stands_for_its_box();
-    deadlines_are_below_the_horizon();
+    obligations_end_in_the_run();
     let view = declared_view(alloc, of.compiled.line)?;
     let mut leaves = LeafViews {
         views: Vec::new(alloc),

@@ -37,7 +37,7 @@ module _ (known : Known) (line : Line) (script : Script) (fit : Fits line script
       → IsHeldOver line script k inner → IsHeldOver line script k box
   wider k inner box kn railed ordered low_inner low within held = record {
     held = λ w is_w.
-        let early = known.lines.deadlines line script fit in
+        let early = known.lines.ends line script fit in
         let sides = scheme_sides line (deciding script.kind) in
         let choice : Choice = worst_choice line sides box w.key in
         let own : IsWithin line choice box = known.worst.within line box sides w ordered in
@@ -45,7 +45,7 @@ module _ (known : Known) (line : Line) (script : Script) (fit : Fits line script
         (from_one_within line choice box low own) in
         let met = known.held.meets line script k inner early low_inner kn held choice h (within w)
         is_h in
-        (known.lines.rule.held line script (w.trip k)).1
+        (known.lines.rule.held line script k (w.trip k)).1
         ((known.fails line script box all_terminals sides k w h ordered low early
         (λ j jn in_cone. read_stays _ _ _ _ _ _ (known.railed.keys line (deciding script.kind)
         railed j jn in_cone)) kn

@@ -95,7 +95,7 @@ module _ (known : Known) (line : Line) (script : Script) (fit : Fits line script
       let stays = least_stays own side m ordered (omega (arith, le, short)) in
       omega (arith, one, stays) in
       known.held.narrower line script k (narrowed line param side n) (narrowed line param side m)
-      (known.lines.deadlines line script fit)
+      (known.lines.ends line script fit)
       (box_from_one known line param (moved_in own side m) low) kn
       (box_within known line param (moved_in own side n) (moved_in own side m)
       (further_part own side m n ordered le short)) held
@@ -107,7 +107,7 @@ module _ (known : Known) (line : Line) (script : Script) (fit : Fits line script
       let ordered = known.ordered.ordered line param pn in
       let end = end_for (deciding script.kind) (setting_at line param) in
       let outer : Ends = cover own side end m n in
-      let early = known.lines.deadlines line script fit in
+      let early = known.lines.ends line script fit in
       let low : LeastFromOne line (declared_with line param outer) =
       box_from_one known line param outer (λ yes. absurd (along.number yes)) in
       let wide : IsHeldOver line script k (declared_with line param outer) =
@@ -167,5 +167,5 @@ unmoved_off known line script k param side fit kn pn off held =
     let can : CanMoveIn line param side 0 =
     record { depth = omega arith; along = λ past. absurd (omega (arith, past)) } in
     off (known.held.narrower line script k (declared_box line) (narrowed line param side 0)
-    (known.lines.deadlines line script fit) (move_from_one known line param side 0 pn can) kn
+    (known.lines.ends line script fit) (move_from_one known line param side 0 pn can) kn
     (declared_within known line param (moved_in ends side 0) (unmoved_part ends side ordered)) held)

@@ -26,6 +26,7 @@ use Rattle.judge_slacks.specs.{Known.Known, declared.asked.Asked.Asked, declared
 use Rattle.judge_slacks.specs.Asked.{AreMoveSpans, CanMoveBy, IsAsked, IsGap, IsHeldBy, move_at}
 use Rattle.judge_slacks.specs.Inward.{narrowed}
 use Rattle.judge_slacks.proofs.InwardLaws.{can_less, move_from_one}
+use Rattle.model_line.specs.Asks.{obligation_of}
 
 module _ (of : Asked) (gap : Gap) (at : IsGap of gap) where
   pub can_move : (n : ℕ) → CanMoveBy of (move_at gap n)
@@ -74,21 +75,21 @@ module _ (known : Known) (of : Asked) (is : IsAsked of) (gap : Gap) (at : IsGap 
       → slice_get trips of.terminal ≡ Some trip → (lane : ℕ) (bit : Bool) → lane < 64
       → IsTheHistory line of.script.now (lane_box span_ends line spans [] lane)
       (tracks_history terns_rails lane keys trips)
-      → bit ≡ is_held of.script.now.kind of.script.now.deadline line.horizon (trip_rails trip lane)
+      → bit ≡ is_held (obligation_of line of.script.now of.terminal) (trip_rails trip lane)
       → Decides bit (IsHeldBy of (move_at gap (lane + 1)))
   tells_held keys trips trip at_trip lane bit inside history told_by =
       let script : Script = of.script.now in
       let k : ℕ = of.terminal in
-      let early = known.lines.deadlines line script is.fits in
+      let early = known.lines.ends line script is.fits in
       let w : PairHistory = tracks_history terns_rails lane keys trips in
       let box : Box = lane_box span_ends line spans [] lane in
       let boxes = box_of_lane lane inside in
-      let told : bit ≡ is_held script.kind script.deadline line.horizon (w.trip k) =
+      let told : bit ≡ is_held (obligation_of line script k) (w.trip k) =
       told_by ∙ ap (λ (o : Option (SentKeys Terns64)).
-      is_held script.kind script.deadline line.horizon (λ t. pair_of terns_rails lane t o))
+      is_held (obligation_of line script k) (λ t. pair_of terns_rails lane t o))
       (sym at_trip) in
-      let tested = known.lines.rule_tests.held script.kind script.deadline line.horizon (w.trip k) in
-      let exact = known.lines.rule.held line script (w.trip k) in (
+      let tested = known.lines.rule_tests.held (obligation_of line script k).kind (obligation_of line script k).deadline (obligation_of line script k).end (w.trip k) in
+      let exact = known.lines.rule.held line script k (w.trip k) in (
         λ on.
             known.held.same line script k box (moved lane) (turned line box (moved lane) boxes)
             (known.held.one line script k box w early (lane_from_one lane inside) is.terminal

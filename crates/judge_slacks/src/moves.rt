@@ -27,7 +27,7 @@ pub fn held_moves(alloc: Global, of: &Asked<'_>, gap: Gap) -> Result<Lanes64, Me
     let steps: [Step<Spans64>; 0] = [];
     let tracks = run_tracks::<Terns64>(alloc, &of.compiled, of.script, &spans, &steps)?;
     let trip = &tracks.trips[of.terminal as usize];
-    Ok(held_lanes(of.compiled.line, of.script, trip))
+    Ok(held_lanes(of.compiled.line, of.script, of.terminal, trip))
 }
 
 // A span for each parameter: in each lane its interval with the end moved so far.

@@ -16,6 +16,7 @@ use Rattle.cert_split.specs.check.Results.{IsSupported, IsTold}
 use Rattle.cert_split.specs.check.FirstLeaf.{IsFirstNotHeld, IsTreeNotHeld}
 use Rattle.cert_split.specs.check.Walks.{IsNotHeldFrom}
 use Rattle.cert_split.proofs.text_lemmas.FewLines.{full, some_node}
+use Rattle.model_line.specs.Asks.{AllEndInRun}
 
 -- ---- few nodes
 
@@ -60,12 +61,12 @@ whole_not_held line script k nodes t fault are h =
 -- what a sound tree with yes leaves alone says
 abbrev pub Speaks : Type 0
 Speaks = (line : Line) (script : Script) (k : ℕ) (box : Box) (t : SplitTree)
-    → script.deadline < line.horizon → k < terminal_count line → LeastFromOne line box
+    → AllEndInRun line.horizon script → k < terminal_count line → LeastFromOne line box
     → IsSoundSplit line script k box t → IsTrue (are_yes t) → (choice : Choice) (h : History)
     → IsWithin line choice box → IsLineHistory line script choice h → Meets line script k h
 
 pub supported_told : Speaks → (line : Line) (script : Script) (k : ℕ) (result : SplitResult)
-    → script.deadline < line.horizon → k < terminal_count line
+    → AllEndInRun line.horizon script → k < terminal_count line
     → LeastFromOne line (declared_box line) → IsSupported line script k result
     → IsTold line script k result
 supported_told speaks line script k (tree nodes) early there least held = λ yes.

@@ -1,5 +1,5 @@
 -- The text of split trees is short.
-use Rattle.std.proofs.Common.{◌≡◌, ◌≤◌, ◌<◌, ◌+◌, ◌*◌, ◌^◌, ℕ, zero, suc, refl, List, [], ◌∷◌, ◌++◌}
+use Rattle.std.proofs.Common.{◌≡◌, ◌≤◌, ◌<◌, ◌+◌, ◌*◌, ℕ, zero, suc, refl, List, [], ◌∷◌, ◌++◌}
 use Rattle.std.proofs.Common.{length, ap, arith, decimal, length-append}
 use Rattle.std.proofs.Math.Nat.{le-max_left, le-max_right}
 use Rattle.std.proofs.lemmas.Fmt.{length-decimal-le}
@@ -9,7 +9,6 @@ use Rattle.std.specs.List.{All}
 use Rattle.model_line.specs.{declared.line.Line.Line, declared.script.Script.Script, Fits.Fits}
 use Rattle.model_logic.specs.Choice.{Box, declared_box}
 use Rattle.model_line.specs.NamesByNumber.{parameter_name}
-use Rattle.base_text.specs.lines.SpacedNumbers.{numbers_text}
 use Rattle.base_text.specs.lines.SpacedNumberLaws.{numbers_short}
 use Rattle.cert_claims.specs.text.Grammar.{no_words, script_text, end_text, terminal_names}
 use Rattle.cert_claims.specs.text.Text.{fed}

@@ -8,7 +8,7 @@ ghost use Rattle.model_line.specs.{Fits.Fits, Parameters.terminal_count};
 ghost use Rattle.judge_verdict.specs.verdict.PairWavesOf.{pair_history};
 
 use judge_verdict::verdict::{PairWaves, Rule, analyse, judge};
-use model_line::laws::deadlines_are_below_the_horizon;
+use model_line::laws::obligations_end_in_the_run;
 use model_line::{Line, Memory, Script};
 use model_logic::interval_laws::the_rule_over_a_box;
 use model_logic::laws::each_line_has_a_choice_inside;
@@ -29,7 +29,7 @@ pub fn is_held(
         (declared_box compiled.now.line.now))) }
 {
     the_rule_over_a_box();
-    deadlines_are_below_the_horizon();
+    obligations_end_in_the_run();
     each_line_has_a_choice_inside();
     let waves = analyse(alloc, compiled, script)?;
     Ok(is_rule_held(compiled.line, &waves, script, terminal))
@@ -40,8 +40,8 @@ fn is_rule_held(line: &Line, waves: &PairWaves, script: &Script, terminal: u32) 
     requires terminal { terminal < waves.now.terminals }
     requires horizon { waves.now.horizon ≡ line.now.horizon }
     ensures { Decides result
-        (rule_of line.now script.now ((pair_history waves.now).trip terminal) ≡ Held) }
+        (rule_of line.now script.now terminal ((pair_history waves.now).trip terminal) ≡ Held) }
 {
-    deadlines_are_below_the_horizon();
+    obligations_end_in_the_run();
     judge(waves, script, terminal) == Rule::Held
 }

@@ -14,7 +14,7 @@ ghost use Rattle.cert_split.specs.check.Check.{IsAccepted, IsSoundText, IsSplitF
 use crate::text::{a_split_text_has_one_meaning, a_split_text_leaves_at_one_line};
 use cert_claims::check::a_no_has_one_fault;
 use judge_split::a_sound_tree_that_is_yes_speaks_for_every_choice;
-use model_line::laws::deadlines_are_below_the_horizon;
+use model_line::laws::obligations_end_in_the_run;
 use model_logic::laws::each_line_has_a_choice_inside;
 
 // A text says one thing or leaves its grammar at one line, and results are supported or have one
@@ -61,7 +61,7 @@ pub fn accepted_split_trees_are_so()
         IsSoundText line scripts bytes }
 {
     a_sound_tree_that_is_yes_speaks_for_every_choice();
-    deadlines_are_below_the_horizon();
+    obligations_end_in_the_run();
     each_line_has_a_choice_inside();
     a_split_text_has_one_meaning();
 }

@@ -18,7 +18,7 @@ use judge_split::{
     Node, a_part_stands_for_its_box, a_sound_tree_that_is_yes_speaks_for_every_choice,
 };
 use model_line::Script;
-use model_line::laws::deadlines_are_below_the_horizon;
+use model_line::laws::obligations_end_in_the_run;
 use model_logic::laws::each_line_has_a_choice_inside;
 use net_gates::Compiled;
 use std::alloc::Global;
@@ -40,7 +40,7 @@ pub(crate) fn check_results(
         (map result_in results.now)) }
 {
     a_sound_tree_that_is_yes_speaks_for_every_choice();
-    deadlines_are_below_the_horizon();
+    obligations_end_in_the_run();
     each_line_has_a_choice_inside();
     for i in 0..results.len() {
         check_result(alloc, compiled, script, i as u32, &results[i])?;

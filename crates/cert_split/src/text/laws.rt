@@ -16,7 +16,7 @@ use judge_split::{
     a_sound_tree_splits_its_box, what_a_search_finds_is_as_deep, what_a_search_finds_is_sound,
     what_fails_in_a_part_fails,
 };
-use model_line::laws::deadlines_are_below_the_horizon;
+use model_line::laws::obligations_end_in_the_run;
 
 /// A text has at most one meaning: the trees and numbers that it says of the scripts.
 pub fn a_split_text_has_one_meaning()
@@ -83,7 +83,7 @@ pub fn what_a_search_finds_can_be_written()
         IsPrintable line outcome × IsSplitResult line (written_as outcome) }
 {
     laws_below();
-    deadlines_are_below_the_horizon();
+    obligations_end_in_the_run();
     a_sound_tree_splits_its_box();
     what_a_search_finds_is_as_deep();
     what_a_search_finds_is_sound();

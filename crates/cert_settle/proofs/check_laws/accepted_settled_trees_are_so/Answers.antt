@@ -9,7 +9,7 @@ use Rattle.cert_settle.proofs.check_laws.accepted_settled_trees_are_so.Goals as 
 pub returns-clause-script : goal.returns-clause-script
 returns-clause-script c = λ line script results fits whole supported k result lt at.
     supported_told c.sound_trees_meet.ensures line script k result
-    (c.deadlines_are_below_the_horizon.ensures line script fits)
+    (c.obligations_end_in_the_run.ensures line script fits)
     (omega (arith, lt, whole))
     (supported k result lt at)
 

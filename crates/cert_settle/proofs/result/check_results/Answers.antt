@@ -61,7 +61,7 @@ returns c =
       exact = λ k result lt at. c.loop-i.invariant k result (omega (arith, lt, many, done)) at;
       told = λ k result lt at.
           supported_told c.sound_trees_meet.ensures line script k
-          result (c.deadlines_are_below_the_horizon.ensures line script c.requires.fits)
+          result (c.obligations_end_in_the_run.ensures line script c.requires.fits)
           (omega (arith, lt, c.requires.one_each.many))
           (c.loop-i.invariant k result (omega (arith, lt, many, done)) at);
     }

@@ -33,7 +33,7 @@ index-trip-requires c =
 pub held_lanes-requires-clause-deadline : goal.held_lanes-requires-clause-deadline
 held_lanes-requires-clause-deadline c =
     let of = c.args.of.now in
-    c.laws_below.ensures.lines.deadlines of.compiled.line.now of.script.now c.requires.asked.fits
+    c.laws_below.ensures.lines.ends of.compiled.line.now of.script.now c.requires.asked.fits
 
 pub held_lanes-requires-clause-horizon : goal.held_lanes-requires-clause-horizon
 held_lanes-requires-clause-horizon c =

@@ -9,7 +9,7 @@ use Rattle.cert_split.proofs.check.laws.accepted_split_trees_are_so.Goals as goa
 pub returns-clause-script : goal.returns-clause-script
 returns-clause-script c = λ line script results fits whole supported k result lt at.
     supported_told c.a_sound_tree_that_is_yes_speaks_for_every_choice.ensures line script k result
-    (c.deadlines_are_below_the_horizon.ensures line script fits)
+    (c.obligations_end_in_the_run.ensures line script fits)
     (omega (arith, lt, whole)) (c.each_line_has_a_choice_inside.ensures.declared line)
     (supported k result lt at)
 

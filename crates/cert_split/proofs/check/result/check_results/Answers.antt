@@ -61,7 +61,7 @@ returns c =
       exact = λ k result lt at. c.loop-i.invariant k result (omega (arith, lt, many, done)) at;
       told = λ k result lt at.
           supported_told c.a_sound_tree_that_is_yes_speaks_for_every_choice.ensures line script k
-          result (c.deadlines_are_below_the_horizon.ensures line script c.requires.fits)
+          result (c.obligations_end_in_the_run.ensures line script c.requires.fits)
           (omega (arith, lt, c.requires.one_each.many))
           (c.each_line_has_a_choice_inside.ensures.declared line)
           (c.loop-i.invariant k result (omega (arith, lt, many, done)) at);

@@ -10,5 +10,5 @@ returns c line script k n outcome fits inside few found =
           c.a_sound_tree_splits_its_box.ensures line script k (declared_box line) tree sound;
       deep = λ n tree search. c.what_a_search_finds_is_as_deep.ensures line script k n tree search;
       fails = λ n timing search. c.what_fails_in_a_part_fails.ensures line script k n timing
-          (c.deadlines_are_below_the_horizon.ensures line script fits) inside search;
+          (c.obligations_end_in_the_run.ensures line script fits) inside search;
     }) few found
