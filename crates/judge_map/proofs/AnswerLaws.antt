@@ -11,6 +11,7 @@ use Rattle.judge_settle.specs.declared.settle.answer.Answer.{Answer}
 use Rattle.judge_settle.specs.declared.settle.answer.Answer.TheVariants as answer
 use Rattle.judge_settle.specs.settle.Answers.{IsAnswer}
 use Rattle.judge_map.specs.{Answered.known_in, Known.IsKnown, Laws.Laws}
+use Rattle.model_line.specs.Asks.{obligation_over}
 
 module _ (laws : Laws) (line other : Line) (script : Script) (k : ℕ) (box : Box)
     (rest : SameButParams line other) (same : IsSameBox line (declared_box other) box) where
@@ -39,11 +40,11 @@ module _ (laws : Laws) (line other : Line) (script : Script) (k : ℕ) (box : Bo
 
   met_there : (h : History) → Meets line script k h → Meets other script k h
   met_there h met =
-      subst (λ (n : ℕ). MeetsBy script.kind script.deadline n (h.trip k)) (sym rest.horizon) met
+      subst (λ (n : ℕ). MeetsBy (obligation_over n script k) (h.trip k)) (sym rest.horizon) met
 
   met_here : (h : History) → Meets other script k h → Meets line script k h
   met_here h met =
-      subst (λ (n : ℕ). MeetsBy script.kind script.deadline n (h.trip k)) rest.horizon met
+      subst (λ (n : ℕ). MeetsBy (obligation_over n script k) (h.trip k)) rest.horizon met
 
   pub known_of_the_answer : (told : Answer) → ¬ (IsOneRailedBy line.scheme line)
       → IsAnswer other script k told → IsKnown line script k box (known_in told)

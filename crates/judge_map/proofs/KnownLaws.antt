@@ -55,7 +55,7 @@ module _ (line : Line) (scripts : List Script) (box : Box) where
         script = is.script;
         at = is.at;
         is = known_of_the_rule laws line is.script (n % many) box
-            (laws.lines.deadlines line is.script
+            (laws.lines.ends line is.script
             (all_at (Fits line) scripts (n / many) is.script fit is.at))
             low ordered (mod-lt n some) one_railed told railed is.over;
       }

@@ -14,9 +14,10 @@ use Rattle.judge_verdict.specs.declared.verdict.rule.Rule.{Rule}
 use Rattle.judge_verdict.specs.declared.verdict.rule.Rule.TheVariants as rule
 use Rattle.judge_margins.specs.map.Cells.{IsRuleOver}
 use Rattle.judge_map.specs.{Known.IsKnown, Known.SomeChoiceFails, Laws.Laws, Ruled.known_by}
+use Rattle.model_line.specs.Asks.{AllEndInRun}
 
 module _ (laws : Laws) (line : Line) (script : Script) (k : ℕ) (box : Box)
-    (early : script.deadline < line.horizon) (low : LeastFromOne line box)
+    (early : AllEndInRun line.horizon script) (low : LeastFromOne line box)
     (ordered : IsOrdered line box) (kn : k < terminal_count line) where
   from_one : (choice : Choice) → IsWithin line choice box → DelaysFromOne line choice
   from_one choice within c t lc lt =
@@ -39,7 +40,7 @@ module _ (laws : Laws) (line : Line) (script : Script) (k : ℕ) (box : Box)
         history = h;
         is = is_h;
         fails = λ met.
-            ((laws.lines.rule.unknown line script (w.trip k)).0 (sym over.says)).0
+            ((laws.lines.rule.unknown line script k (w.trip k)).0 (sym over.says)).0
             ((laws.fails line script box all_terminals sides k w h ordered low early
             (λ j jn in_cone. read_stays _ _ _ _ _ _ (laws.railed.keys line (deciding script.kind)
             railed j jn in_cone)) kn
