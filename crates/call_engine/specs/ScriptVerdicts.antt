@@ -30,9 +30,9 @@ pub record IsScriptVerdict (line : Line) (script : Script) (said : ScriptVerdict
   -- the rule is broken: no with candidate 0
   pub broken : (k : ℕ) (w : PairHistory) → k < terminal_count line
       → IsPairHistory line script (declared_box line) w
-      → rule_of line script (w.trip k) ≡ Broken
+      → rule_of line script k (w.trip k) ≡ Broken
       → slice_get said.verdicts.items k ≡ Some (No (candidate line 0))
   -- undecided: the rule is unknown
   pub undecided : (k : ℕ) (w : PairHistory) → slice_get said.verdicts.items k ≡ Some Undecided
       → IsPairHistory line script (declared_box line) w
-      → rule_of line script (w.trip k) ≡ Unknown
+      → rule_of line script k (w.trip k) ≡ Unknown

@@ -28,6 +28,8 @@ use Rattle.run_waves.specs.derived.Claims.{pairs_of}
 use Rattle.cert_claims.specs.check.Refutations.{IsRefutation}
 use Rattle.cert_own.specs.Known.{Known}
 use Rattle.cert_own.proofs.Obligations.{rule_same}
+use Rattle.model_line.specs.Asks.{AllEndInRun}
+use Rattle.model_line.specs.Asks.{obligation_of}
 
 -- ---- what can be written
 
@@ -79,8 +81,8 @@ module _ (known : Known) (line : Line) (script : Script) (fits : Fits line scrip
     (w : PairHistory)
     (is_w : IsPairHistory line script (declared_box line) w) (keys : List (List Tern))
     (are_keys : AreKeys line w keys) where
-  early : script.deadline < line.horizon
-  early = known.lines.deadlines line script fits
+  early : AllEndInRun line.horizon script
+  early = known.lines.ends line script fits
 
   -- the claims are the keys of the interval history
   same_keys : (k t : ℕ) → k < terminal_count line → t < line.horizon → pairs_of keys k t ≡ w.key k t
@@ -104,10 +106,10 @@ module _ (known : Known) (line : Line) (script : Script) (fits : Fits line scrip
       ∙ sym (same_value (key_tree line k) t (known.lines.trees.keys line k there) lt))
       (record { must = λ on. on; may = λ on. on })
 
-  same_held : (k : ℕ) → k < terminal_count line → rule_of line script (w.trip k) ≡ Held
-      → rule_of line script (derived_trip line script (pairs_of keys) k) ≡ Held
+  same_held : (k : ℕ) → k < terminal_count line → rule_of line script k (w.trip k) ≡ Held
+      → rule_of line script k (derived_trip line script (pairs_of keys) k) ≡ Held
   same_held k there =
-      rule_same known line script (w.trip k) (derived_trip line script (pairs_of keys) k) early
+      rule_same known line script k (w.trip k) (derived_trip line script (pairs_of keys) k) early
       (λ t lt. is_w.trips k t there lt
       ∙ sym (same_value (trip_tree line k) t (known.lines.trees.trips line k there) lt))
 
@@ -126,7 +128,8 @@ module _ (known : Known) (line : Line) (script : Script) (fits : Fits line scrip
         fails = λ h is_h met.
             let same = known.lines.histories.only line script choice h fails.h delayed is_h fails.is in
             fails.fails
-            (meets_same script.kind script.deadline line.horizon (h.trip k) (fails.h.trip k) early
+            (meets_same (obligation_of line script k) line.horizon (h.trip k) (fails.h.trip k)
+            (early.each k)
             (λ t lt. same.trips k t there lt) met);
       })
 

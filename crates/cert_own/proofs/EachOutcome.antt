@@ -15,6 +15,7 @@ use Rattle.cert_split.specs.{text.Grammar.SplitResult, text.Piece.written_as}
 use Rattle.cert_own.specs.{Known.BoxesKnown, Searched.AreSearched, Searched.AllSearched}
 use Rattle.cert_own.proofs.EachSearch.{each_search}
 use Rattle.cert_own.proofs.Lists.{one_each_exists}
+use Rattle.model_line.specs.Asks.{AllEndInRun}
 
 -- ---- how many nodes a tree has
 
@@ -75,7 +76,7 @@ module _ (known : BoxesKnown)
     record { tree = tree; are = refl; found = is },
   )
 
-  pub each_outcome : (script : Script) (k : ℕ) → script.deadline < line.horizon
+  pub each_outcome : (script : Script) (k : ℕ) → AllEndInRun line.horizon script
       → k < terminal_count line → (out : Outcome) × IsFound line script k n out
   each_outcome script k early there =
       let (found, is) = each_search known script k n line early there in
@@ -84,7 +85,7 @@ module _ (known : BoxesKnown)
   each_result : (script : Script) → Fits line script
       → (results : List SplitResult) × AreSearched line n script results
   each_result script fits =
-      let early = known.lines.deadlines line script fits in
+      let early = known.lines.ends line script fits in
       let (searches, found) =
       one_each_exists (λ k out. IsFound line script k n out) (terminal_count line)
       (λ k there. each_outcome script k early there) in

@@ -16,6 +16,7 @@ use Rattle.judge_split.specs.Widths.{width, IsChoiceOf, IsNarrow, IsWidest, IsWi
 use Rattle.judge_split.specs.WidthLaws.{split_free, split_no_delay}
 use Rattle.cert_own.specs.Known.{BoxesKnown}
 use Rattle.cert_own.proofs.{MadeLines.with_bounds, EachVerdict.each_verdict}
+use Rattle.model_line.specs.Asks.{AllEndInRun}
 
 -- ---- the widest parameter
 
@@ -115,17 +116,17 @@ module _ (known : BoxesKnown) (script : Script) (k : ℕ) where
     )
 
   abbrev EachSearched : ℕ → Type 0
-  EachSearched n = (line : Line) → script.deadline < line.horizon → k < terminal_count line
+  EachSearched n = (line : Line) → AllEndInRun line.horizon script → k < terminal_count line
       → Searched n line
 
   module _ (n : ℕ) (below : EachSearched n) (line : Line)
-      (early : script.deadline < line.horizon) (there : k < terminal_count line)
+      (early : AllEndInRun line.horizon script) (there : k < terminal_count line)
       (is : IsVerdictOf line script k verdict.Undecided) where
     half : (param least greatest : ℕ) (other : Line)
         → IsWithBounds line param least greatest other → Searched n other
     half param least greatest other same =
         below other
-        (subst (λ (h : ℕ). script.deadline < h) (sym same.rest.horizon) early)
+        (subst (λ (h : ℕ). AllEndInRun h script) (sym same.rest.horizon) early)
         (subst (λ (l : ℕ). k < l) (sym (ap (λ (ts : List Terminal). length ts) same.rest.terminals))
         there)
 

@@ -4,7 +4,7 @@ use Rattle.model_history.specs.Rails.{both}
 use Rattle.model_history.specs.TruthLaws.{told}
 use Rattle.model_history.specs.BelowLaws.{first_of}
 use Rattle.model_logic.specs.Choice.{DelaysFromOne, declared_box}
-use Rattle.model_logic.specs.Histories.{MeetsBy, PairHistory, IsPairHistory, IsSameHistory}
+use Rattle.model_logic.specs.Histories.{MetBy, PairHistory, IsPairHistory, IsSameHistory}
 use Rattle.model_logic.specs.Rule.{rule_of}
 use Rattle.model_logic.specs.Laws.{LineLaws}
 use Rattle.model_logic.specs.RuleLaws.{meets_same, rule_told}
@@ -19,17 +19,18 @@ use Rattle.judge_verdict.specs.declared.verdict.verdict.Verdict.TheVariants.{Yes
 use Rattle.judge_verdict.specs.verdict.Verdicts.{FailsAt, PassesAt, IsRuleHeld}
 use Rattle.judge_split.specs.Search.{IsVerdictOf}
 use Rattle.cert_own.specs.Known.{BoxesKnown}
+use Rattle.model_line.specs.Asks.{AllEndInRun, obligation_of}
 
-meets_told : (lines : LineLaws) (kind : Kind) (deadline horizon : ℕ) (trip : ℕ → Bool)
-    → MeetsBy kind deadline horizon trip ⊎ (¬ (MeetsBy kind deadline horizon trip))
-meets_told lines Internal deadline horizon trip =
-    told _ (lines.rule_tests.held Internal deadline horizon (λ t. both (trip t)))
-meets_told lines External deadline horizon trip =
-    told _ (lines.rule_tests.held External deadline horizon (λ t. both (trip t)))
+meets_told : (lines : LineLaws) (kind : Kind) (deadline end : ℕ) (trip : ℕ → Bool)
+    → MetBy kind deadline end trip ⊎ (¬ (MetBy kind deadline end trip))
+meets_told lines Internal deadline end trip =
+    told _ (lines.rule_tests.held Internal deadline end (λ t. both (trip t)))
+meets_told lines External deadline end trip =
+    told _ (lines.rule_tests.held External deadline end (λ t. both (trip t)))
 
 module _ (lines : LineLaws) (candidates : CandidatesAreInside)
     (timings : TimingsInsideAreChoicesInside) (line : Line) (script : Script) (k : ℕ)
-    (early : script.deadline < line.horizon) (there : k < terminal_count line) where
+    (early : AllEndInRun line.horizon script) (there : k < terminal_count line) where
   -- each candidate passes or fails
   pub candidate_told : (i : ℕ) → i < candidate_count line
       → PassesAt line script k (candidate line i) ⊎ FailsAt line script k (candidate line i)
@@ -39,19 +40,21 @@ module _ (lines : LineLaws) (candidates : CandidatesAreInside)
       lines.inside.choices line choice
       (timings line (candidate line i) (candidates line i lt)) in
       let (h, is) = lines.histories.exists line script choice late in
-      elim (meets_told lines script.kind script.deadline line.horizon (h.trip k)) [
+      elim (meets_told lines (obligation_of line script k).kind
+      (obligation_of line script k).deadline (obligation_of line script k).end (h.trip k)) [
         | inl meets ↦ inl (record {
           meets = λ g is_g.
               let same : IsSameHistory line h g =
               lines.histories.only line script choice h g late is is_g in
-              meets_same script.kind script.deadline line.horizon (h.trip k) (g.trip k) early
+              meets_same (obligation_of line script k) line.horizon (h.trip k) (g.trip k)
+              (early.each k)
               (λ t lt. same.trips k t there lt) meets;
         })
         | inr fails ↦ inr (record { h = h; is = is; fails = fails })
       ]
 
 module _ (known : BoxesKnown) (line : Line) (script : Script) (k : ℕ)
-    (early : script.deadline < line.horizon) (there : k < terminal_count line) where
+    (early : AllEndInRun line.horizon script) (there : k < terminal_count line) where
   -- the rule is held over each interval history of the declared box where it is over one
   held_of : (v w : PairHistory) → IsPairHistory line script (declared_box line) v
       → IsPairHistory line script (declared_box line) w → IsRuleHeld line script k v
@@ -87,7 +90,7 @@ module _ (known : BoxesKnown) (line : Line) (script : Script) (k : ℕ)
   each_verdict =
       let (v, is_v) = known.lines.interval_histories.exists line script (declared_box line)
       (known.lines.inside.declared line) in
-      elim (rule_told (rule_of line script (v.trip k))) [
+      elim (rule_told (rule_of line script k (v.trip k))) [
         | inl held ↦ (Yes, λ w is_w. held_of v w is_v is_w held)
         | inr not_held ↦ open_verdict v is_v not_held
       ]

@@ -15,7 +15,7 @@ use Rattle.model_line.specs.SameParamLaws.{params_by}
 use Rattle.model_logic.specs.Choice.{Box, Choice, declared_box}
 use Rattle.model_logic.specs.Histories.{History, IsLineHistory, Meets, MeetsBy, PairHistory}
 use Rattle.model_logic.specs.Histories.{IsPairHistory}
-use Rattle.model_logic.specs.Rule.{Held, rule_by, rule_of}
+use Rattle.model_logic.specs.Rule.{Held, rule_over, rule_of}
 use Rattle.model_timing.specs.Candidates.{is_free, candidate, candidate_count, candidate_value}
 use Rattle.model_timing.specs.{Timing.TimingValues, Timing.number_at, Choice.timing_choice}
 use Rattle.judge_verdict.specs.declared.verdict.verdict.Verdict.{Verdict}
@@ -25,6 +25,7 @@ use Rattle.judge_verdict.specs.verdict.VerdictLaws.{verdict_once}
 use Rattle.judge_split.specs.Widths.{width, IsWidest, IsNarrow}
 use Rattle.judge_split.specs.Search.{IsVerdictOf}
 use Rattle.cert_own.specs.Known.{LinesKnown}
+use Rattle.model_line.specs.Asks.{obligation_over}
 
 -- ---- as functions of the parameters alone
 
@@ -124,11 +125,11 @@ module _ (known : LinesKnown) (old new : Line) (same : SameLine old new) where
   module _ (script : Script) (k : ℕ) where
     meets_new : (h : History) → Meets old script k h → Meets new script k h
     meets_new h met =
-        subst (λ (n : ℕ). MeetsBy script.kind script.deadline n (h.trip k)) (sym rest.horizon) met
+        subst (λ (n : ℕ). MeetsBy (obligation_over n script k) (h.trip k)) (sym rest.horizon) met
 
     meets_old : (h : History) → Meets new script k h → Meets old script k h
     meets_old h met =
-        subst (λ (n : ℕ). MeetsBy script.kind script.deadline n (h.trip k)) rest.horizon met
+        subst (λ (n : ℕ). MeetsBy (obligation_over n script k) (h.trip k)) rest.horizon met
 
     fails_old : (timing : TimingValues) → FailsAt new script k timing → FailsAt old script k timing
     fails_old timing f = record {
@@ -148,13 +149,15 @@ module _ (known : LinesKnown) (old new : Line) (same : SameLine old new) where
           ((known.histories.choices old new script (timing_choice old timing) h rest).1 is)));
     }
 
-    held_old : (trip : ℕ → Rails) → rule_of new script trip ≡ Held → rule_of old script trip ≡ Held
+    held_old : (trip : ℕ → Rails) → rule_of new script k trip ≡ Held
+        → rule_of old script k trip ≡ Held
     held_old trip held =
-        subst (λ (n : ℕ). rule_by script.kind script.deadline n trip ≡ Held) rest.horizon held
+        subst (λ (n : ℕ). rule_over n script k trip ≡ Held) rest.horizon held
 
-    held_new : (trip : ℕ → Rails) → rule_of old script trip ≡ Held → rule_of new script trip ≡ Held
+    held_new : (trip : ℕ → Rails) → rule_of old script k trip ≡ Held
+        → rule_of new script k trip ≡ Held
     held_new trip held =
-        subst (λ (n : ℕ). rule_by script.kind script.deadline n trip ≡ Held) (sym rest.horizon) held
+        subst (λ (n : ℕ). rule_over n script k trip ≡ Held) (sym rest.horizon) held
 
     verdict_old : (w : PairHistory) (v : Verdict) → IsVerdict new script k w v
         → IsVerdict old script k w v

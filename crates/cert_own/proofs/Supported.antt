@@ -19,15 +19,16 @@ use Rattle.cert_split.specs.text.Grammar.{SplitResult, IsSplitResult, HasOneEach
 use Rattle.cert_split.specs.text.Piece.{IsPrintable, written_as}
 use Rattle.cert_split.specs.check.Results.{IsSupported, AreSupported}
 use Rattle.cert_own.specs.Searched.{AreSearched}
+use Rattle.model_line.specs.Asks.{AllEndInRun}
 
 -- the laws of searches below
 pub record Known : Type 0 where
-  pub deadlines : (line : Line) (script : Script) → Fits line script
-      → script.deadline < line.horizon
+  pub ends : (line : Line) (script : Script) → Fits line script
+      → AllEndInRun line.horizon script
   pub sound : (line : Line) (script : Script) (k n : ℕ) (tree : SplitTree)
       → IsSearch script k n line (Tree tree) → IsSoundSplit line script k (declared_box line) tree
   pub fails : (line : Line) (script : Script) (k n : ℕ) (timing : TimingValues)
-      → script.deadline < line.horizon → k < terminal_count line
+      → AllEndInRun line.horizon script → k < terminal_count line
       → IsSearch script k n line (Fails timing) → certified.IsRefutation line script k timing
   pub written : (line : Line) (script : Script) (k n : ℕ) (found : Outcome) → Fits line script
       → k < terminal_count line → n ≤ 8 → IsFound line script k n found
@@ -55,7 +56,7 @@ module _ (known : Known) (line : Line) (script : Script) (fits : Fits line scrip
   }
   found_supported (outcome.Fails timing) is =
       steady timing
-      (known.fails line script k n timing (known.deadlines line script fits) there is)
+      (known.fails line script k n timing (known.ends line script fits) there is)
 
 module _ (known : Known) (line : Line) (script : Script) (fits : Fits line script) (n : ℕ)
     (results : List SplitResult) (are : AreSearched line n script results) where

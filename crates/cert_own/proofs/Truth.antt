@@ -60,7 +60,7 @@ module _ (laws : LineLaws) (timings : TimingsInsideAreChoicesInside) where
       let many = whole.verdicts in
       rule.held n line script
       (with_derived_trips line script (declared_box line) (pairs_of said.keys)) h k some
-      (laws.deadlines line script fits)
+      (laws.ends line script fits)
       (fine.claims n line script (declared_box line) choice (pairs_of said.keys) h some
       (laws.inside.declared line) inside accepted.covered is_h)
       (omega arith) (accepted.supported k yes at)
@@ -91,10 +91,10 @@ module _ (laws : LineLaws) (timings : TimingsInsideAreChoicesInside)
       record {
         history = is.history;
         is_history = is.is_history;
-        unknown = only_unknown (rule_of line script (is.history.trip k)) is_open.not_held
+        unknown = only_unknown (rule_of line script k (is.history.trip k)) is_open.not_held
             (λ broken.
             laws.every_choice.broken line script (declared_box line) is.history k
-            (laws.deadlines line script fits) (laws.inside.declared line) is.is_history there
+            (laws.ends line script fits) (laws.inside.declared line) is.is_history there
             broken choice h inside is_h ((is_open.passes 0 some).meets h is_h));
         passes = is_open.passes;
       }

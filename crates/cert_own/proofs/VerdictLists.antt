@@ -22,12 +22,12 @@ use Rattle.cert_own.proofs.EachVerdict.{candidate_told}
 module _ (known : Known) (line : Line) (script : Script) (fits : Fits line script) (k : ℕ)
     (there : k < terminal_count line) where
   verdict_exists : (w : PairHistory) → (verdict : Verdict) × IsVerdict line script k w verdict
-  verdict_exists w = elim (rule_told (rule_of line script (w.trip k))) [
+  verdict_exists w = elim (rule_told (rule_of line script k (w.trip k))) [
     | inl held ↦ (Yes, held)
     | inr not_held ↦ elim (first_of (λ i. PassesAt line script k (candidate line i))
         (λ i. FailsAt line script k (candidate line i)) (candidate_count line)
         (candidate_told known.lines known.candidates known.timings line script k
-        (known.lines.deadlines line script fits) there)) [
+        (known.lines.ends line script fits) there)) [
           | inl passes ↦ (Undecided, record { not_held = not_held; passes = passes })
           | inr first ↦ (
             No (candidate line first.0),
@@ -57,13 +57,13 @@ verdicts_once known line script v w a b fits is_v is_w are_a are_b =
     let same =
     known.lines.interval_histories.only line script (declared_box line) v w (known.lines.inside.declared line) is_v
     is_w in
-    let early = known.lines.deadlines line script fits in
+    let early = known.lines.ends line script fits in
     one_each_once (λ k verdict. IsVerdict line script k v verdict)
     (λ k verdict. IsVerdict line script k w verdict) (terminal_count line) a b
     (λ k x y there p q.
     verdict_once line script k v w
-    (rule_same known line script (v.trip k) (w.trip k) early (λ t lt. same.trips k t there lt))
-    (rule_same known line script (w.trip k) (v.trip k) early
+    (rule_same known line script k (v.trip k) (w.trip k) early (λ t lt. same.trips k t there lt))
+    (rule_same known line script k (w.trip k) (v.trip k) early
     (λ t lt. sym (same.trips k t there lt)))
     x y p q)
     are_a are_b

@@ -24,7 +24,7 @@ pub record IsFailedBy (line : Line) (script : Script) (k : ℕ) (values : List �
 pub record IsUnknown (line : Line) (script : Script) (k : ℕ) : Type 0 where
   pub history : PairHistory
   pub is_history : IsPairHistory line script (declared_box line) history
-  pub unknown : rule_of line script (history.trip k) ≡ Unknown
+  pub unknown : rule_of line script k (history.trip k) ≡ Unknown
   pub passes : (i : ℕ) → i < candidate_count line → PassesAt line script k (candidate line i)
 
 -- what is true where `certify` prints a verdict: of a `yes`, that every choice of fractions meets it

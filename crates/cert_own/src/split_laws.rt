@@ -13,6 +13,7 @@ ghost use Rattle.cert_split.specs.declared.check.fault.SplitFault.{SplitFault};
 ghost use Rattle.cert_split.specs.check.Check.{IsAccepted, IsSplitFault};
 ghost use Rattle.cert_split.specs.{check.Counts.CountResults, check.Results.AreSupported};
 ghost use Rattle.cert_own.specs.Searched.{AreSearched, AllSearched};
+ghost use Rattle.model_line.specs.Asks.{AllEndInRun};
 
 use cert_split::check::a_fault_refuses_the_split_text;
 use cert_split::text::{
@@ -23,8 +24,8 @@ use judge_split::{
     what_a_search_finds_is_as_deep, what_a_search_finds_is_sound, what_fails_in_a_part_fails,
 };
 use model_line::laws::{
-    counts_do_not_rest_on_the_intervals, deadlines_are_below_the_horizon,
-    declared_intervals_are_in_order,
+    counts_do_not_rest_on_the_intervals, declared_intervals_are_in_order,
+    obligations_end_in_the_run,
 };
 use model_logic::interval_laws::{histories_do_not_rest_on_the_intervals, the_rule_over_a_box};
 use model_logic::laws::line_laws;
@@ -61,7 +62,7 @@ pub fn what_is_searched_is_accepted()
         n ≤ 8 → AllSearched line n scripts parts →
         ¬ (IsSplitFault line scripts (split_text line scripts parts) fault) }
 {
-    deadlines_are_below_the_horizon();
+    obligations_end_in_the_run();
     what_a_search_finds_is_sound();
     what_fails_in_a_part_fails();
     what_a_search_finds_can_be_written();
@@ -103,10 +104,10 @@ pub fn each_search_has_one_outcome()
 /// memory, and what is searched of scripts that fit is a list of results.
 pub fn each_search_has_an_outcome()
     ensures search { (line : Line) (script : Script) (k n : ℕ) →
-        script.deadline < line.horizon → k < terminal_count line →
+        AllEndInRun line.horizon script → k < terminal_count line →
         (found : Found) × IsSearch script k n line found }
     ensures outcome { (line : Line) (script : Script) (k n : ℕ) →
-        script.deadline < line.horizon → k < terminal_count line → n ≤ 8 →
+        AllEndInRun line.horizon script → k < terminal_count line → n ≤ 8 →
         (outcome : Outcome) × IsFound line script k n outcome }
     ensures all { (line : Line) (n : ℕ) (scripts : List Script) → All (Fits line) scripts →
         n ≤ 8 → (parts : List (List SplitResult)) × AllSearched line n scripts parts }

@@ -7,7 +7,7 @@ use Rattle.cert_own.proofs.split_laws.what_is_searched_is_accepted.Goals as goal
 
 known : (c : goal.After-a_fault_refuses_the_split_text) → Known
 known c = record {
-  deadlines = c.deadlines_are_below_the_horizon.ensures;
+  ends = c.obligations_end_in_the_run.ensures;
   sound = c.what_a_search_finds_is_sound.ensures;
   fails = c.what_fails_in_a_part_fails.ensures;
   written = c.what_a_search_finds_can_be_written.ensures;
