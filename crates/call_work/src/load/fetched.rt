@@ -67,7 +67,7 @@ fn fetch_source<'a, S: Store>(
     source: Source<'a>,
     store: &mut S,
 ) -> Result<Bytes<'a>, Unread>
-    ensures files { FetchesSource (S.held store.old) (source_of source) (S.faults store.old)
+    ensures files { FetchesSource (S.held store.old) (source_of source.entry) (S.faults store.old)
         (S.faults store.new) result }
     ensures held { S.held store.new ≡ S.held store.old }
 {

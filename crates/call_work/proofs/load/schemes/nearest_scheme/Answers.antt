@@ -8,7 +8,7 @@ pub loop-i-preserved : goal.loop-i-preserved
 loop-i-preserved c =
     rw c.in_ok-nearer.ensures
     (near_on name_of_scheme c.args.asked.now c.args.schemes.now c.loop-i.i
-    c.index-schemes-i.result c.loop-i.near c.loop-i-test.true c.loop-i.invariant)
+    _ c.loop-i.near c.loop-i-test.true c.loop-i.invariant)
 
 pub returns : goal.returns
 returns c =
