@@ -9,7 +9,8 @@ use Rattle.std.proofs.lemmas.List.{length-take, take-map}
 use Rattle.std.proofs.lemmas.List.Elements.{All-drop, All-take}
 use Rattle.model_line.specs.{declared.line.Line.Line, declared.script.Script.Script, Fits.Fits}
 use Rattle.file_tables.specs.{script.SoFar.AreOnce, script.SoFar.names_in, script.Values.AreOfOneFile}
-use Rattle.file_tables.specs.script.Values.{ScriptValues, values_of}
+use Rattle.file_tables.specs.script.Values.{ScriptValues, AsksAlike, values_of}
+use Rattle.file_tables.specs.script.StandingLaws.{alike_by_values}
 use Rattle.file_study.specs.{sweeps.Parts.is_part, sweeps.Parts.part, sweeps.Parts.parts_of, sweeps.Studies.script_names}
 use Rattle.file_study.proofs.sweeps_lemmas.Names.{values_names}
 
@@ -48,8 +49,8 @@ begins_within n len is =
 
 -- a part may stand in one file
 pub part_of_one_file : (scripts : List Script) (n : ℕ) → is_part n (length scripts) ≡ true
-    → AreOnce (script_names scripts) → AreOfOneFile (map values_of (part n scripts))
-part_of_one_file scripts n is once =
+    → All AsksAlike scripts → AreOnce (script_names scripts) → AreOfOneFile (map values_of (part n scripts))
+part_of_one_file scripts n is asks once =
     let begin : ℕ = 64 * (n - 1) in
     let within : begin < length scripts = begins_within n (length scripts) is in
     let count = length-take 64 (drop begin scripts) in
@@ -64,5 +65,7 @@ part_of_one_file scripts n is once =
     record {
       some = omega arith;
       few = omega arith;
+      asks = alike_by_values (part n scripts)
+          (All-take AsksAlike 64 (drop begin scripts) (All-drop AsksAlike begin scripts asks));
       once = λ j k less below. own j k less (subst (λ (m : ℕ). k < m) (sym names) below);
     }

@@ -9,7 +9,7 @@ use Rattle.std.proofs.lemmas.List.{take_more}
 use Rattle.std.proofs.lemmas.List.Elements.{All-append, All-push}
 use Rattle.model_line.specs.{declared.line.Line.Line, declared.script.Script.Script}
 use Rattle.model_line.specs.Fits.{Fits}
-use Rattle.file_tables.specs.script.Values.{ScriptValues, values_of}
+use Rattle.file_tables.specs.script.Values.{ScriptValues, AsksAlike, values_of}
 use Rattle.file_tables.specs.script.SoFar.{AreOnce, names_in}
 use Rattle.base_memory.specs.{Gives.OfFault, declared.stopped.Stopped.Stopped}
 use Rattle.base_memory.specs.declared.stopped.Stopped.TheVariants as stopped
@@ -65,6 +65,7 @@ pub record AreOwn (line : Line) (f : FaultValues) (done own : List Script) : Typ
   pub accepted : IsAccepted line f
   pub are : scripts_of f ≡ Some (map values_of own)
   pub fit : All (Fits line) own
+  pub asks : All AsksAlike own
   pub once : AreOnce (script_names done ++ script_names own)
 
 -- the scripts of a fault and its group, behind those that are done
@@ -88,6 +89,9 @@ pushed_so line f old new own g n so count named swept scripts_new groups_new =
       fit = λ before.
           subst (λ (ss : List Script). All (Fits line) ss) (sym scripts_new)
           (All-append (Fits line) old.scripts.items own before so.fit);
+      asks = λ before.
+          subst (λ (ss : List Script). All AsksAlike ss) (sym scripts_new)
+          (All-append AsksAlike old.scripts.items own before so.asks);
       once =
           subst (λ (ns : List (List ℕ)). AreOnce ns)
           (sym (ap script_names scripts_new ∙ map-append name_of old.scripts.items own))
@@ -130,6 +134,7 @@ next_fault line fs i f old new more so pushed =
           ∙ (ap (λ (r : List GroupValues). r ++ group_of f ∷ []) so.groups_are
           ∙ sym (map_push group_of (take i fs) f));
       fit = pushed.fit so.fit;
+      asks = pushed.asks so.asks;
       once = pushed.once;
     })
 

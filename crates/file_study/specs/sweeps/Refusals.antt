@@ -3,7 +3,7 @@ use Rattle.std.specs.Prelude.{◌≡◌, ◌<◌, ◌+◌, ◌&&◌, ℕ, Bool, 
 use Rattle.std.specs.Prelude.{Some, length, map, sum, max, nat_le}
 use Rattle.std.specs.Prelude.{if◌then◌else◌}
 use Rattle.std.specs.List.{list_all}
-use Rattle.model_line.specs.Fits.{deadline_fits, span_fits}
+use Rattle.model_line.specs.Fits.{asks_fit, deadline_fits, span_fits}
 use Rattle.model_line.specs.{declared.line.Line.Line, PlainNames.is_plain_name}
 use Rattle.file_tables.specs.script.Values.{ScriptValues}
 use Rattle.file_study.specs.study.Faults.{FaultValues}
@@ -24,11 +24,12 @@ horizon_of f =
     max (greatest f.start + sum (map (λ s. greatest s.lasts) f.stages))
     (greatest f.start + greatest f.trip_within + 1)
 
--- at most 200 spans of what the line has, within its horizon, as is the deadline
+-- at most 200 spans of what the line has, within its horizon, as are the deadline and what is asked
 abbrev pub is_of_line : Line → ScriptValues → Bool
 is_of_line line s =
     nat_le (length s.spans) 200
-    && (deadline_fits line.horizon s.kind s.deadline && list_all (span_fits line) s.spans)
+    && (deadline_fits line.horizon s.kind s.deadline
+    && (asks_fit line.horizon s.kind s.asks && list_all (span_fits line) s.spans))
 
 -- why choice k of n has no script of the line, if it has none
 abbrev pub choice_refusal : Line → FaultValues → ℕ → ℕ → Option SweepFault

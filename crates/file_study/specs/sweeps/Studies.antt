@@ -4,7 +4,7 @@ use Rattle.std.specs.Prelude.{get_or, take, slice_get}
 use Rattle.std.specs.List.{All, flat_map, list_any}
 use Rattle.std.specs.Str.{bytes_eq}
 use Rattle.model_line.specs.{declared.line.Line.Line, declared.script.Script.Script, Fits.Fits}
-use Rattle.file_tables.specs.script.Values.{ScriptValues, values_of}
+use Rattle.file_tables.specs.script.Values.{ScriptValues, AsksAlike, values_of}
 use Rattle.file_tables.specs.script.SoFar.{AreOnce, names_in}
 use Rattle.file_study.specs.study.Faults.{FaultValues}
 use Rattle.file_study.specs.sweeps.Groups.{group_of, group_values, own_scripts}
@@ -21,14 +21,15 @@ script_names scripts = map (λ s. s.name) scripts
 abbrev pub scripts_of_faults : List FaultValues → List ScriptValues
 scripts_of_faults fs = flat_map own_scripts fs
 
--- These are the scripts of the faults, fault by fault, and their groups. Each fits the line, and
--- no two have one name.
+-- These are the scripts of the faults, fault by fault, and their groups. Each fits the line and asks
+-- its terminals alike, and no two have one name.
 pub record AreScriptsOf (line : Line) (fs : List FaultValues) (scripts : List Script)
     (groups : List Group) : Type 0 where
   pub accepted : All (IsAccepted line) fs
   pub scripts_are : map values_of scripts ≡ scripts_of_faults fs
   pub groups_are : map group_values groups ≡ map group_of fs
   pub fit : All (Fits line) scripts
+  pub asks : All AsksAlike scripts
   pub once : AreOnce (script_names scripts)
 
 -- name k of own ones is the first that stands before
@@ -69,4 +70,5 @@ pub record IsPushed (line : Line) (f : FaultValues) (old new : StudyScripts) : T
   pub groups : map group_values new.groups.items
       ≡ map group_values old.groups.items ++ group_of f ∷ []
   pub fit : All (Fits line) old.scripts.items → All (Fits line) new.scripts.items
+  pub asks : All AsksAlike old.scripts.items → All AsksAlike new.scripts.items
   pub once : AreOnce (script_names new.scripts.items)

@@ -5,6 +5,7 @@ ghost use Rattle.std.specs.List.{All};
 ghost use Rattle.model_line.specs.Fits.{Fits};
 ghost use Rattle.file_tables.specs.{script.SoFar.AreOnce, script.Values.values_of};
 ghost use Rattle.file_tables.specs.script.ReadBack.{SaysScripts};
+ghost use Rattle.file_tables.specs.script.Values.{AsksAlike};
 ghost use Rattle.file_study.specs.sweeps.Parts.{is_part, part, parts_of};
 ghost use Rattle.file_study.specs.sweeps.Studies.{script_names};
 
@@ -57,6 +58,7 @@ pub fn part_text(
     n: usize,
 ) -> Result<Option<Vec<u8>>, Memory>
     requires fit { All (Fits line.now) scripts.now }
+    requires asks { All AsksAlike scripts.now }
     requires once { AreOnce (script_names scripts.now) }
     ensures says { IfOk result (λ o. IfSome o (λ text.
         SaysScripts line.now (map values_of (part n scripts.now)) text.items)) }

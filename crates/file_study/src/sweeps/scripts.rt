@@ -3,7 +3,7 @@
 ghost use Rattle.std.specs.Prelude.{◌≡◌, ◌≤◌, ◌+◌, IfOk, IfSome, IfNone, [], false, map, true};
 ghost use Rattle.std.specs.Prelude.{length, sum};
 ghost use Rattle.model_line.specs.PlainNames.{is_plain_name};
-ghost use Rattle.file_tables.specs.script.Values.{values_of};
+ghost use Rattle.file_tables.specs.script.Values.{AsksAlike, values_of};
 ghost use Rattle.file_study.specs.study.Faults.{fault_values, stage_values};
 ghost use Rattle.file_study.specs.sweeps.Choices.{choice_values, horizon_for};
 ghost use Rattle.file_study.specs.{sweeps.Scripts.deadline_of, sweeps.Scripts.place_name, sweeps.Scripts.script_of};
@@ -13,7 +13,7 @@ use crate::study::{Stage, SweptFault};
 use crate::sweeps::choice::Choice;
 use crate::sweeps::spans::push_stage;
 use itoa::Buffer;
-use model_line::{Kind, Memory, Name, Script, SeenSpan, is_plain};
+use model_line::{ALIKE, Kind, Memory, Name, Script, SeenSpan, is_plain};
 use std::alloc::Global;
 
 /// The name of choice k of several, counted from 0: the fault's, `-` and its place, counted from 1.
@@ -46,14 +46,16 @@ pub fn script(
 ) -> Result<Script, Memory>
     requires stages { length choice.now.lasts.items ≡ length fault.now.stages.items }
     requires ends { horizon_for (choice_values choice.now) ≤ 1000000 }
-    ensures { IfOk result (λ s. values_of s
+    ensures values { IfOk result (λ s. values_of s
         ≡ script_of name (fault_values fault.now) (choice_values choice.now)) }
+    ensures asks { IfOk result AsksAlike }
 {
     let spans = spans(alloc, choice.start, &choice.lasts, &fault.stages)?;
     Ok(Script {
         name,
         kind: fault.kind,
         deadline: deadline(fault.kind, choice),
+        asks: ALIKE,
         spans,
     })
 }

@@ -6,7 +6,7 @@ ghost use Rattle.std.specs.List.{All};
 ghost use Rattle.base_memory.specs.Gives.{OfFault};
 ghost use Rattle.model_line.specs.Fits.{Fits};
 ghost use Rattle.model_line.specs.PlainNames.{is_plain_name};
-ghost use Rattle.file_tables.specs.script.Values.{values_of};
+ghost use Rattle.file_tables.specs.script.Values.{AsksAlike, values_of};
 ghost use Rattle.file_study.specs.study.Faults.{fault_values};
 ghost use Rattle.file_study.specs.sweeps.Choices.{choice_of};
 ghost use Rattle.file_study.specs.sweeps.Refusals.{IsAccepted, IsRefused, choice_refusal};
@@ -100,6 +100,7 @@ fn script_at(
         ≡ script_of (script_name (fault_values fault.now) count k) (fault_values fault.now)
         (choice_of (fault_values fault.now) k)) }
     ensures fits { IfOk result (λ s. Fits line.now s) }
+    ensures asks { IfOk result AsksAlike }
     ensures accepted { OnOk result
         (choice_refusal line.now (fault_values fault.now) count k ≡ None) }
     ensures refused { IfErr result (OfFault (λ why.
@@ -130,6 +131,7 @@ pub fn scripts_of_fault(
     ensures scripts { IfOk result (λ v. scripts_of (fault_values fault.now)
         ≡ Some (map values_of v.items)) }
     ensures fit { IfOk result (λ v. All (Fits line.now) v.items) }
+    ensures asks { IfOk result (λ v. All AsksAlike v.items) }
     ensures count { IfOk result (λ v. count_of (fault_values fault.now) ≡ Some (vec_len v)) }
     ensures few { IfOk result (λ v. vec_len v ≤ 4096) }
     ensures accepted { OnOk result (IsAccepted line.now (fault_values fault.now)) }

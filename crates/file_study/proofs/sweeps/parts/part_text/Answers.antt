@@ -15,7 +15,7 @@ print_scripts-requires-clause-fit c =
 pub print_scripts-requires-clause-one_file : goal.print_scripts-requires-clause-one_file
 print_scripts-requires-clause-one_file c =
     subst (λ (p : List Script). AreOfOneFile (map values_of p)) (sym c.in-Some.ensures.some)
-    (part_of_one_file c.args.scripts.now c.args.n (sym c.in-Some.ensures.exists) c.requires.once)
+    (part_of_one_file c.args.scripts.now c.args.n (sym c.in-Some.ensures.exists) c.requires.asks c.requires.once)
 
 pub returns-in_ok-text-in-Some-clause-says : goal.returns-in_ok-text-in-Some-clause-says
 returns-in_ok-text-in-Some-clause-says c =
@@ -26,7 +26,7 @@ returns-in_ok-text-in-Some-clause-says c =
     (part_fits line c.args.n c.args.scripts.now c.requires.fit) in
     let one_file = subst (λ (p : List Script). AreOfOneFile (map values_of p)) (sym is)
     (part_of_one_file c.args.scripts.now c.args.n (sym c.in-Some.ensures.exists)
-    c.requires.once) in
+    c.requires.asks c.requires.once) in
     ap (scripts_of line) c.in_ok-text-in-Some.ensures.text
     ∙ (c.printed_scripts_are_read_back.ensures line (map values_of part)
     (scripts_fit_by_values line part fit) one_file

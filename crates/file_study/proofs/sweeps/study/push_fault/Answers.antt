@@ -31,6 +31,7 @@ returns-clause-pushed c =
       accepted = c.in-Ok.ensures.accepted;
       are = c.in-Ok.ensures.scripts;
       fit = c.in-Ok.ensures.fit;
+      asks = c.in-Ok.ensures.asks;
       once = once;
     })
     (c.in-Ok.ensures.count ∙ ap Some (sym c.len.ensures)) refl c.in_ok-swept.ensures

@@ -2,6 +2,7 @@ use Rattle.std.proofs.Common.{arith, below_more, sym}
 use Rattle.std.proofs.lemmas.Result.{err_from_is_err_and}
 use Rattle.std.proofs.lemmas.List.Elements.{All-push}
 use Rattle.model_line.specs.Fits.{Fits}
+use Rattle.file_tables.specs.script.Values.{AsksAlike}
 use Rattle.file_study.specs.study.Faults.{fault_values}
 use Rattle.file_study.proofs.{sweeps_lemmas.Refusing.refused_at, sweeps_lemmas.Sweeping.scripts_more}
 use Rattle.file_study.proofs.sweeps.sweep.scripts_of_fault.Goals as goal
@@ -16,6 +17,9 @@ loop-k-preserved c =
       fit = rw c.in_ok-push.ensures.items
           (All-push (Fits c.args.line.now) c.loop-k.scripts.items c.in_ok-script.script
           c.loop-k.invariant.fit c.in_ok-script.ensures.fits);
+      asks = rw c.in_ok-push.ensures.items
+          (All-push AsksAlike c.loop-k.scripts.items c.in_ok-script.script
+          c.loop-k.invariant.asks c.in_ok-script.ensures.asks);
       len = omega (arith, c.in_ok-push.ensures.len, c.loop-k.invariant.len);
       each = below_more _ _ c.loop-k.invariant.each c.in_ok-script.ensures.accepted;
     }
