@@ -3,7 +3,7 @@
 use Rattle.std.specs.Prelude.{◌+◌, ◌-◌, ◌++◌, ◌&&◌, ℕ, zero, suc, Bool, not, List, [], ◌∷◌, length}
 use Rattle.std.specs.Prelude.{if◌then◌else◌}
 use Rattle.model_history.specs.Each.{each_below}
-use Rattle.model_line.specs.{declared.line.Line.Line, Parameters.terminal_count}
+use Rattle.model_line.specs.{declared.line.Line.Line, Parameters.terminal_count, Asks.alike}
 use Rattle.model_line.specs.declared.script.{Element.Element, SeenSpan.SeenSpan, What.What}
 use Rattle.model_line.specs.declared.script.Element.TheVariants.{Z1, Z2, Rv, Uv, Cur}
 use Rattle.model_line.specs.declared.script.What.TheVariants as what
@@ -56,5 +56,6 @@ script_told line map tracks = record {
   name = map.script;
   kind = map.kind;
   deadline = map.deadline;
+  asks = alike;
   spans = spans_told line tracks;
 }

@@ -14,7 +14,7 @@ use crate::recorded::spans::spans_told;
 use crate::tracks::Track;
 use base_memory::Stopped;
 use file_tables::script::{print_scripts, printed_scripts_are_read_back};
-use model_line::{Line, Script};
+use model_line::{ALIKE, Line, Script};
 use std::alloc::Global;
 
 /// Why the tracks come to no script.
@@ -54,6 +54,7 @@ pub fn scripts_text(
         name: map.script,
         kind: map.kind,
         deadline: map.deadline,
+        asks: ALIKE,
         spans,
     };
     let mut scripts = Vec::new(alloc);
