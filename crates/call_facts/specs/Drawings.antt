@@ -38,7 +38,7 @@ pub record IsBandsOf (line : Line) (script : Script) (drawing : Drawing) : Type 
   pub judged : PairHistory
   pub same : IsSamePairHistory line history judged
   pub rules : map rule_named diagram.rules.items
-      ≡ first_ticks (λ k. rule_of line script (judged.trip k)) (terminal_count line)
+      ≡ first_ticks (λ k. rule_of line script k (judged.trip k)) (terminal_count line)
   pub drawn : drawing_seen drawing ≡ drawing_of line script subject.EveryChoice diagram
 
 -- of the one history at the choice of the timing, in which each gate of the line's net has the value

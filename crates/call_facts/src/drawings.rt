@@ -10,7 +10,7 @@ use draw_run::diagram::{every_choice_waves, history_diagram, play_diagram};
 use draw_run::layout::{Subject, draw};
 use draw_shapes::{Drawing, Rows};
 use judge_verdict::verdict::analyse;
-use model_line::laws::deadlines_are_below_the_horizon;
+use model_line::laws::{deadlines_are_below_the_horizon, obligations_end_in_the_run};
 use model_line::{Memory, Script};
 use model_timing::NamedTiming;
 use net_gates::Compiled;
@@ -22,6 +22,7 @@ pub fn bands(alloc: Global, compiled: &Compiled<'_>, script: &Script) -> Result<
     ensures { IfOk result (IsBandsOf compiled.now.line.now script.now) }
 {
     deadlines_are_below_the_horizon();
+    obligations_end_in_the_run();
     let judged = analyse(alloc, compiled, script)?;
     let waves = every_choice_waves(alloc, compiled, script)?;
     let which = Rows::Changing;

@@ -31,6 +31,7 @@ use Rattle.call_tables.specs.declared.row.Row.{Row}
 use Rattle.call_tables.specs.{Rows.AreRows, Written.rows_of, Written.result_of}
 use Rattle.call_tables.specs.Written.{results_of, results_by_script, trees_text}
 use Rattle.call_tables.proofs.RowLaws.{row_at, rows_long}
+use Rattle.model_line.specs.Asks.{AllEndInRun, obligation_of}
 
 -- ---- lists
 
@@ -88,7 +89,7 @@ HaveOneHistory = (line : Line) (script : Script) (timing : TimingValues) (g h : 
     → IsLineHistory line script (timing_choice line timing) h → IsSameHistory line g h
 
 refutes : HaveOneHistory → (line : Line) (script : Script) (k : ℕ) (timing : TimingValues)
-    → script.deadline < line.horizon → k < terminal_count line
+    → AllEndInRun line.horizon script → k < terminal_count line
     → IsFailing line script k timing → IsRefutation line script k timing
 refutes once line script k timing early there is = record {
   inside = is.inside;
@@ -97,12 +98,13 @@ refutes once line script k timing early there is = record {
       let same : IsSameHistory line h g =
       once line script timing h g is.inside is_h is.fails.is in
       is.fails.fails
-      (meets_same script.kind script.deadline line.horizon (h.trip k) (g.trip k) early
+      (meets_same (obligation_of line script k) line.horizon (h.trip k) (g.trip k)
+      (early.each k)
       (λ t lt. same.trips k t there lt) meets);
 }
 
 supported : HaveOneHistory → (line : Line) (script : Script) (k : ℕ) (answer : Answer)
-    → script.deadline < line.horizon → k < terminal_count line
+    → AllEndInRun line.horizon script → k < terminal_count line
     → IsAnswer line script k answer → IsSupported line script k (result_of answer)
 supported once line script k (Held nodes) early there is =
     record { tree = is.tree; are = is.are; sound = is.sound }
@@ -113,7 +115,7 @@ supported once line script k (Open nodes) early there is =
 
 -- the results of a script
 all_supported : HaveOneHistory → (line : Line) (scripts : List Script) (rows : List Row) (s : ℕ)
-    (script : Script) → script.deadline < line.horizon → AreRows line scripts rows
+    (script : Script) → AllEndInRun line.horizon script → AreRows line scripts rows
     → s < length scripts → slice_get scripts s ≡ Some script
     → AreSupported line script (results_of (rows_of line rows s))
 all_supported once line scripts rows s script deadline are early at k result lt here =
@@ -144,7 +146,7 @@ module _ (order : DeclaredIntervalsAreInOrder) (once : HaveOneHistory)
     (printed : (line : Line) (scripts : List Script) (parts : List (List SettleResult))
     → length parts ≡ length scripts → All (Fits line) scripts → All (HasOneEach line) parts
     → IsSettleText line scripts parts (settle_text line scripts parts))
-    (below : (line : Line) (script : Script) → Fits line script → script.deadline < line.horizon)
+    (below : (line : Line) (script : Script) → Fits line script → AllEndInRun line.horizon script)
     (line : Line) (scripts : List Script) (rows : List Row) (fit : All (Fits line) scripts)
     (are : AreRows line scripts rows) where
   is_text : IsSettleText line scripts (results_by_script line scripts rows)

@@ -16,7 +16,7 @@ ghost use Rattle.call_tables.specs.Written.{FailsWhereNamed};
 
 use cert_settle::printed_results_are_a_settle_text;
 use file_tables::timing::a_file_of_timings_is_short;
-use model_line::laws::{deadlines_are_below_the_horizon, declared_intervals_are_in_order};
+use model_line::laws::{declared_intervals_are_in_order, obligations_end_in_the_run};
 use model_logic::laws::{each_choice_has_one_history, each_line_has_a_choice_inside};
 use model_timing::timings_inside_are_choices_inside;
 
@@ -38,7 +38,7 @@ pub fn what_settle_writes_is_accepted()
         (counts : Counts) × IsAccepted line scripts (trees_text line scripts rows) counts }
 {
     declared_intervals_are_in_order();
-    deadlines_are_below_the_horizon();
+    obligations_end_in_the_run();
     each_choice_has_one_history();
     each_line_has_a_choice_inside();
     timings_inside_are_choices_inside();

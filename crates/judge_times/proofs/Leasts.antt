@@ -34,6 +34,7 @@ module _ (of : Uncertain) (a b : List Ends) (same : HaveOneLeast a b) where
           ∙ ap (λ (x : ℕ → ℕ). deadline_by of.fault.asked.kind
           (stands 1 of.fault.script.now.borders.items (length b) x of.fault.asked.counted
           + of.fault.asked.within)) times;
+      asks = fails.is.asks;
       shows = record {
         seen = λ p t. fails.is.shows.seen p t
             ∙ ap (λ (m : ℕ). (shown_at 1 of.fault.script.now m (least_lengths a)).seen p t) many

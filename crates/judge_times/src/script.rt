@@ -6,7 +6,7 @@ ghost use Rattle.judge_times.specs.Scripts.{IsScriptAt, deadline_at};
 
 use judge_borders::Fault;
 use model_borders::{least_place, least_shown};
-use model_line::{Kind, Memory, Script};
+use model_line::{ALIKE, Kind, Memory, Script};
 use run_signal::Within;
 use std::alloc::Global;
 
@@ -21,6 +21,7 @@ pub fn script_at(alloc: Global, fault: &Fault<'_>, part: &[Within]) -> Result<Sc
         name: fault.script.name,
         kind: fault.asked.kind,
         deadline: deadline_at(fault, part),
+        asks: ALIKE,
         spans,
     })
 }

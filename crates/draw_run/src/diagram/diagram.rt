@@ -4,6 +4,7 @@ ghost use Rattle.std.specs.Prelude.{◌≡◌, ◌<◌, [], length, map, min, If
 ghost use Rattle.model_history.specs.Recorded.{first_ticks};
 ghost use Rattle.model_line.specs.Parameters.{terminal_count};
 ghost use Rattle.model_logic.specs.Rule.{rule_of};
+ghost use Rattle.model_line.specs.Asks.{AllEndInRun};
 ghost use Rattle.judge_verdict.specs.{verdict.PairWavesOf.pair_history, verdict.Rules.rule_named};
 ghost use Rattle.model_history.specs.Rails.{both};
 ghost use Rattle.run_signal.specs.Terns.{tern_rails};
@@ -79,12 +80,13 @@ pub fn history_diagram(
     requires terminals { judged.now.terminals ≡ terminal_count compiled.now.line.now }
     requires horizon { judged.now.horizon ≡ compiled.now.line.now.horizon }
     requires deadline { script.now.deadline < compiled.now.line.now.horizon }
+    requires ends { AllEndInRun compiled.now.line.now.horizon script.now }
     ensures diagram { IfOk result (λ diagram.
         IsDiagramOf compiled.now.line.now compiled.now.net.now.gates script.now
         (pairs_shown (waves_history (λ x _. tern_rails x) 0 waves.now)
         (wave_pair (λ x _. tern_rails x) 0 waves.now)) [] which diagram) }
     ensures rules { IfOk result (λ diagram. map rule_named diagram.rules.items
-        ≡ first_ticks (λ k. rule_of compiled.now.line.now script.now
+        ≡ first_ticks (λ k. rule_of compiled.now.line.now script.now k
         ((pair_history judged.now).trip k))
         (terminal_count compiled.now.line.now)) }
 {
@@ -135,9 +137,9 @@ fn rules(
 ) -> Result<Vec<Rule>, Memory>
     requires terminals { waves.now.terminals ≡ terminal_count line.now }
     requires horizon { waves.now.horizon ≡ line.now.horizon }
-    requires deadline { script.now.deadline < line.now.horizon }
+    requires ends { AllEndInRun line.now.horizon script.now }
     ensures { IfOk result (λ rules. map rule_named rules.items
-        ≡ first_ticks (λ k. rule_of line.now script.now ((pair_history waves.now).trip k))
+        ≡ first_ticks (λ k. rule_of line.now script.now k ((pair_history waves.now).trip k))
         (terminal_count line.now)) }
 {
     let mut all = Vec::new(alloc);

@@ -9,4 +9,4 @@ returns c =
     c.each_choice_has_one_history.ensures.only line script (timing_choice line timing) g h
     (c.each_line_has_a_choice_inside.ensures.choices line (timing_choice line timing)
     (c.timings_inside_are_choices_inside.ensures line timing inside)) is_g is_h)
-    c.printed_results_are_a_settle_text.ensures c.deadlines_are_below_the_horizon.ensures
+    c.printed_results_are_a_settle_text.ensures c.obligations_end_in_the_run.ensures

@@ -7,4 +7,4 @@ use Rattle.draw_run.proofs.diagram.diagram.rules.Given as goal
 abbrev pub invariant-loop-k : goal.invariant-loop-k
 invariant-loop-k l =
     map rule_named l.all.items
-    ≡ first_ticks (λ k. rule_of l.line l.script ((pair_history l.waves).trip k)) l.k
+    ≡ first_ticks (λ k. rule_of l.line l.script k ((pair_history l.waves).trip k)) l.k
