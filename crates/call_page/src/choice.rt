@@ -19,7 +19,7 @@ use call_facts::{least_times, play, told_steps, told_times};
 use call_tables::{Row, fails_for_every};
 use call_why::told_why;
 use draw_page::FailingChoice;
-use judge_settle::corner::{Obligation, cut};
+use judge_settle::corner::{TerminalScript, cut};
 use model_line::{Memory, Script, name_of_terminal};
 use model_timing::{NamedTiming, Timing};
 use net_gates::Compiled;
@@ -47,7 +47,7 @@ pub fn choice(
         net: &study.net,
     };
     let of_script = script_at(study, row.script);
-    let of = Obligation {
+    let of = TerminalScript {
         compiled,
         script: of_script,
         terminal: row.terminal,

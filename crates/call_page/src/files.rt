@@ -2,6 +2,8 @@
 
 ghost use Rattle.std.specs.Prelude.{◌≡◌, ◌≤◌, ◌<◌, ◌+◌, ◌∷◌, [], IfOk, length};
 ghost use Rattle.file_tables.specs.script.SoFar.{AreOnce};
+ghost use Rattle.std.specs.List.{All};
+ghost use Rattle.file_tables.specs.script.Values.{AsksAlike};
 ghost use Rattle.file_study.specs.{sweeps.Studies.script_names, sweeps.Parts.parts_of};
 ghost use Rattle.call_answer.specs.Study.{IsStudy};
 ghost use Rattle.call_tables.specs.{Rows.AreRows, Written.trees_text};
@@ -22,6 +24,7 @@ use std::alloc::Global;
 /// The line file, and the scripts files.
 pub fn files(alloc: Global, study: &Study) -> Result<Vec<FileText>, Memory>
     requires study { IsAnyStudy study.now }
+    requires asks { All AsksAlike study.now.scripts.items }
     requires once { AreOnce (script_names study.now.scripts.items) }
     ensures { IfOk result (λ files. AreFiles study.now.line study.now.scripts.items files.items) }
 {
@@ -47,6 +50,7 @@ fn line_file(alloc: Global, study: &Study) -> Result<FileText, Memory>
 // Part n of the scripts, counted from 0.
 fn scripts_file(alloc: Global, study: &Study, n: usize) -> Result<FileText, Memory>
     requires study { IsAnyStudy study.now }
+    requires asks { All AsksAlike study.now.scripts.items }
     requires once { AreOnce (script_names study.now.scripts.items) }
     requires exists { n < parts_of (length study.now.scripts.items) }
     ensures { IfOk result (IsScriptsFile study.now.line study.now.scripts.items n) }

@@ -1,8 +1,9 @@
 //! The whole page as a value.
 
 ghost use Rattle.std.specs.Prelude.{◌≡◌, ◌<◌, ◌≤◌, ◌+◌, ◌-◌, ◌^◌, IfOk, count_by, length, map};
-ghost use Rattle.std.specs.List.{flat_map};
+ghost use Rattle.std.specs.List.{All, flat_map};
 ghost use Rattle.file_tables.specs.script.SoFar.{AreOnce};
+ghost use Rattle.file_tables.specs.script.Values.{AsksAlike};
 ghost use Rattle.file_study.specs.sweeps.Studies.{script_names};
 ghost use Rattle.model_line.specs.NamesByNumber.{scheme_initials};
 ghost use Rattle.call_tables.specs.{Rows.AreRows, Table.fails_for_every as fails_for_every_of};
@@ -33,6 +34,7 @@ use std::alloc::Global;
 /// The page of what is known.
 pub fn page(alloc: Global, known: &Known<'_>, asked: &Asked<'_>) -> Result<Page, Memory>
     requires known { AreKnown known.now }
+    requires asks { All AsksAlike known.now.study.now.scripts.items }
     requires once { AreOnce (script_names known.now.study.now.scripts.items) }
     ensures { IfOk result (IsPageOf known.now.study.now.line known.now.study.now.scripts.items
         known.now.groups.now asked.now.title.now known.now.rows.now known.now.firsts.now) }
@@ -49,6 +51,7 @@ fn page_of(
     asked: &Asked<'_>,
 ) -> Result<Page, Memory>
     requires known { AreKnown known.now }
+    requires asks { All AsksAlike known.now.study.now.scripts.items }
     requires once { AreOnce (script_names known.now.study.now.scripts.items) }
     requires parts { AreParts known.now.groups.now
         (length known.now.study.now.scripts.items) parts.now }
@@ -190,6 +193,7 @@ struct Words {
 
 fn told(alloc: Global, study: &Study, asked: &Asked<'_>) -> Result<Words, Memory>
     requires study { IsAnyStudy study.now }
+    requires asks { All AsksAlike study.now.scripts.items }
     requires once { AreOnce (script_names study.now.scripts.items) }
     ensures title { IfOk result (λ told. told.head.title.items ≡ asked.now.title.now) }
     ensures scheme { IfOk result (λ told.

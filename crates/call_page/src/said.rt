@@ -1,8 +1,9 @@
 //! What the command says.
 
 ghost use Rattle.std.specs.Prelude.{◌≡◌, IfOk};
-ghost use Rattle.std.specs.List.{list_any};
+ghost use Rattle.std.specs.List.{All, list_any};
 ghost use Rattle.file_tables.specs.script.SoFar.{AreOnce};
+ghost use Rattle.file_tables.specs.script.Values.{AsksAlike};
 ghost use Rattle.file_study.specs.sweeps.Studies.{script_names};
 ghost use Rattle.call_answer.specs.{Answers.Says, Answers.status_by};
 ghost use Rattle.call_tables.specs.Rows.{AreRows};
@@ -38,6 +39,7 @@ pub fn page_said(
     asked: &Asked<'_>,
 ) -> Result<Said, Memory>
     requires study { IsAnyStudy study.now }
+    requires asks { All AsksAlike study.now.scripts.items }
     requires once { AreOnce (script_names study.now.scripts.items) }
     ensures { IfOk result (Says (page_answer study.now.line study.now.scripts.items groups.now
         asked.now.title.now)) }
@@ -58,6 +60,7 @@ fn text_of_rows(
     asked: &Asked<'_>,
 ) -> Result<Vec<u8>, Memory>
     requires study { IsAnyStudy study.now }
+    requires asks { All AsksAlike study.now.scripts.items }
     requires once { AreOnce (script_names study.now.scripts.items) }
     requires rows { AreRows study.now.line study.now.scripts.items rows.now }
     ensures { IfOk result (λ text. IsPageText study.now.line study.now.scripts.items groups.now

@@ -9,7 +9,7 @@ ghost use Rattle.call_shots.specs.Choices.{AreChoices, IsChoiceOf, IsFailingCut}
 ghost use Rattle.call_shots.specs.Choices.{IsPlayedAt};
 
 use call_verdicts::{Cases, Finding, Standing};
-use judge_settle::corner::{Obligation, cut, deciding, worst_timing};
+use judge_settle::corner::{TerminalScript, cut, deciding, worst_timing};
 use judge_settle::settle::{Answer, Settled, settle};
 use judge_verdict::verdict::analyse;
 use model_line::{Memory, Script};
@@ -129,7 +129,7 @@ fn cut_of(
 {
     match answer {
         Answer::Fails { timing, .. } => {
-            let of = Obligation {
+            let of = TerminalScript {
                 compiled: *compiled,
                 script,
                 terminal,

@@ -47,7 +47,7 @@ pub record IsBandsText (line : Line) (script : Script) (which : Rows) (made text
   pub judged : PairHistory
   pub same : IsSamePairHistory line history judged
   pub rules : map rule_named diagram.rules.items
-      ≡ first_ticks (λ k. rule_of line script (judged.trip k)) (terminal_count line)
+      ≡ first_ticks (λ k. rule_of line script k (judged.trip k)) (terminal_count line)
   pub printed : text ≡ text_of line script made subject.EveryChoice diagram
 
 -- the text is that of the one history at the choice of the timing, in which each gate of the line's

@@ -12,7 +12,7 @@ use draw_run::layout::{Subject, draw};
 use draw_shapes::{Rows, svg};
 use file_records::recorded::data_text;
 use judge_verdict::verdict::analyse;
-use model_line::laws::deadlines_are_below_the_horizon;
+use model_line::laws::{deadlines_are_below_the_horizon, obligations_end_in_the_run};
 use model_line::{Memory, Script};
 use model_logic::laws::{each_choice_has_one_history, each_line_has_a_choice_inside};
 use model_timing::{NamedTiming, timings_inside_are_choices_inside};
@@ -33,6 +33,7 @@ pub fn bands_text(
         made.now text.items) }
 {
     deadlines_are_below_the_horizon();
+    obligations_end_in_the_run();
     let judged = analyse(alloc, compiled, script)?;
     let waves = every_choice_waves(alloc, compiled, script)?;
     let diagram = history_diagram(alloc, compiled, script, &judged, &waves, which)?;

@@ -82,7 +82,12 @@ module _ (goes : EachHistoryGoesOn) (of : Uncertain) (whole : List Ends) (posed 
   timed : (times : List ℕ) → FailsAt of (times_of times) k → HasTiming (asked_of of whole) times k
   timed times is = record {
     script = is.script;
-    is = record { kind = is.is.kind; deadline = is.is.deadline; shows = is.is.shows };
+    is = record {
+      kind = is.is.kind;
+      deadline = is.is.deadline;
+      asks = is.is.asks;
+      shows = is.is.shows;
+    };
     timing = is.timing;
     fails = is.fails;
   }

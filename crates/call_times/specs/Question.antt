@@ -5,8 +5,9 @@ use Rattle.std.specs.List.{All}
 use Rattle.model_history.specs.Rails.{Ends, single}
 use Rattle.model_line.specs.declared.line.Line.{Line}
 use Rattle.model_line.specs.declared.script.{Kind.Kind, Script.Script}
+use Rattle.model_line.specs.Asks.{alike}
 use Rattle.model_logic.specs.Choice.{Choice}
-use Rattle.model_logic.specs.Histories.{History, MeetsBy}
+use Rattle.model_logic.specs.Histories.{History, MetBy}
 use Rattle.model_timing.specs.Timing.{TimingValues}
 use Rattle.model_fine.specs.{Fine.IsFineInside, Loose.IsShownHistory}
 use Rattle.model_borders.specs.Borders.{AreLengthsIn, shown_at, stands}
@@ -46,7 +47,7 @@ question_of line loose = record {
 
 -- at times x, where each tick is cut into n, a trip is as it is asked
 abbrev pub Meets : Question → ℕ → (ℕ → ℕ) → (ℕ → Bool) → Type 0
-Meets q n x trip = MeetsBy q.kind
+Meets q n x trip = MetBy q.kind
     (stands n q.script.borders.items (length q.part) x q.counted + q.within * n) (q.end * n) trip
 
 -- of every history at such times of every choice of fractions inside the declared intervals
@@ -67,11 +68,12 @@ pub record AreBetween (q : Question) (from to n : ℕ) (x : ℕ → ℕ) : Type 
 abbrev pub IsHeld : Question → ℕ → ℕ → ℕ → Type 0
 IsHeld q k from to = ForEach q (AreBetween q from to) (λ n x h. Meets q n x (h.trip k))
 
--- a script of the question's kind and deadline, which shows at each tick what is shown at these whole times
+-- a script of the question's kind and deadline, which asks each terminal alike, and shows at each tick what is shown at these whole times
 pub record IsScriptOf (q : Question) (times : List ℕ) (script : Script) : Type 0 where
   pub kind : script.kind ≡ q.kind
   pub deadline : script.deadline
       ≡ deadline_by q.kind (least_tick q.script.borders.items (times_of times) q.counted + q.within)
+  pub asks : script.asks ≡ alike
   pub shows : ShowTheLeast q.script (times_of times) script.spans.items
 
 -- a timing inside the declared intervals, whose play fails terminal k at these whole times

@@ -9,6 +9,7 @@ use Rattle.net_gates.specs.NetOf.{trip_of}
 use Rattle.judge_why.specs.{Plays.PlayOf, PlayLaws.AreAlike, PlayLaws.with_levels, PlayLaws.why_alike}
 use Rattle.judge_why.specs.declared.fact.Spot.{Spot}
 use Rattle.call_why.specs.Reasons.{IsDecidedAt, IsToldIn}
+use Rattle.model_line.specs.Asks.{obligation_of}
 
 -- a text that grew from nothing by three pieces
 pub three_pieces : (t0 t1 t2 t3 a b d : List ℕ) → t0 ≡ [] → t1 ≡ t0 ++ a → t2 ≡ t1 ++ b
@@ -36,7 +37,7 @@ told_alike play level told line script k every timing text alike there so =
       tick = so.tick;
       facts = so.facts;
       within = so.within;
-      decided = decided_alike script.kind script.deadline so.tick play.horizon
+      decided = decided_alike (obligation_of line script k).kind (obligation_of line script k).deadline so.tick play.horizon
           (play.level (trip_of play.net k)) (level (trip_of play.net k))
           (λ t early. alike.levels (trip_of play.net k) t there early) so.within so.decided;
       why = why_alike play level told alike spot so.facts so.why;

@@ -5,7 +5,7 @@ use Rattle.model_line.specs.Channels.{from_of}
 use Rattle.model_line.specs.declared.line.Line.{Line}
 use Rattle.model_line.specs.declared.script.{Script.Script, Kind.Kind}
 use Rattle.model_line.specs.declared.script.Kind.TheVariants.{Internal, External}
-use Rattle.model_line.specs.NamesByNumber.{terminal_name}
+use Rattle.model_line.specs.{Asks.obligation_of, NamesByNumber.terminal_name}
 use Rattle.model_logic.specs.Choice.{Choice}
 use Rattle.model_logic.specs.Histories.{History, IsLineHistory}
 use Rattle.model_timing.specs.{Timing.TimingValues, Choice.timing_choice, NamedValues.NamedValues}
@@ -47,7 +47,7 @@ choices_words false = codes ", for some choice of times\n"
 
 unfoldable pub head_line : Line → Script → ℕ → Bool → ℕ → List ℕ
 head_line line script k every tick =
-    script.name ++ codes ": " ++ terminal_name line k ++ verdict_words line script.kind tick
+    script.name ++ codes ": " ++ terminal_name line k ++ verdict_words line (obligation_of line script k).kind tick
     ++ choices_words every
 
 -- the text: what fails, the choice, and the first lines of the reason
@@ -62,7 +62,8 @@ pub record IsToldIn (play : PlayOf) (line : Line) (script : Script) (k : ℕ) (e
   pub tick : ℕ
   pub facts : List Fact
   pub within : tick < play.horizon
-  pub decided : IsDecidedAt script.kind script.deadline (play.level (trip_of play.net k)) tick
+  pub decided : IsDecidedAt (obligation_of line script k).kind (obligation_of line script k).deadline
+      (play.level (trip_of play.net k)) tick
   pub why : IsWhy play (record { gate = trip_of play.net k; tick = tick }) facts
   pub text_is : text ≡ why_text line play.net script k every timing tick facts
 

@@ -6,20 +6,20 @@ ghost use Rattle.call_why.specs.Reasons.{IsDecidedAt};
 ghost use Rattle.model_line.specs.declared.script.Kind.TheVariants.{External};
 
 use judge_why::{Play, Spot, is_on};
-use model_line::{Kind, Script};
+use model_line::{Kind, Obligation};
 
-/// The deadline of an internal fault, or the first tick at which the trip of an external one, which is
-/// this gate, is on; if there is one.
-pub fn decision(play: &Play<'_>, script: &Script, gate: u32) -> Option<u32>
+/// The deadline by which to trip, or the first tick at which the trip, which is this gate, is on where it
+/// is not to be; if there is one.
+pub fn decision(play: &Play<'_>, asked: Obligation, gate: u32) -> Option<u32>
     requires play { IsPlay play.now }
     requires gate { gate < length (play_of play.now).net.gates }
-    requires deadline { script.now.deadline < (play_of play.now).horizon }
+    requires deadline { asked.deadline < (play_of play.now).horizon }
     ensures within { IfSome result (λ tick. tick < (play_of play.now).horizon) }
-    ensures decided { IfSome result (λ tick. IsDecidedAt script.now.kind script.now.deadline
+    ensures decided { IfSome result (λ tick. IsDecidedAt asked.kind asked.deadline
         ((play_of play.now).level gate) tick) }
 {
-    match script.kind {
-        Kind::Internal => Some(script.deadline),
+    match asked.kind {
+        Kind::Internal => Some(asked.deadline),
         Kind::External => first_on(play, gate),
     }
 }

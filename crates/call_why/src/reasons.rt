@@ -2,7 +2,7 @@
 
 ghost use Rattle.std.specs.Prelude.{◌≡◌, ◌<◌, ◌++◌, IfOk, OnOk};
 ghost use Rattle.model_line.specs.{Fits.Fits, Parameters.terminal_count};
-ghost use Rattle.model_line.specs.NamesByNumber.{terminal_name};
+ghost use Rattle.model_line.specs.{Asks.AllEndInRun, NamesByNumber.terminal_name};
 ghost use Rattle.model_logic.specs.Histories.{History, IsLineHistory};
 ghost use Rattle.model_timing.specs.{Inside.IsTimingInside, Choice.timing_choice, NamedValues.values_of};
 ghost use Rattle.judge_settle.specs.settle.Trees.{IsFailing};
@@ -15,10 +15,10 @@ use crate::lines::{push_facts, push_time};
 use crate::parts::named_gates;
 use crate::times::push_choice;
 use draw_gates::dump::play_waves;
-use judge_settle::corner::{Obligation, cut};
+use judge_settle::corner::{TerminalScript, cut};
 use judge_why::{Play, Spot, why};
-use model_line::laws::deadlines_are_below_the_horizon;
-use model_line::{Kind, Line, Memory, Name, Script, name_of_terminal};
+use model_line::laws::obligations_end_in_the_run;
+use model_line::{Kind, Line, Memory, Name, Script, name_of_terminal, obligation_at};
 use model_timing::{NamedTiming, Timing};
 use net_gates::Compiled;
 use std::alloc::Global;
@@ -68,7 +68,7 @@ pub fn reason_of(
     ensures { IfOk result (λ reason. IsReason compiled.now.line.now script.now terminal timing.now
         every (values_of reason.named) reason.text.items) }
 {
-    let of = Obligation {
+    let of = TerminalScript {
         compiled: *compiled,
         script,
         terminal,
@@ -106,7 +106,7 @@ fn told_over(
         (timing_choice compiled.now.line.now named.now.timing) h compiled.now.net.now)
         compiled.now.line.now script.now terminal every named.now.timing text.items) }
 {
-    deadlines_are_below_the_horizon();
+    obligations_end_in_the_run();
     let waves = play_waves(alloc, compiled, script, named)?;
     let told = named_gates(alloc, compiled)?;
     let play = Play {
@@ -128,13 +128,14 @@ fn told_in(
 ) -> Result<Vec<u8>, Memory>
     requires play { IsPlay play.now }
     requires terminal { terminal < terminal_count play.now.compiled.line.now }
-    requires deadline { script.now.deadline < play.now.compiled.line.now.horizon }
+    requires deadline { AllEndInRun play.now.compiled.line.now.horizon script.now }
     ensures { IfOk result (λ text. IsToldIn (play_of play.now) play.now.compiled.line.now script.now
         terminal every play.now.timing.now text.items) }
 {
     let line = play.compiled.line;
     let gate = play.compiled.net.trip_gate(terminal).0;
-    let Some(tick) = decision(play, script, gate) else {
+    let asked = obligation_at(line, script, terminal);
+    let Some(tick) = decision(play, asked, gate) else {
         return Err(Memory);
     };
     let facts = why(alloc, play, Spot { gate, tick })?;
@@ -161,7 +162,8 @@ fn push_head(
     text.extend_from_slice(script.name.bytes())?;
     text.extend_from_slice(b": ")?;
     text.extend_from_slice(name_of_terminal(line, terminal))?;
-    push_verdict(text, line, script.kind, tick)?;
+    let asked = obligation_at(line, script, terminal);
+    push_verdict(text, line, asked.kind, tick)?;
     push_choices(text, every)
 }
 

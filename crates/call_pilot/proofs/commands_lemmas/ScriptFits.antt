@@ -8,7 +8,7 @@ use Rattle.std.specs.Prelude.{◌++◌, codes, map, IsTrue, nat_le, nat_lt, if�
 use Rattle.std.specs.List.{list_all}
 use Rattle.std.specs.Int.Digits.{digits_of}
 use Rattle.model_line.specs.declared.script.Element.TheVariants.{Z2, Rv, Cur}
-use Rattle.model_line.specs.Fits.{Fits, deadline_fits, span_fits}
+use Rattle.model_line.specs.Fits.{Fits, asks_fit, deadline_fits, span_fits}
 use Rattle.model_line.specs.PlainNames.{is_plain_name}
 use Rattle.model_line.specs.{declared.script.Element.Element, declared.script.Script.Script}
 use Rattle.model_line.specs.{declared.line.Line.Line, Parameters.terminal_count}
@@ -64,6 +64,7 @@ module _ (line : Line) (bench : IsBenchLine line) where
             (subst (λ x. IsTrue (deadline_fits 1000 (bench_kind n) x)) (sym is.deadline)
             (each_passes (λ i. deadline_fits 1000 (bench_kind i) (bench_deadline i)) 65 refl n
             small)));
+        asks = subst (λ x. IsTrue (asks_fit line.horizon script.kind x)) (sym is.asks) refl;
         spans = subst (λ x. IsTrue (list_all (span_fits line) x)) (sym is.spans)
             (either_ok (is_internal n) (inception n) (omega (arith, few)));
       }

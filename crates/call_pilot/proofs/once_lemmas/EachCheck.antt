@@ -32,7 +32,7 @@ use Rattle.run_waves.specs.derived.Claims.{pairs_of}
 use Rattle.cert_claims.specs.check.Counts.{all_verdicts, are_counts, counts_in}
 use Rattle.run_waves.specs.derived.Firsts.{IsFirstFailing}
 use Rattle.cert_claims.specs.check.NoFaults.{IsNoFault}
-use Rattle.cert_claims.specs.check.Refutations.{IsMetAt, IsNumberIn, IsRefutation, choice_of}
+use Rattle.cert_claims.specs.check.Refutations.{MetAt, IsMetAt, IsNumberIn, IsRefutation, choice_of}
 use Rattle.cert_claims.specs.check.Refutations.{steady_timing}
 use Rattle.cert_claims.specs.check.Verdicts.{AreAccepted, IsCovered, IsFaultOf, IsFirstFault}
 use Rattle.cert_claims.specs.check.Verdicts.{IsFirstUncovered, IsKeyCovered, IsSupported, AreSupported}
@@ -53,6 +53,8 @@ use Rattle.call_engine.specs.Checked.{accepted_pieces}
 use Rattle.call_answer.specs.declared.done.Done.{Done}
 use Rattle.call_answer.specs.declared.done.Done.TheVariants as done
 use Rattle.call_pilot.proofs.once_lemmas.EachText.{each_text}
+use Rattle.model_line.specs.Asks.{AllEndInRun, obligation_of}
+use Rattle.model_logic.specs.Histories.{MetBy}
 
 -- ---- what is so, or is not
 
@@ -85,10 +87,10 @@ off_or_on true = inr refl
 
 -- ---- an obligation that a history meets
 
-met_told : (kind : Kind) (deadline horizon : ℕ) (trip : ℕ → Bool)
-    → ((t : ℕ) × IsMetAt kind deadline horizon trip t)
-    ⊎ (¬ (MeetsBy kind deadline horizon trip))
-met_told Internal deadline horizon trip = elim (first_of (λ t. trip t ≡ false)
+met_told : (kind : Kind) (deadline end : ℕ) (trip : ℕ → Bool)
+    → ((t : ℕ) × MetAt kind deadline end trip t)
+    ⊎ (¬ (MetBy kind deadline end trip))
+met_told Internal deadline end trip = elim (first_of (λ t. trip t ≡ false)
     (λ t. trip t ≡ true) (suc deadline) (λ t lt. off_or_on (trip t))) [
       | inl off ↦ inr (λ met. not_both (trip met.0) (off met.0 (omega (arith, met.1))) met.2)
       | inr first ↦ inl (
@@ -101,16 +103,16 @@ met_told Internal deadline horizon trip = elim (first_of (λ t. trip t ≡ false
         },
       )
     ]
-met_told External deadline horizon trip = elim (first_of (λ t. trip t ≡ false)
-    (λ t. trip t ≡ true) horizon (λ t lt. off_or_on (trip t))) [
-      | inl off ↦ inl (horizon, (refl, λ r from lt. off r lt))
+met_told External deadline end trip = elim (first_of (λ t. trip t ≡ false)
+    (λ t. trip t ≡ true) end (λ t lt. off_or_on (trip t))) [
+      | inl off ↦ inl (end, (refl, λ r from lt. off r lt))
       | inr first ↦ inr (λ met. not_both (trip first.0) (met first.0 first.1) first.2)
     ]
 
 -- ---- the claims of a script
 
 module _ (lines : LineLaws) (timings : TimingsInsideAreChoicesInside) (line : Line)
-    (script : Script) (early : script.deadline < line.horizon) where
+    (script : Script) (early : AllEndInRun line.horizon script) where
   module _ (keys : List (List Tern)) where
     claim_sound : (k t : ℕ) → IsSound (pairs_of keys k t)
     claim_sound k t = wave_sound (get_or keys k []) t
@@ -183,13 +185,16 @@ module _ (lines : LineLaws) (timings : TimingsInsideAreChoicesInside) (line : Li
       let late : DelaysFromOne line choice =
       lines.inside.choices line choice (timings line (steady_timing values) inside) in
       let (h, is) = lines.histories.exists line script choice late in
-      elim (met_told script.kind script.deadline line.horizon (h.trip k)) [
+      elim (met_told (obligation_of line script k).kind (obligation_of line script k).deadline
+      (obligation_of line script k).end (h.trip k)) [
         | inl met ↦ inr (
           number.Passes met.0,
           record {
             inside = inside;
             passes = λ g is_g.
-                met_same script.kind script.deadline line.horizon (h.trip k) (g.trip k) met.0 early
+                met_same (obligation_of line script k).kind (obligation_of line script k).deadline
+                (obligation_of line script k).end line.horizon (h.trip k) (g.trip k) met.0
+                (early.each k).deadline (early.each k).end
                 (λ t lt. (lines.histories.only line script choice h g late is is_g).trips k t there lt)
                 met.1;
           },
@@ -228,7 +233,7 @@ module _ (lines : LineLaws) (timings : TimingsInsideAreChoicesInside) (line : Li
 
   verdict_told : (k : ℕ) → k < terminal_count line → (trip : ℕ → Rails) (v : Verdict)
       → HasNumbers line v → IsSupported line script k trip v ⊎ HasFault k trip v
-  verdict_told k there trip yes numbers = elim (rule_told (rule_of line script trip)) [
+  verdict_told k there trip yes numbers = elim (rule_told (rule_of line script k trip)) [
     | inl held ↦ inl held
     | inr not_held ↦ inr (wrong.NotHeld k, (refl, not_held))
   ]
@@ -341,7 +346,7 @@ module _ (lines : LineLaws) (timings : TimingsInsideAreChoicesInside)
         let (script, at) = exists_at scripts i lt in
         let (said, at_said) = exists_at claims i (omega (arith, lt, is.many)) in
         let can = can_at claims i said (written line scripts claims bytes is) at_said in
-        let early = lines.deadlines line script (all_at (Fits line) scripts i script fit at) in
+        let early = lines.ends line script (all_at (Fits line) scripts i script fit at) in
         elim (claims_told lines timings line script early said can.each can.numbers) [
           | inl good ↦ inl (λ s d at_s at_d.
               let same_script : script ≡ s = (let e : Some script ≡ Some s = sym at ∙ at_s in cc) in

@@ -25,19 +25,20 @@ use Rattle.call_pilot.specs.commands.Margin.{margin_answer}
 use Rattle.call_pilot.proofs.top_lemmas.Raised.{raised_late}
 use Rattle.call_answer.specs.declared.done.Done.{Done}
 use Rattle.call_answer.specs.declared.done.Done.TheVariants as done
+use Rattle.model_line.specs.Asks.{AllEndInRun}
 
 module _ (lines : LineLaws) (rules : TheRuleOverABox) (line : Line) (scripts : List Script)
     (early : (s : ℕ) (script : Script) → slice_get scripts s ≡ Some script
-    → script.deadline < line.horizon) where
+    → AllEndInRun line.horizon script) where
   -- ---- the first that is lost over a box
 
   module _ (box : Box) (late : LeastFromOne line box) where
-    held_or_not : (script : Script) (k : ℕ) → script.deadline < line.horizon
+    held_or_not : (script : Script) (k : ℕ) → AllEndInRun line.horizon script
         → k < terminal_count line
         → IsHeldOver line script k box ⊎ (¬ (IsHeldOver line script k box))
     held_or_not script k soon there =
         let (w, is) = lines.interval_histories.exists line script box late in
-        elim (rule_told (rule_of line script (w.trip k))) [
+        elim (rule_told (rule_of line script k (w.trip k))) [
           | inl held ↦ inl (rules.one line script k box w soon late there is held)
           | inr not_held ↦ inr (λ over. not_held (over.held w is))
         ]

@@ -52,6 +52,7 @@ use Rattle.call_pilot.proofs.{once_lemmas.SameReports.report_on}
 use Rattle.call_pilot.proofs.{once_lemmas.SameSettled.matching_on, once_lemmas.SameSplits.split_on}
 use Rattle.call_pilot.proofs.{once_lemmas.SameChecks.check_on, once_lemmas.SameRechecks.recheck_on}
 use Rattle.call_pilot.specs.top.SameValueLaws.{same_but_params}
+use Rattle.model_line.specs.Asks.{AllEndInRun}
 
 -- two answers are one
 abbrev pub IsOne : Answers → Answers → Type 0
@@ -62,7 +63,7 @@ pub record OneLine : Type 0 where
   pub counts : CountsRestOnNoInterval
   pub histories : HistoriesRestOnNoInterval
   pub trees : TreesRestOnNoInterval
-  pub early : (line : Line) (script : Script) → Fits line script → script.deadline < line.horizon
+  pub early : (line : Line) (script : Script) → Fits line script → AllEndInRun line.horizon script
   pub history : (line : Line) (script : Script) (v w : PairHistory)
       → IsPairHistory line script (declared_box line) v
       → IsPairHistory line script (declared_box line) w → IsSamePairHistory line v w

@@ -12,7 +12,7 @@ use Rattle.model_line.specs.declared.script.Kind.TheVariants.{Internal, External
 use Rattle.model_line.specs.{declared.script.Kind.Kind, declared.line.Line.Line}
 use Rattle.model_line.specs.{declared.script.Script.Script, Fits.Fits, Parameters.terminal_count}
 use Rattle.model_logic.specs.Histories.{IsPairHistory, IsSamePairHistory, PairHistory}
-use Rattle.model_logic.specs.Rule.{Held, Broken, Unknown, Rule, is_broken, is_held, rule_by}
+use Rattle.model_logic.specs.Rule.{Held, Broken, Unknown, Rule, broken_by, held_by, rule_by}
 use Rattle.model_logic.specs.Rule.{rule_of}
 use Rattle.model_logic.specs.Choice.{declared_box}
 use Rattle.run_waves.specs.waves.FirstTick.{first_on}
@@ -34,6 +34,7 @@ use Rattle.call_pilot.specs.{commands.Split.split_answer, commands.Verdicts.verd
 use Rattle.call_answer.specs.declared.done.Done.{Done}
 use Rattle.call_answer.specs.declared.done.Done.TheVariants as done
 use Rattle.call_pilot.specs.top.PrintedLaws.{same_counts}
+use Rattle.model_line.specs.Asks.{AllEndInRun, obligation_of}
 
 -- ---- checks
 
@@ -130,34 +131,33 @@ split_once line scripts n one s t a b p q =
 
 -- ---- reports
 
-module _ (deadline horizon : ℕ) (early : deadline < horizon) (v w : ℕ → Rails)
-    (same : (t : ℕ) → t < horizon → v t ≡ w t) where
-  held_same : (kind : Kind) → is_held kind deadline horizon v ≡ is_held kind deadline horizon w
+module _ (deadline end horizon : ℕ) (early : deadline < horizon) (last : end ≤ horizon)
+    (v w : ℕ → Rails) (same : (t : ℕ) → t < horizon → v t ≡ w t) where
+  held_same : (kind : Kind) → held_by kind deadline end v ≡ held_by kind deadline end w
   held_same Internal =
       some_below-same (λ t. (v t).must) (λ t. (w t).must) (suc deadline)
       (λ t lt. ap (λ (x : Rails). x.must) (same t (omega arith)))
   held_same External =
-      ap not (some_below-same (λ t. (v t).may) (λ t. (w t).may) horizon
-      (λ t lt. ap (λ (x : Rails). x.may) (same t lt)))
+      ap not (some_below-same (λ t. (v t).may) (λ t. (w t).may) end
+      (λ t lt. ap (λ (x : Rails). x.may) (same t (omega arith))))
 
-  broken_same : (kind : Kind)
-      → is_broken kind deadline horizon v ≡ is_broken kind deadline horizon w
+  broken_same : (kind : Kind) → broken_by kind deadline end v ≡ broken_by kind deadline end w
   broken_same Internal =
       ap not (some_below-same (λ t. (v t).may) (λ t. (w t).may) (suc deadline)
       (λ t lt. ap (λ (x : Rails). x.may) (same t (omega arith))))
   broken_same External =
-      some_below-same (λ t. (v t).must) (λ t. (w t).must) horizon
-      (λ t lt. ap (λ (x : Rails). x.must) (same t lt))
+      some_below-same (λ t. (v t).must) (λ t. (w t).must) end
+      (λ t lt. ap (λ (x : Rails). x.must) (same t (omega arith)))
 
-  rule_same : (kind : Kind) → rule_by kind deadline horizon v ≡ rule_by kind deadline horizon w
+  rule_same : (kind : Kind) → rule_by kind deadline end v ≡ rule_by kind deadline end w
   unfolding rule_by
   rule_same kind =
       let made : Bool → Bool → Rule = λ held broken.
       if held then Held else (if broken then Broken else Unknown) in
-      ap (λ (x : Bool). made x (is_broken kind deadline horizon v)) (held_same kind)
-      ∙ ap (made (is_held kind deadline horizon w)) (broken_same kind)
+      ap (λ (x : Bool). made x (broken_by kind deadline end v)) (held_same kind)
+      ∙ ap (made (held_by kind deadline end w)) (broken_same kind)
 
-module _ (line : Line) (script : Script) (early : script.deadline < line.horizon)
+module _ (line : Line) (script : Script) (early : AllEndInRun line.horizon script)
     (v w : PairHistory) (same : IsSamePairHistory line v w) where
   row_same : (k : ℕ) → k < terminal_count line
       → row_text line script k (v.trip k) ≡ row_text line script k (w.trip k)
@@ -171,13 +171,15 @@ module _ (line : Line) (script : Script) (early : script.deadline < line.horizon
       first_on-same (λ t. (v.trip k t).must) (λ t. (w.trip k t).must) line.horizon
       (λ t lt. ap (λ (x : Rails). x.must) (trips t lt)) in
       let rule =
-      rule_same script.deadline line.horizon early (v.trip k) (w.trip k) trips script.kind in
+      rule_same (obligation_of line script k).deadline (obligation_of line script k).end line.horizon
+      (early.each k).deadline (early.each k).end (v.trip k) (w.trip k) trips
+      (obligation_of line script k).kind in
       let made : Option ℕ → Option ℕ → Rule → List ℕ = λ first_may first_must r.
       fields_text line script k first_may first_must ++ rule_word r ++ codes "\n" in
       ap (λ (o : Option ℕ). made o (first_on (λ t. (v.trip k t).must) line.horizon)
-      (rule_of line script (v.trip k))) may
+      (rule_of line script k (v.trip k))) may
       ∙ ap (λ (o : Option ℕ). made (first_on (λ t. (w.trip k t).may) line.horizon) o
-      (rule_of line script (v.trip k))) must
+      (rule_of line script k (v.trip k))) must
       ∙ ap (made (first_on (λ t. (w.trip k t).may) line.horizon)
       (first_on (λ t. (w.trip k t).must) line.horizon)) rule
 
@@ -187,7 +189,7 @@ module _ (line : Line) (script : Script) (early : script.deadline < line.horizon
       (λ k. row_text line script k (w.trip k)) row_same
 
 module _ (line : Line)
-    (early : (script : Script) → Fits line script → script.deadline < line.horizon)
+    (early : (script : Script) → Fits line script → AllEndInRun line.horizon script)
     (one : (script : Script) (v w : PairHistory)
     → IsPairHistory line script (declared_box line) v
     → IsPairHistory line script (declared_box line) w → IsSamePairHistory line v w)

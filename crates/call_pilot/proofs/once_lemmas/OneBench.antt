@@ -1,7 +1,7 @@
 -- A bench has one answer: its line and scripts are fixed by their values, and so are the verdicts.
 use Rattle.std.proofs.Common.{◌≡◌, ◌+◌, ◌%◌, ◌==◌, ◌<◌, ◌≤◌, ◌++◌, ℕ, suc, Bool, true, false, cond}
 use Rattle.std.proofs.Common.{List, []}
-use Rattle.std.proofs.Common.{◌∷◌, Some, length, map, refl, sym, ◌∙◌, ap, arith}
+use Rattle.std.proofs.Common.{◌∷◌, Some, length, map, refl, sym, subst, ◌∙◌, ap, arith}
 use Rattle.std.specs.Prelude.{slice_get}
 use Rattle.std.specs.List.{count_by}
 use Rattle.call_pilot.specs.commands.BenchLine.{IsBenchLine}
@@ -33,6 +33,8 @@ use Rattle.call_answer.specs.declared.done.Done.{Done}
 use Rattle.call_pilot.specs.top.PrintedLaws.{same_counts}
 use Rattle.call_pilot.specs.{top.SameFactLaws.pair_history_on}
 use Rattle.call_pilot.proofs.{once_lemmas.SameVerdicts.verdict_on}
+use Rattle.model_line.specs.Asks.{AllEndInRun, EndsInRun}
+use Rattle.model_line.specs.{AskLaws.asked_alike, declared.asks.Asks.Asks}
 
 -- ---- the line and the scripts
 
@@ -84,12 +86,14 @@ line_same a b p q =
 script_same : (i : ℕ) (s r : Script) → IsBenchScript i s → IsBenchScript i r
     → values_of r ≡ values_of s
 script_same i s r p q =
-    let made : List ℕ → Kind → ℕ → List SeenSpan → ScriptValues = λ name kind deadline spans.
-    record { name = name; kind = kind; deadline = deadline; spans = spans } in
-    ap (λ (x : List ℕ). made x r.kind r.deadline r.spans.items) (q.name ∙ sym p.name)
-    ∙ ap (λ (x : Kind). made s.name x r.deadline r.spans.items) (q.kind ∙ sym p.kind)
-    ∙ ap (λ (x : ℕ). made s.name s.kind x r.spans.items) (q.deadline ∙ sym p.deadline)
-    ∙ ap (made s.name s.kind s.deadline) (q.spans ∙ sym p.spans)
+    let made : List ℕ → Kind → ℕ → Asks → List SeenSpan → ScriptValues =
+    λ name kind deadline asks spans.
+    record { name = name; kind = kind; deadline = deadline; asks = asks; spans = spans } in
+    ap (λ (x : List ℕ). made x r.kind r.deadline r.asks r.spans.items) (q.name ∙ sym p.name)
+    ∙ ap (λ (x : Kind). made s.name x r.deadline r.asks r.spans.items) (q.kind ∙ sym p.kind)
+    ∙ ap (λ (x : ℕ). made s.name s.kind x r.asks r.spans.items) (q.deadline ∙ sym p.deadline)
+    ∙ ap (λ (x : Asks). made s.name s.kind s.deadline x r.spans.items) (q.asks ∙ sym p.asks)
+    ∙ ap (made s.name s.kind s.deadline s.asks) (q.spans ∙ sym p.spans)
 
 low_deadline : (x y : Bool) (n : ℕ) → n ≤ 164 → cond x (cond y (n + 35) (n + 45)) 0 < 1000
 low_deadline true true n low = omega (arith, low)
@@ -97,14 +101,19 @@ low_deadline true false n low = omega (arith, low)
 low_deadline false y n low = omega arith
 
 early_of : (line : Line) (i : ℕ) (script : Script) → IsBenchLine line → IsBenchScript i script
-    → i ≤ 64 → script.deadline < line.horizon
+    → i ≤ 64 → AllEndInRun line.horizon script
 early_of line i script is_line is small =
-    omega (
+    let early : script.deadline < line.horizon = omega (
       arith,
       is.deadline,
       is_line.horizon_is,
       low_deadline (is_internal i) (i % 4 == 1) (inception i) (omega (arith, small)),
-    )
+    ) in
+    record {
+      each = λ k.
+          subst (EndsInRun line.horizon) (sym (asked_alike line.horizon script k is.asks))
+          (record { deadline = early; end = omega arith });
+    }
 
 -- ---- lists with an element for each number
 

@@ -55,10 +55,10 @@ module _ (counts : CountsRestOnNoInterval) (histories : HistoriesRestOnNoInterva
       covered_on k t (is t (subst (λ (n : ℕ). t < n) others.horizon lt))
 
   held_same : (k : ℕ)
-      → rule_of b r (derived_trip b r claims k) ≡ rule_of a s (derived_trip a s claims k)
+      → rule_of b r k (derived_trip b r claims k) ≡ rule_of a s k (derived_trip a s claims k)
   held_same k =
-      ap (rule_of b r) (trip_same k)
-      ∙ rule_same counts histories a b lines s r values (derived_trip a s claims k)
+      ap (rule_of b r k) (trip_same k)
+      ∙ rule_same counts histories a b lines s r values k (derived_trip a s claims k)
 
   pub supported_on : (k : ℕ) (verdict : Verdict)
       → IsSupported a s k (derived_trip a s claims k) verdict
@@ -67,8 +67,8 @@ module _ (counts : CountsRestOnNoInterval) (histories : HistoriesRestOnNoInterva
   supported_on k (no numbers) is = refuted_by counts histories a b lines s r values k numbers is
   supported_on k undecided is = tt
 
-  not_held_on : (k : ℕ) (verdict : Verdict) → IsNotHeld a s (derived_trip a s claims k) verdict
-      → IsNotHeld b r (derived_trip b r claims k) verdict
+  not_held_on : (k : ℕ) (verdict : Verdict) → IsNotHeld a s k (derived_trip a s claims k) verdict
+      → IsNotHeld b r k (derived_trip b r claims k) verdict
   not_held_on k yes is = λ held. is (sym (held_same k) ∙ held)
   not_held_on k (no numbers) is = absurd is
   not_held_on k undecided is = absurd is

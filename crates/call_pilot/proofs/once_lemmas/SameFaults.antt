@@ -4,6 +4,7 @@ use Rattle.std.proofs.Common.{◌≡◌, ◌<◌, ◌∷◌, ℕ, List, [], map,
 use Rattle.std.specs.Prelude.{codes, decimal}
 use Rattle.std.specs.List.{concat}
 use Rattle.model_history.specs.Rails.{Ends}
+use Rattle.call_pilot.specs.top.SameValueLaws.{asked_same}
 use Rattle.model_line.specs.Laws.{CountsRestOnNoInterval}
 use Rattle.model_line.specs.{declared.line.Line.Line, declared.script.Script.Script}
 use Rattle.model_line.specs.{Parameters.param_count, SetBounds.SameButParams}
@@ -24,6 +25,7 @@ use Rattle.call_pilot.specs.top.SameFactLaws.{choice_same, ends_same, same_param
 use Rattle.call_pilot.specs.top.SamePlayLaws.{timing_inside}
 use Rattle.call_pilot.specs.top.SameTextLaws.{script_names_same, terminal_same, param_same}
 use Rattle.call_pilot.specs.top.SameValueLaws.{history_back, same_but_params}
+use Rattle.model_line.specs.declared.asks.Obligation.{Obligation}
 
 -- the first of several numbers
 pub failing_on : (F G : ℕ → Type 0) (c d n : ℕ) → d ≡ c → ((i : ℕ) → F i → G i)
@@ -79,13 +81,12 @@ module _ (counts : CountsRestOnNoInterval) (histories : HistoriesRestOnNoInterva
   met_on s r values k numbers t is = record {
     inside = timing_inside counts histories a b lines (steady_timing numbers) is.inside;
     passes = λ h history.
-        subst (λ (n : ℕ). IsMetAt r.kind r.deadline n (h.trip k) t) (sym others.horizon)
-        (subst (λ (v : ScriptValues). IsMetAt v.kind v.deadline a.horizon (h.trip k) t)
-        (sym values)
+        subst (λ (o : Obligation). IsMetAt o (h.trip k) t)
+        (sym (asked_same a b others.horizon s r values k))
         (is.passes h
         (subst (λ (c : Choice). IsLineHistory a s c h)
         (choice_same counts histories a b lines (steady_timing numbers))
-        (history_back counts histories a b lines s r values (choice_of b numbers) h history))));
+        (history_back counts histories a b lines s r values (choice_of b numbers) h history)));
   }
 
 module _ (counts : CountsRestOnNoInterval) (histories : HistoriesRestOnNoInterval) (a b : Line)

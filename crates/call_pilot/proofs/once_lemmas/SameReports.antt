@@ -22,6 +22,7 @@ use Rattle.call_pilot.proofs.once_lemmas.OneAnswer.{script_same}
 use Rattle.call_pilot.specs.top.SameFactLaws.{pair_history_on, rule_same, same_params}
 use Rattle.call_pilot.specs.top.SameTextLaws.{fields_same, heads_same}
 use Rattle.call_pilot.specs.top.SameValueLaws.{same_but_params}
+use Rattle.model_line.specs.Asks.{AllEndInRun}
 
 module _ (counts : CountsRestOnNoInterval) (histories : HistoriesRestOnNoInterval) (a b : Line)
     (lines : line_values b ≡ line_values a) where
@@ -36,14 +37,14 @@ module _ (counts : CountsRestOnNoInterval) (histories : HistoriesRestOnNoInterva
       let may : ℕ → Option ℕ = λ n. first_on (λ t. (trip t).may) n in
       let must : ℕ → Option ℕ = λ n. first_on (λ t. (trip t).must) n in
       ap (λ (n : ℕ).
-      fields_text b y k (may n) (must n) ++ rule_word (rule_of b y trip) ++ codes "\n")
+      fields_text b y k (may n) (must n) ++ rule_word (rule_of b y k trip) ++ codes "\n")
       others.horizon
-      ∙ ap (λ (t : List ℕ). t ++ rule_word (rule_of b y trip) ++ codes "\n")
+      ∙ ap (λ (t : List ℕ). t ++ rule_word (rule_of b y k trip) ++ codes "\n")
       (fields_same a b others (same_params a b lines) x y values k (may a.horizon)
       (must a.horizon))
       ∙ ap (λ (r : Rule).
       fields_text a x k (may a.horizon) (must a.horizon) ++ rule_word r ++ codes "\n")
-      (rule_same counts histories a b lines x y values trip)
+      (rule_same counts histories a b lines x y values k trip)
 
   rows_on : (x y : Script) → values_of y ≡ values_of x → (w : PairHistory)
       → script_rows b y w ≡ script_rows a x w
@@ -53,7 +54,7 @@ module _ (counts : CountsRestOnNoInterval) (histories : HistoriesRestOnNoInterva
 
   -- ---- the rows of all scripts, over an interval history for each
 
-  module _ (early : (script : Script) → Fits b script → script.deadline < b.horizon)
+  module _ (early : (script : Script) → Fits b script → AllEndInRun b.horizon script)
       (one : (script : Script) (v w : PairHistory) → IsPairHistory b script (declared_box b) v
       → IsPairHistory b script (declared_box b) w → IsSamePairHistory b v w)
       (f : Script → PairHistory) (are : AreHistories a f) where
@@ -87,7 +88,7 @@ module _ (counts : CountsRestOnNoInterval) (histories : HistoriesRestOnNoInterva
         → report_text_of b ys f ≡ report_text_of a xs f
     text_on xs ys same fit = ap (λ (t : List ℕ). report_header ++ t) (scripts_on xs ys same fit)
 
-  pub report_on : ((script : Script) → Fits b script → script.deadline < b.horizon)
+  pub report_on : ((script : Script) → Fits b script → AllEndInRun b.horizon script)
       → ((script : Script) (v w : PairHistory) → IsPairHistory b script (declared_box b) v
       → IsPairHistory b script (declared_box b) w → IsSamePairHistory b v w)
       → (xs ys : List Script) → map values_of ys ≡ map values_of xs → All (Fits b) ys

@@ -39,11 +39,11 @@ module _ (counts : CountsRestOnNoInterval) (histories : HistoriesRestOnNoInterva
       (passes_on counts histories a b same s r values k (candidate a i) p)
 
   held_back : (k : ℕ) (w : PairHistory) → IsRuleHeld b r k w → IsRuleHeld a s k w
-  held_back k w held = sym (rule_same counts histories a b same s r values (w.trip k)) ∙ held
+  held_back k w held = sym (rule_same counts histories a b same s r values k (w.trip k)) ∙ held
 
   pub verdict_on : (k : ℕ) (w : PairHistory) (v : Verdict) → IsVerdict a s k w v
       → IsVerdict b r k w v
-  verdict_on k w Yes held = rule_same counts histories a b same s r values (w.trip k) ∙ held
+  verdict_on k w Yes held = rule_same counts histories a b same s r values k (w.trip k) ∙ held
   verdict_on k w (No timing) is = record {
     not_held = λ held. is.not_held (held_back k w held);
     number = is.number;

@@ -256,7 +256,7 @@ module _ (known : HeadlineLaws) (of : Line) (all : List Script) (fit : All (Fits
         (HasNoMargin of all param × IsLostAtLeast of all param is.end.lost)
         (λ w. IsMargin of all param w × IsLostAbove of all param w is.end.lost)) greatest is.is in
         known.held.over of script k (raised of param v)
-        (known.deadlines of script (all_at (Fits of) all i script fit at)) (raised_late of param v)
+        (known.ends of script (all_at (Fits of) all i script fit at)) (raised_late of param v)
         there ((end_is.0.held.held i script at).held k there);
   }
 

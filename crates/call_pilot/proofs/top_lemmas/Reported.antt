@@ -71,7 +71,7 @@ module _ (known : HeadlineLaws) where
     row_true = record {
       first_may = first_on (λ t. (w.trip k t).may) line.horizon;
       first_must = first_on (λ t. (w.trip k t).must) line.horizon;
-      rule = rule_of line script (w.trip k);
+      rule = rule_of line script k (w.trip k);
       row_is = refl;
       may = λ n choice h some inside is t early before.
           off_too (h.trip k t) (w.trip k (t / n)).may
@@ -84,11 +84,11 @@ module _ (known : HeadlineLaws) where
           ((covers n choice h some inside is).trips k t there early).must on.1;
       held = λ held n choice h some inside is.
           known.rules.held n line script (declared_box line) w k some
-          (known.deadlines line script fits) (known.inside.declared line) is_w there held choice h
+          (known.ends line script fits) (known.inside.declared line) is_w there held choice h
           inside is;
       broken = λ broken n choice h some inside is.
           known.rules.broken n line script (declared_box line) w k some
-          (known.deadlines line script fits) (known.inside.declared line) is_w there broken choice h
+          (known.ends line script fits) (known.inside.declared line) is_w there broken choice h
           inside is;
     }
 

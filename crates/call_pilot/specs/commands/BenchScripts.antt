@@ -6,6 +6,7 @@ use Rattle.model_line.specs.declared.script.Kind.TheVariants.{Internal, External
 use Rattle.model_line.specs.{declared.script.Element.Element, declared.script.Script.Script}
 use Rattle.model_line.specs.{declared.script.Kind.Kind, declared.script.SeenSpan.SeenSpan}
 use Rattle.model_line.specs.declared.script.What.TheVariants as what
+use Rattle.model_line.specs.Asks.{alike}
 
 -- the tick at which fault i begins
 abbrev pub inception : ℕ → ℕ
@@ -53,6 +54,7 @@ pub record IsBenchScript (i : ℕ) (script : Script) : Type 0 where
   pub name : script.name ≡ bench_name i
   pub kind : script.kind ≡ bench_kind i
   pub deadline : script.deadline ≡ bench_deadline i
+  pub asks : script.asks ≡ alike
   pub spans : script.spans.items ≡ bench_spans i
 
 -- scripts i, i + 1 and so on

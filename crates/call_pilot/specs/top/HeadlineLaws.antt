@@ -2,7 +2,7 @@
 use Rattle.std.specs.Prelude.{◌≡◌, ◌↔◌, ◌++◌, ◌<◌, ℕ, Bool, true, false, List, None, Some, Ok}
 use Rattle.std.specs.Prelude.{IsFalse, IsTrue, length}
 use Rattle.std.specs.List.{All, list_any}
-use Rattle.model_line.specs.Laws.{CountsRestOnNoInterval, DeadlinesAreBelowTheHorizon}
+use Rattle.model_line.specs.Laws.{CountsRestOnNoInterval, ObligationsEndInTheRun}
 use Rattle.model_line.specs.Parameters.{terminal_count}
 use Rattle.model_line.specs.{declared.line.Line.Line, declared.script.Script.Script, Fits.Fits}
 use Rattle.model_logic.specs.IntervalLaws.{HistoriesRestOnNoInterval, TreesRestOnNoInterval}
@@ -60,7 +60,7 @@ pub record HeadlineLaws : Type 0 where
   -- rules, margins and split trees
   pub rules : TheRuleSpeaksForEveryFineChoice
   pub held : WhatIsHeldIsMetBetweenTicks
-  pub deadlines : DeadlinesAreBelowTheHorizon
+  pub ends : ObligationsEndInTheRun
   pub inside : EachLineHasAChoiceInside
   pub covers : FineHistoriesAreCovered
   pub first_some : (u : ℕ → Bool) (n t : ℕ)

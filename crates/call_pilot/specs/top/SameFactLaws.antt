@@ -5,6 +5,7 @@ use Rattle.std.proofs.Math.Path.{fun_ext}
 use Rattle.std.proofs.lemmas.List.Elements.{All-nil}
 use Rattle.std.specs.List.{count_by, range_with_len}
 use Rattle.model_history.specs.Rails.{Ends, Rails, both}
+use Rattle.call_pilot.specs.top.SameValueLaws.{asked_same}
 use Rattle.model_line.specs.Parameters.{declared_ends, delay_param, param_count}
 use Rattle.model_line.specs.Seen.{is_lost, is_seen}
 use Rattle.model_line.specs.{declared.line.Line.Line, declared.script.Script.Script}
@@ -35,6 +36,8 @@ use Rattle.cert_own.specs.Obligations.{IsFailedBySome, IsUnknown}
 use Rattle.call_pilot.specs.top.SameValueLaws.{failed_by, greatests_of, history_back}
 use Rattle.call_pilot.specs.top.SameValueLaws.{inside_back, leasts_of, meets_back, meets_on}
 use Rattle.call_pilot.specs.top.SameValueLaws.{same_but_params, same_ends}
+use Rattle.model_logic.specs.Rule.{rule_for}
+use Rattle.model_line.specs.declared.asks.Obligation.{Obligation}
 
 -- ---- parameters
 
@@ -160,13 +163,9 @@ module _ (counts : CountsRestOnNoInterval) (histories : HistoriesRestOnNoInterva
         subst (λ (box : Box). IsPairHistory b r box w) (sym box_same)
         (pair_history_over (declared_box a) w is)
 
-    pub rule_same : (trip : ℕ → Rails) → rule_of b r trip ≡ rule_of a s trip
-    rule_same trip =
-        ap (λ (n : ℕ). rule_by r.kind r.deadline n trip) others.horizon
-        ∙ ap (λ (d : ℕ). rule_by r.kind d a.horizon trip)
-        (ap (λ (v : ScriptValues). v.deadline) values)
-        ∙ ap (λ (x : Kind). rule_by x s.deadline a.horizon trip)
-        (ap (λ (v : ScriptValues). v.kind) values)
+    pub rule_same : (k : ℕ) (trip : ℕ → Rails) → rule_of b r k trip ≡ rule_of a s k trip
+    rule_same k trip =
+        ap (λ (o : Obligation). rule_for o trip) (asked_same a b others.horizon s r values k)
 
     pub passes_on : (k : ℕ) (timing : TimingValues) → PassesAt a s k timing → PassesAt b r k timing
     passes_on k timing p = record {
@@ -181,7 +180,7 @@ module _ (counts : CountsRestOnNoInterval) (histories : HistoriesRestOnNoInterva
     unknown_by k is = record {
       history = is.history;
       is_history = pair_history_on is.history is.is_history;
-      unknown = rule_same (is.history.trip k) ∙ is.unknown;
+      unknown = rule_same k (is.history.trip k) ∙ is.unknown;
       passes = λ i lt.
           subst (PassesAt b r k) (sym (candidate_same i))
           (passes_on k (candidate a i)

@@ -1,5 +1,7 @@
 -- What is said of every choice of fractions rests on the values of a line and of a script alone.
 use Rattle.std.proofs.Common.{◌≡◌, ℕ, ◌<◌, ◌*◌, ◌/◌, List, sym, ◌∙◌, ap, subst}
+use Rattle.model_fine.specs.Cut.{cut_obligation}
+use Rattle.call_pilot.specs.top.SameValueLaws.{asked_same}
 use Rattle.model_line.specs.Seen.{is_lost, is_seen}
 use Rattle.model_line.specs.{declared.line.Line.Line, declared.script.Script.Script}
 use Rattle.model_line.specs.{declared.line.Channel.Channel, declared.script.Kind.Kind}
@@ -20,6 +22,7 @@ use Rattle.cert_own.specs.Obligations.{HoldsAsAccepted, HoldsAsCertified}
 use Rattle.call_pilot.specs.top.SameFactLaws.{box_same, unknown_by}
 use Rattle.call_pilot.specs.top.SameValueLaws.{failed_by, same_but_params, same_spans}
 use Rattle.call_pilot.specs.top.Truths.{IsFailedByAll}
+use Rattle.model_line.specs.declared.asks.Obligation.{Obligation}
 
 module _ (counts : CountsRestOnNoInterval) (histories : HistoriesRestOnNoInterval)
     (logic : TreesRestOnNoInterval) (a b : Line) (same : line_values b ≡ line_values a) where
@@ -89,11 +92,8 @@ module _ (counts : CountsRestOnNoInterval) (histories : HistoriesRestOnNoInterva
 
     same_meets : (n k : ℕ) (h : History) → FineMeets n b r k h ≡ FineMeets n a s k h
     same_meets n k h =
-        ap (λ (horizon : ℕ). MeetsBy r.kind (r.deadline * n) (horizon * n) (h.trip k)) others.horizon
-        ∙ ap (λ (d : ℕ). MeetsBy r.kind (d * n) (a.horizon * n) (h.trip k))
-        (ap (λ (v : ScriptValues). v.deadline) values)
-        ∙ ap (λ (x : Kind). MeetsBy x (s.deadline * n) (a.horizon * n) (h.trip k))
-        (ap (λ (v : ScriptValues). v.kind) values)
+        ap (λ (o : Obligation). MeetsBy (cut_obligation n o) (h.trip k))
+        (asked_same a b others.horizon s r values k)
 
     meets_on : (n k : ℕ) (h : History) → FineMeets n a s k h → FineMeets n b r k h
     meets_on n k h = subst (λ (X : Type 0). X) (sym (same_meets n k h))

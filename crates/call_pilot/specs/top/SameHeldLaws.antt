@@ -26,7 +26,7 @@ module _ (counts : CountsRestOnNoInterval) (histories : HistoriesRestOnNoInterva
       → IsHeldOver a s k box → IsHeldOver b r k box
   held_over s r values k box is = record {
     held = λ w history.
-        rule_same counts histories a b lines s r values (w.trip k)
+        rule_same counts histories a b lines s r values k (w.trip k)
         ∙ is.held w
         (pair_history_over counts histories b a (sym lines) r s (sym values) box w history);
   }

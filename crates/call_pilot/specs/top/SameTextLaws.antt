@@ -4,6 +4,7 @@ use Rattle.std.proofs.Common.{ap}
 use Rattle.std.proofs.Math.Path.{fun_ext}
 use Rattle.std.specs.Prelude.{codes, decimal, get_or}
 use Rattle.std.specs.List.{flat_map}
+use Rattle.call_pilot.specs.top.SameValueLaws.{asked_same}
 use Rattle.model_line.specs.{declared.line.Line.Line, declared.script.Script.Script}
 use Rattle.model_line.specs.{declared.line.Param.Param, declared.line.Terminal.Terminal}
 use Rattle.model_line.specs.{declared.script.Kind.Kind, ParamNames.name_at}
@@ -23,6 +24,8 @@ use Rattle.cert_split.specs.text.Grammar.{SplitResult, fails, head_text, node_te
 use Rattle.cert_split.specs.text.Grammar.{tree}
 use Rattle.cert_split.specs.text.Grammar.{tree_text}
 use Rattle.cert_split.specs.text.Text.{part_text, parts_text, result_text, split_text, trees_text}
+use Rattle.model_line.specs.Asks.{obligation_of}
+use Rattle.model_line.specs.declared.asks.Obligation.{Obligation}
 
 pub heads_same : {X : Type 0} (x y : X) (xs ys : List X) → x ∷ xs ≡ y ∷ ys → (x ≡ y) × (xs ≡ ys)
 heads_same x y xs ys same = (cc, cc)
@@ -53,15 +56,19 @@ module _ (a b : Line) (rest : SameButParams a b) (params : b.params.items ≡ a.
   pub fields_same : (s r : Script) → values_of r ≡ values_of s → (k : ℕ) (may must : Option ℕ)
       → fields_text b r k may must ≡ fields_text a s k may must
   fields_same s r values k may must =
-      let made : List ℕ → Kind → ℕ → List ℕ → ℕ → List ℕ = λ name kind deadline terminal tick_us.
+      let made : List ℕ → Kind → Obligation → List ℕ → ℕ → List ℕ =
+      λ name kind asked terminal tick_us.
       field name ++ field (kind_text kind) ++ field terminal
       ++ field (tick_text may) ++ field (tick_text must)
-      ++ field (tick_text (deadline_of kind deadline))
-      ++ field (margin_text (margin_of kind deadline must))
-      ++ field (margin_text (margin_us_of kind deadline tick_us must)) in
-      ap (λ (v : ScriptValues). made v.name v.kind v.deadline (terminal_name b k) b.tick_us) values
-      ∙ ap (λ (t : List ℕ). made s.name s.kind s.deadline t b.tick_us) (terminal_same k)
-      ∙ ap (made s.name s.kind s.deadline (terminal_name a k)) rest.tick_us
+      ++ field (tick_text (deadline_of asked.kind asked.deadline))
+      ++ field (margin_text (margin_of asked.kind asked.deadline must))
+      ++ field (margin_text (margin_us_of asked.kind asked.deadline tick_us must)) in
+      ap (λ (v : ScriptValues).
+      made v.name v.kind (obligation_of b r k) (terminal_name b k) b.tick_us) values
+      ∙ ap (λ (o : Obligation). made s.name s.kind o (terminal_name b k) b.tick_us)
+      (asked_same a b rest.horizon s r values k)
+      ∙ ap (λ (t : List ℕ). made s.name s.kind (obligation_of a s k) t b.tick_us) (terminal_same k)
+      ∙ ap (made s.name s.kind (obligation_of a s k) (terminal_name a k)) rest.tick_us
 
   -- ---- the line of a margin
 

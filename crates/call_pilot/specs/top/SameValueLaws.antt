@@ -19,6 +19,9 @@ use Rattle.file_line.specs.Lines.{LineValues, intervals_of, line_values}
 use Rattle.file_tables.specs.script.Values.{ScriptValues, values_of}
 use Rattle.cert_own.specs.Obligations.{IsFailedBy}
 use Rattle.model_logic.specs.Obligations.{EveryChoiceMeets}
+use Rattle.model_line.specs.Asks.{obligation_of, obligation_over}
+use Rattle.model_line.specs.declared.asks.Obligation.{Obligation}
+use Rattle.model_line.specs.AskLaws.{same_asked}
 
 -- ---- lines of the same values
 
@@ -59,6 +62,14 @@ same_ends a b i same =
       greatest = get_or l i 0;
     } in
     ap by_least leasts ∙ ap by_greatest greatests
+
+-- scripts of the same values have the same obligations in runs of the same length
+pub asked_same : (a b : Line) → b.horizon ≡ a.horizon → (s r : Script) → values_of r ≡ values_of s
+    → (k : ℕ) → obligation_of b r k ≡ obligation_of a s k
+asked_same a b horizon s r values k =
+    ap (λ (n : ℕ). obligation_over n r k) horizon
+    ∙ same_asked a.horizon s r k (ap (λ (v : ScriptValues). v.kind) values)
+    (ap (λ (v : ScriptValues). v.deadline) values) (ap (λ (v : ScriptValues). v.asks) values)
 
 module _ (counts : CountsRestOnNoInterval) (histories : HistoriesRestOnNoInterval) (a b : Line)
     (same : line_values b ≡ line_values a) where
@@ -112,11 +123,8 @@ module _ (counts : CountsRestOnNoInterval) (histories : HistoriesRestOnNoInterva
 
     pub meets_on : (k : ℕ) (h : History) → Meets a s k h → Meets b r k h
     meets_on k h met =
-        subst (λ (n : ℕ). MeetsBy r.kind r.deadline n (h.trip k)) (sym rest.horizon)
-        (subst (λ (d : ℕ). MeetsBy r.kind d a.horizon (h.trip k))
-        (sym (ap (λ (v : ScriptValues). v.deadline) values))
-        (subst (λ (x : Kind). MeetsBy x s.deadline a.horizon (h.trip k))
-        (sym (ap (λ (v : ScriptValues). v.kind) values)) met))
+        subst (λ (o : Obligation). MeetsBy o (h.trip k))
+        (sym (asked_same a b rest.horizon s r values k)) met
 
     pub met_by_all : (k : ℕ) → EveryChoiceMeets a s k → EveryChoiceMeets b r k
     met_by_all k met = λ choice h inside is.
@@ -124,11 +132,8 @@ module _ (counts : CountsRestOnNoInterval) (histories : HistoriesRestOnNoInterva
 
     pub meets_back : (k : ℕ) (h : History) → Meets b r k h → Meets a s k h
     meets_back k h met =
-        subst (λ (n : ℕ). MeetsBy s.kind s.deadline n (h.trip k)) rest.horizon
-        (subst (λ (d : ℕ). MeetsBy s.kind d b.horizon (h.trip k))
-        (ap (λ (v : ScriptValues). v.deadline) values)
-        (subst (λ (x : Kind). MeetsBy x r.deadline b.horizon (h.trip k))
-        (ap (λ (v : ScriptValues). v.kind) values) met))
+        subst (λ (o : Obligation). MeetsBy o (h.trip k)) (asked_same a b rest.horizon s r values k)
+        met
 
     pub same_steady : (numbers : List ℕ) → steady_choice a numbers ≡ steady_choice b numbers
     unfolding steady_choice

@@ -8,7 +8,7 @@ ghost use Rattle.call_pilot.specs.commands.BenchScripts.{bench_name};
 ghost use Rattle.call_pilot.specs.commands.BenchScripts.{bench_spans, is_internal, seen_at, spans_by};
 
 use itoa::Buffer;
-use model_line::{Element, Kind, Memory, Name, Place, Script, SeenSpan, What};
+use model_line::{ALIKE, Element, Kind, Memory, Name, Place, Script, SeenSpan, What};
 use std::alloc::Global;
 
 /// The fault of that number, 1 to 64. It begins at tick 100 and its number. An odd one is internal.
@@ -24,6 +24,7 @@ pub fn bench_script(alloc: Global, number: u32) -> Result<Script, Memory>
         name,
         kind: kind(number),
         deadline: deadline(number),
+        asks: ALIKE,
         spans,
     })
 }

@@ -13,7 +13,7 @@ use crate::once::one_answer::{
     each_match_has_one_answer, each_recheck_has_one_answer, each_report_has_one_answer,
     each_split_has_one_answer,
 };
-use model_line::laws::{counts_do_not_rest_on_the_intervals, deadlines_are_below_the_horizon};
+use model_line::laws::{counts_do_not_rest_on_the_intervals, obligations_end_in_the_run};
 use model_logic::interval_laws::{
     histories_do_not_rest_on_the_intervals, trees_do_not_rest_on_the_intervals,
 };
@@ -38,7 +38,7 @@ pub fn words_and_files_fix_the_answer()
     counts_do_not_rest_on_the_intervals();
     histories_do_not_rest_on_the_intervals();
     trees_do_not_rest_on_the_intervals();
-    deadlines_are_below_the_horizon();
+    obligations_end_in_the_run();
     each_box_has_one_interval_history();
     each_line_has_a_choice_inside();
     each_certificate_has_one_text();

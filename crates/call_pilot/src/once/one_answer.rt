@@ -19,8 +19,8 @@ use cert_split::text::a_split_text_has_one_meaning;
 use judge_match::matching::a_record_is_settled_once;
 use judge_report::a_parameter_has_one_margin;
 use model_line::laws::{
-    counts_do_not_rest_on_the_intervals, deadlines_are_below_the_horizon,
-    declared_intervals_are_in_order,
+    counts_do_not_rest_on_the_intervals, declared_intervals_are_in_order,
+    obligations_end_in_the_run,
 };
 use model_logic::interval_laws::{histories_do_not_rest_on_the_intervals, the_rule_over_a_box};
 use model_logic::laws::{
@@ -94,7 +94,7 @@ pub fn each_report_has_one_answer()
 {
     each_box_has_one_interval_history();
     each_line_has_a_choice_inside();
-    deadlines_are_below_the_horizon();
+    obligations_end_in_the_run();
 }
 
 /// Of the records of a file `match` answers at most one thing.

@@ -27,7 +27,7 @@ use model_fine::fine_laws::{
     fine_histories_are_covered, the_rule_speaks_for_every_fine_choice,
     what_is_held_is_met_between_ticks,
 };
-use model_line::laws::{counts_do_not_rest_on_the_intervals, deadlines_are_below_the_horizon};
+use model_line::laws::{counts_do_not_rest_on_the_intervals, obligations_end_in_the_run};
 use model_logic::interval_laws::{
     histories_do_not_rest_on_the_intervals, trees_do_not_rest_on_the_intervals,
 };
@@ -47,7 +47,7 @@ pub fn what_is_answered_is_true()
     what_is_recorded_is_true();
     the_rule_speaks_for_every_fine_choice();
     what_is_held_is_met_between_ticks();
-    deadlines_are_below_the_horizon();
+    obligations_end_in_the_run();
     each_line_has_a_choice_inside();
     fine_histories_are_covered();
     the_first_tick_is_the_least();

@@ -2,6 +2,7 @@
 use Rattle.std.specs.Prelude.{◌≡◌, ⊤, ℕ, List, Result, Ok, Err, map, string_bytes}
 use Rattle.std.specs.List.{All}
 use Rattle.model_line.specs.Fits.{Fits}
+use Rattle.file_tables.specs.script.Values.{AsksAlike}
 use Rattle.file_tables.specs.script.SoFar.{AreOnce}
 use Rattle.file_study.specs.sweeps.Studies.{script_names}
 use Rattle.file_study.specs.study.Studies.{StudyValues, study_of}
@@ -31,9 +32,10 @@ studied l = record {
   groups = l.groups.items;
 }
 
--- the scripts fit the line, no two of one name
+-- the scripts fit the line and ask their terminals alike, no two of one name
 pub record IsLoaded (l : Loaded) : Type 0 where
   pub fit : All (Fits l.study.line) l.study.scripts.items
+  pub asks : All AsksAlike l.study.scripts.items
   pub once : AreOnce (script_names l.study.scripts.items)
 
 -- a line file and a scripts file say it

@@ -1,4 +1,6 @@
-use Rattle.std.proofs.Common.{◌≡◌, ℕ, ◌<◌, ◌++◌, List, Option, ◌∙◌, ap, subst}
+use Rattle.std.proofs.Common.{◌≡◌, ℕ, ◌<◌, ◌++◌, List, Option, ◌∙◌, ap, subst, sym}
+use Rattle.model_line.specs.Asks.{EndsInRun, obligation_of}
+use Rattle.model_line.specs.declared.asks.Obligation.{Obligation}
 use Rattle.std.specs.Prelude.{IfSome}
 use Rattle.judge_why.specs.declared.fact.Fact.{Fact}
 use Rattle.judge_why.specs.{Plays.play_of, Reasons.IsWhy}
@@ -8,6 +10,14 @@ use Rattle.call_why.specs.{Parts.part_of, Times.choice_line}
 use Rattle.call_why.specs.Reasons.{IsDecidedAt, head_line}
 use Rattle.call_why.proofs.ToldLaws.{three_pieces}
 use Rattle.call_why.proofs.reasons.told_in.Goals as goal
+
+pub decision-requires-clause-deadline : goal.decision-requires-clause-deadline
+decision-requires-clause-deadline c =
+    let line = c.args.play.now.compiled.line.now in
+    let ends : EndsInRun line.horizon c.obligation_at-asked.result =
+    subst (EndsInRun line.horizon) (sym c.obligation_at-asked.ensures)
+    (c.requires.deadline.each c.args.terminal) in
+    ends.deadline
 
 pub returns : goal.returns
 returns c =
@@ -22,11 +32,15 @@ returns c =
     let facts : List Fact = c.in_ok-facts.facts.items in
     let within : tick < play.horizon =
     subst (λ (o : Option ℕ). IfSome o (λ t. t < play.horizon)) c.in-Some.is c.decision.ensures.within in
-    let decided_at : IsDecidedAt script.kind script.deadline (play.level g) tick =
-    subst (λ (o : Option ℕ). IfSome o (IsDecidedAt script.kind script.deadline (play.level g)))
+    let given : Obligation = c.obligation_at-asked.result in
+    let asked : Obligation = obligation_of line script k in
+    let decided_at : IsDecidedAt given.kind given.deadline (play.level g) tick =
+    subst (λ (o : Option ℕ). IfSome o (IsDecidedAt given.kind given.deadline (play.level g)))
     c.in-Some.is c.decision.ensures.decided in
-    let decided : IsDecidedAt script.kind script.deadline (play.level (trip_of net k)) tick =
-    subst (λ (i : ℕ). IsDecidedAt script.kind script.deadline (play.level i) tick) is_g decided_at in
+    let decided : IsDecidedAt asked.kind asked.deadline (play.level (trip_of net k)) tick =
+    subst (λ (o : Obligation). IsDecidedAt o.kind o.deadline (play.level (trip_of net k)) tick)
+    c.obligation_at-asked.ensures
+    (subst (λ (i : ℕ). IsDecidedAt given.kind given.deadline (play.level i) tick) is_g decided_at) in
     let why : IsWhy play (record { gate = trip_of net k; tick = tick }) facts =
     subst (λ (i : ℕ). IsWhy play (record { gate = i; tick = tick }) facts) is_g c.in_ok-facts.ensures in
     let lines : List ℕ = lines_of line (part_of line net) facts most_lines in

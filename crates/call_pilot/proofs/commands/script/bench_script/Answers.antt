@@ -1,3 +1,4 @@
+use Rattle.std.proofs.Common.{refl}
 use Rattle.call_pilot.proofs.commands_lemmas.ScriptFits.{script_fits}
 use Rattle.call_pilot.proofs.commands.script.bench_script.Goals as goal
 
@@ -7,5 +8,6 @@ returns-clause-fits c = λ line bench.
       name = c.in_ok-name.ensures;
       kind = c.kind.ensures;
       deadline = c.deadline.ensures;
+      asks = refl;
       spans = c.in_ok-spans.ensures;
     })

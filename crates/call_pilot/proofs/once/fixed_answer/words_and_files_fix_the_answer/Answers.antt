@@ -13,7 +13,7 @@ returns c =
       counts = c.counts_do_not_rest_on_the_intervals.ensures;
       histories = c.histories_do_not_rest_on_the_intervals.ensures;
       trees = c.trees_do_not_rest_on_the_intervals.ensures;
-      early = c.deadlines_are_below_the_horizon.ensures;
+      early = c.obligations_end_in_the_run.ensures;
       history = λ line script v w.
           c.each_box_has_one_interval_history.ensures.only line script (declared_box line) v w
           (c.each_line_has_a_choice_inside.ensures.declared line);

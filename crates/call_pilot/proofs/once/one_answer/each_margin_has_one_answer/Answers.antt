@@ -10,7 +10,7 @@ returns c = record {
       let order = c.declared_intervals_are_in_order.ensures in
       margin_told c.line_laws.ensures c.the_rule_over_a_box.ensures line scripts
       (λ s script at.
-      c.line_laws.ensures.deadlines line script (all_at (Fits line) scripts s script fit at)) param
+      c.line_laws.ensures.ends line script (all_at (Fits line) scripts s script fit at)) param
       (omega (arith, order.ordered line param here, order.within line param here));
   only = λ line scripts param.
       margin_once line scripts param (c.a_parameter_has_one_margin.ensures line scripts param);

@@ -26,7 +26,7 @@ returns c = record {
     p.0 ∙ sym q.0,
     p.1.text_is
         ∙ report_text_once line
-        (λ script fits. c.deadlines_are_below_the_horizon.ensures line script fits)
+        (λ script fits. c.obligations_end_in_the_run.ensures line script fits)
         (λ script v w.
         c.each_box_has_one_interval_history.ensures.only line script (declared_box line) v w
         (c.each_line_has_a_choice_inside.ensures.declared line))

@@ -1,4 +1,5 @@
 use Rattle.std.proofs.lemmas.Result.{err_from_is_err_and}
+use Rattle.file_tables.specs.script.StandingLaws.{values_alike}
 use Rattle.call_work.specs.load.Loaded.{FilesSay}
 use Rattle.call_work.proofs.load_lemmas.Loading.{files_halt, once_in_file}
 use Rattle.call_work.proofs.load.sources.load_files.Goals as goal
@@ -16,6 +17,8 @@ pub returns : goal.returns
 returns c = (
   record {
     fit = c.in_ok-study.ensures.0.fit;
+    asks = values_alike c.in_ok-study.study.scripts.items
+        (c.a_file_says_scripts_of_one_file.ensures _ _ _ c.in_ok-study.ensures.1.scripts_are).asks;
     once = once_in_file c.in_ok-study.study.scripts.items
         (c.a_file_says_scripts_of_one_file.ensures _ _ _ c.in_ok-study.ensures.1.scripts_are);
   },

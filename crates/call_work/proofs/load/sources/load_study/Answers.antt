@@ -24,7 +24,7 @@ pub returns : goal.returns
 returns c =
     let said = c.in_ok-said.said in
     let are = c.in_ok-swept.ensures.are in (
-      record { fit = are.fit; once = are.once },
+      record { fit = are.fit; asks = are.asks; once = are.once },
       (
         study_values said,
         c.in_ok-said.ensures,
